@@ -1,0 +1,11 @@
+pub mod Answered
+pub mod Decided
+pub mod Found
+pub mod Literals
+pub mod Meaning
+pub mod Numbers
+pub mod Runs
+pub mod Shapes
+pub mod Spelled
+pub mod Texts
+pub mod Work

@@ -1,0 +1,73 @@
+-- Pieces of a text, one behind another.
+use Rattle.std.proofs.Common.{◌≡◌, ℕ, zero, suc, ◌+◌, ◌-◌, ◌<◌, ◌≤◌, Bool, true, false, List, [], ◌∷◌, ◌++◌, length, take, drop, get_or, Option, Some, None, refl, sym, ◌∙◌, ap, subst, arith, append_assoc, length-append}
+use Rattle.std.specs.Prelude.{flat_map, ◌||◌, if◌then◌else◌, MatchOption, IfSome, unwrap_or, bytes_eq}
+use Rattle.std.specs.List.{join_by, list_any}
+use Rattle.std.proofs.lemmas.Grind.{flat_map-append}
+use Rattle.std.proofs.lemmas.List.{append-nil, take_all, length-drop}
+use Rattle.std.proofs.lemmas.Bool.{or_right, eq-eqb}
+use Rattle.std.proofs.lemmas.Option.{slice_get_read}
+use Rattle.std.proofs.lemmas.Slice.Eq.{bytes_eq-Decides}
+use Rattle.tla_meaning.specs.Form1.{is_slash, without_folder, name_at}
+
+-- a piece behind a separator leaves less
+pub shrinks : (rest separator middle text behind : List ℕ) → 0 < length separator → rest ≡ separator ++ middle → middle ≡ text ++ behind → length behind < length rest
+shrinks rest separator middle text behind some first second =
+    omega (arith, ap length first, ap length second, length-append separator middle, length-append text behind)
+
+-- one more piece
+pub one_more : {X : Type 0} (f : X → List ℕ) (separator bytes rest middle behind : List ℕ) (xs : List X) (x : X) → 0 < length xs
+    → bytes ≡ join_by f separator xs ++ rest → rest ≡ separator ++ middle → middle ≡ f x ++ behind → bytes ≡ join_by f separator (xs ++ x ∷ []) ++ behind
+one_more f separator bytes rest middle behind [] x some whole first second = absurd (omega arith)
+one_more f separator bytes rest middle behind (y ∷ ys) x some whole first second =
+    whole ∙ ap (λ (t : List ℕ). (f y ++ flat_map (λ z. separator ++ f z) ys) ++ t) (first ∙ ap (λ (t : List ℕ). separator ++ t) second)
+    ∙ regroup (f y) (flat_map (λ z. separator ++ f z) ys) separator (f x) behind
+    ∙ ap (λ (t : List ℕ). (f y ++ t) ++ behind) (sym (flat_map-append (λ z. separator ++ f z) ys (x ∷ [])))
+  where
+    regroup : (a b s t u : List ℕ) → (a ++ b) ++ (s ++ (t ++ u)) ≡ (a ++ (b ++ ((s ++ t) ++ []))) ++ u
+    regroup a b s t u = simp (append_assoc, append-nil)
+
+-- ---- folders
+
+no_folder : (xs : List ℕ) → list_any is_slash xs ≡ false → without_folder xs ≡ xs
+no_folder [] none = refl
+no_folder (b ∷ bs) none = ap (λ (t : Bool). if t then without_folder bs else b ∷ bs) none
+
+slash_inside : (xs : List ℕ) (at : ℕ) → at < length xs → is_slash (get_or xs at 0) ≡ true → list_any is_slash xs ≡ true
+slash_inside [] at lt h = absurd (omega arith)
+slash_inside (b ∷ bs) zero lt h = ap (λ (t : Bool). t || list_any is_slash bs) h
+slash_inside (b ∷ bs) (suc at) lt h = or_right (is_slash b) (list_any is_slash bs) (slash_inside bs at (omega arith) h)
+
+pub folder_at : (xs : List ℕ) (at : ℕ) → at < length xs → is_slash (get_or xs at 0) ≡ true → list_any is_slash (drop (suc at) xs) ≡ false → without_folder xs ≡ drop (suc at) xs
+folder_at [] at lt here none = absurd (omega arith)
+folder_at (b ∷ bs) zero lt here none =
+    ap (λ (t : Bool). if t then without_folder bs else b ∷ bs) (slash_inside (b ∷ bs) 0 lt here) ∙ no_folder bs none
+folder_at (b ∷ bs) (suc at) lt here none =
+    ap (λ (t : Bool). if t then without_folder bs else b ∷ bs) (slash_inside (b ∷ bs) (suc at) lt here) ∙ folder_at bs at (omega arith) here none
+
+-- the bytes behind the last slash
+pub behind_slash : (xs : List ℕ) (at : ℕ) → 0 < at → at ≤ length xs → get_or xs (at - 1) 0 ≡ 47 → list_any is_slash (drop at xs) ≡ false
+    → take (length xs - ((at - 1) + 1)) (drop ((at - 1) + 1) xs) ≡ without_folder xs
+behind_slash xs at some le here none =
+    let same : (at - 1) + 1 ≡ at = omega arith in
+    let next : suc (at - 1) ≡ at = omega arith in
+    let all : length (drop at xs) ≤ length xs - at = omega (arith, length-drop at xs) in
+    let none_behind : list_any is_slash (drop (suc (at - 1)) xs) ≡ false = subst (λ (n : ℕ). list_any is_slash (drop n xs) ≡ false) (sym next) none in
+    ap (λ (n : ℕ). take (length xs - n) (drop n xs)) same ∙ take_all (length xs - at) (drop at xs) all
+    ∙ ap (λ (n : ℕ). drop n xs) (sym next) ∙ sym (folder_at xs (at - 1) (omega arith) (eq-eqb (get_or xs (at - 1) 0) 47 here) none_behind)
+
+pub no_slash : (xs : List ℕ) (at : ℕ) → at ≤ 0 → list_any is_slash (drop at xs) ≡ false → xs ≡ without_folder xs
+no_slash xs at none all =
+    let same : at ≡ 0 = omega arith in
+    sym (no_folder xs (subst (λ (n : ℕ). list_any is_slash (drop n xs) ≡ false) same all))
+
+-- ---- beginnings and ends
+
+pub weaker : {X : Type 0} (o : Option X) (A : Type 0) (P Q : X → Type 0) → ((x : X) → P x → Q x) → MatchOption o A P → IfSome o Q
+weaker None A P Q f h = tt
+weaker (Some x) A P Q f h = f x h
+
+-- ---- names
+
+pub name_there : (names : List (List ℕ)) (var : ℕ) (x b name : List ℕ) → var < length names → x ≡ get_or names var x → b ≡ x → true ≡ bytes_eq b name → name_at names var ≡ name
+name_there names var x b name lt here same equal =
+    ap (λ (o : Option (List ℕ)). unwrap_or o []) (slice_get_read names (length names) var x refl lt here) ∙ sym same ∙ (bytes_eq-Decides b name).0 (sym equal)

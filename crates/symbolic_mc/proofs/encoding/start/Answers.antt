@@ -1,0 +1,17 @@
+use Rattle.std.proofs.Common.{◌∙◌, ap, length}
+use Rattle.sat_formula.proofs.Extension.{Satisfies-older}
+use Rattle.symbolic_mc.proofs.Runs.{all_hold_as}
+use Rattle.symbolic_mc.proofs.Shapes.{init_below}
+use Rattle.symbolic_mc.proofs.encoding.start.Goals as goal
+
+pub literals-requires-clause-within : goal.literals-requires-clause-within
+literals-requires-clause-within c =
+    init_below c.args.source.now _ _ c.requires c.as_slice.ensures (ap length c.as_slice-2.ensures ∙ c.in_ok-state.ensures.code.fills ∙ c.len.ensures)
+
+pub returns-clause-real : goal.returns-clause-real
+returns-clause-real c = λ a sat.
+    let facts = c.in_ok-require_all.ensures.real a sat in (
+      Satisfies-older _ _ a c.in_ok-state.ensures.extends facts.0,
+      all_hold_as a _ _ c.args.source.now.init _ c.in_ok-state.state c.in_ok-state.state _ _
+          c.deref.ensures.value c.as_slice.ensures c.as_slice-2.ensures c.as_slice-3.ensures (c.in_ok-asked.ensures.value a) facts.1,
+    )

@@ -1,0 +1,7 @@
+use Rattle.std.proofs.lemmas.Bool.Decides.{Decides-eqb}
+use Rattle.std.proofs.lemmas.Slice.Eq.{strip_prefix_is}
+use Rattle.symbolic_mc.proofs.Texts.{weaker}
+use Rattle.symbolic_mc.proofs.pieces.after.Goals as goal
+
+pub returns : goal.returns
+returns c = weaker c.strip_prefix.result _ _ _ (λ x h. h) (strip_prefix_is Decides-eqb c.args.bytes.now c.args.text.now c.strip_prefix.result c.strip_prefix.ensures.cases)

@@ -1,0 +1,22 @@
+use Rattle.std.proofs.Common.{◌<◌, ap, sym, subst, List, Bool, length, arith}
+use Rattle.symbolic_mc.proofs.Decided.{decided_as}
+use Rattle.symbolic_mc.proofs.Work.{work, work-turn, length-turn, work-push}
+use Rattle.symbolic_mc.proofs.search.search.Goals as goal
+
+pub values-smaller-else-not-turn : goal.values-smaller-else-not-turn
+values-smaller-else-not-turn c =
+    work-turn c.args.cnf.now.vars c.values.values.items c.turn.new.values.items c.if-not-turn.ensures.turned c.values.invariant
+
+pub values-preserved-else-not-turn : goal.values-preserved-else-not-turn
+values-preserved-else-not-turn c =
+    omega (arith, length-turn c.values.values.items c.turn.new.values.items c.if-not-turn.ensures.turned)
+
+pub returns-then-len-cnf-clause-satisfies : goal.returns-then-len-cnf-clause-satisfies
+returns-then-len-cnf-clause-satisfies c =
+    decided_as c.from_vec.result c.values.values.items c.deref.result.now c.args.cnf.now.clauses c.args.cnf.now.vars c.requires
+    c.from_vec.ensures c.deref.ensures.value (omega (arith, ap length c.deref.ensures.value)) (sym c.if-has_false.ensures)
+
+pub values-smaller : goal.values-smaller
+values-smaller c =
+    subst (λ (x : List Bool). work c.args.cnf.now.vars x < work c.args.cnf.now.vars c.values.values.items) (sym c.in_ok-push.ensures.items)
+    (work-push c.args.cnf.now.vars c.values.values.items (omega arith))

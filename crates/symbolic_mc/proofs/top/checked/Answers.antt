@@ -1,0 +1,9 @@
+use Rattle.std.proofs.Common.{refl}
+use Rattle.symbolic_mc.proofs.Answered.{on_ok, file_error}
+use Rattle.symbolic_mc.proofs.top.checked.Goals as goal
+
+pub returns-then-has_name : goal.returns-then-has_name
+returns-then-has_name c =
+    on_ok c.decided.result _ _ (λ answer error twelve.
+    file_error c.in-Ok.source c.args.request.now.file.now c.args.request.now.length c.args.bytes.now answer.report.items
+    c.in-Ok.ensures.well_formed (c.if-has_name.ensures refl) c.in-Ok.ensures.spelled (error twelve)) c.decided.ensures

@@ -1,0 +1,22 @@
+-- How the literals of a formula stand for states.
+use Rattle.std.specs.Prelude.{◌≡◌, ℕ, Bool, List, map, length, All}
+use Rattle.sat_formula.specs.declared.lit.Lit.{Lit}
+use Rattle.sat_formula.specs.declared.cnf.Cnf.{Cnf}
+use Rattle.sat_formula.specs.Lit.{lit_value, IsBelow}
+use Rattle.sat_formula.specs.Formula.{Satisfies}
+use Rattle.tla_meaning.specs.declared.boolean.BooleanModule.{BooleanModule}
+use Rattle.symbolic_mc.specs.Boolean.{IsRun}
+
+-- the truth values that an assignment gives a state's literals
+abbrev pub values_of : List Bool → List Lit → List Bool
+values_of a code = map (λ l. lit_value l a) code
+
+-- a literal of the formula for each variable
+pub record IsCode (f : Cnf) (vars : ℕ) (code : List Lit) : Type 0 where
+  pub fills : length code ≡ vars
+  pub below : All (IsBelow f.vars) code
+
+-- the literals of the states of an execution of so many steps, in the formula of that level
+pub record IsLevel (m : BooleanModule) (f : Cnf) (codes : List (List Lit)) : Type 0 where
+  pub each : All (IsCode f (length m.vars)) codes
+  pub real : (a : List Bool) → Satisfies a f → IsRun m (map (values_of a) codes)

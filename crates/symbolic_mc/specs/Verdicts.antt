@@ -1,0 +1,36 @@
+-- What the verdict on a job says.
+use Rattle.std.specs.Prelude.{◌≡◌, ℕ, ◌+◌, ◌≤◌, List, length, None, Some, false}
+use Rattle.tla_meaning.specs.declared.boolean.BooleanModule.{BooleanModule}
+use Rattle.tla_meaning.specs.declared.job.Job.{Job}
+use Rattle.tla_meaning.specs.declared.job.State.{State}
+use Rattle.tla_meaning.specs.Executions.{IsExecution, invariant, last_of}
+use Rattle.tla_meaning.specs.Form1.{job_of}
+use Rattle.tla_meaning.specs.Operators.{yes_no}
+use Rattle.symbolic_mc.specs.Report.{error_report}
+use Rattle.symbolic_mc.specs.declared.checking.Verdict.{Verdict}
+use Rattle.symbolic_mc.specs.declared.checking.Verdict.TheVariants.{Clean, Error}
+
+-- an execution of so many steps whose last state makes the invariant FALSE
+pub record IsCounterexample (job : Job) (steps : ℕ) (states : List State) : Type 0 where
+  pub execution : IsExecution None job states
+  pub count : length states ≡ steps + 1
+  pub last : State
+  pub ends : last_of states ≡ Some last
+  pub broken : invariant None job last ≡ yes_no false
+
+-- the same of the job that a module says, whatever its file is called
+abbrev pub Breaks : BooleanModule → ℕ → List State → Type 0
+Breaks m steps states = (file : List ℕ) → IsCounterexample (job_of file m) steps states
+
+-- the verdict on the executions of at most so many steps
+abbrev pub IsVerdict : BooleanModule → ℕ → Verdict → Type 0
+IsVerdict m longest (Clean n) = n ≡ longest
+IsVerdict m longest (Error n states) = (n ≤ longest) × Breaks m n states
+
+-- the report of an error of a module
+pub record IsModuleError (m : BooleanModule) (longest : ℕ) (report : List ℕ) : Type 0 where
+  pub level : ℕ
+  pub states : List State
+  pub within : level ≤ longest
+  pub breaks : Breaks m level states
+  pub written : report ≡ error_report m.vars level states

@@ -1,0 +1,236 @@
+// A level as a formula: the literals of its states, and what an execution asks of them.
+ghost use Rattle.std.specs.Prelude.{◌≡◌, ◌+◌, ◌<◌, ◌≤◌, All, Bool, List, ℕ, true, not, map, length, slice_index_or, if◌then◌else◌, ◌&&◌, false, Some, IfOk, OnOk};
+ghost use Rattle.std.specs.List.{list_all, list_any};
+ghost use Rattle.sat_formula.specs.Formula.{Extends, HasValue, Satisfies};
+ghost use Rattle.sat_formula.specs.Lit.{lit_value, IsBelow};
+ghost use Rattle.tla_meaning.specs.Form1.{IsBooleanModule};
+ghost use Rattle.symbolic_mc.specs.Boolean.{allows, holds_at, all_hold, some_holds, init_holds, next_holds, SpeakOf};
+ghost use Rattle.symbolic_mc.specs.Levels.{values_of, IsCode, IsLevel};
+
+use sat_formula::{Formula, Lit};
+use std::alloc::{AllocError, Global};
+use tla_meaning::{BooleanModule, Conjunct};
+use tla_values::List;
+
+/// The formula of one level. The assignments that satisfy it are the executions of its length.
+#[derive(Drop)]
+pub(crate) struct Level {
+    pub formula: Formula,
+    /// For each state, first to last, the literal of each variable.
+    pub states: List<List<Lit>>,
+}
+
+/// The formula of the executions of so many steps.
+pub(crate) fn encode(alloc: Global, source: &BooleanModule, steps: u32) -> Result<Level, AllocError>
+    requires { IsBooleanModule source.now }
+    ensures level { IfOk result (λ level. IsLevel source.now level.formula level.states) }
+    ensures steps { IfOk result (λ level. length level.states ≡ steps + 1) }
+{
+    let mut formula = Formula::new(alloc)?;
+    let mut states = Vec::new(alloc);
+    states.push(start(alloc, &mut formula, source)?)?;
+    for step in 0..steps {
+        let next = follow(
+            alloc,
+            &mut formula,
+            source,
+            states[step as usize].as_slice(),
+        )?;
+        states.push(next)?;
+    }
+    Ok(Level {
+        formula,
+        states: List::from_vec(states),
+    })
+}
+
+// A state at which Init is TRUE.
+fn start(
+    alloc: Global,
+    formula: &mut Formula,
+    source: &BooleanModule,
+) -> Result<List<Lit>, AllocError>
+    requires { IsBooleanModule source.now }
+    ensures code { IfOk result (IsCode formula.new (length source.now.vars)) }
+    ensures real { IfOk result (λ state. (a : List Bool) → Satisfies a formula.new
+        → Satisfies a formula.old × (init_holds source.now (values_of a state) ≡ true)) }
+{
+    let state = fresh_state(alloc, formula, source.vars.len())?;
+    let asked = literals(
+        alloc,
+        source.init.as_slice(),
+        state.as_slice(),
+        state.as_slice(),
+    )?;
+    require_all(formula, &asked)?;
+    Ok(state)
+}
+
+// A state to which Next leads from this one.
+fn follow(
+    alloc: Global,
+    formula: &mut Formula,
+    source: &BooleanModule,
+    now: &[Lit],
+) -> Result<List<Lit>, AllocError>
+    requires source { IsBooleanModule source.now }
+    requires now { IsCode formula.old (length source.now.vars) now.now }
+    ensures code { IfOk result (IsCode formula.new (length source.now.vars)) }
+    ensures grown { formula.old.vars ≤ formula.new.vars }
+    ensures real { IfOk result (λ next. (a : List Bool) → Satisfies a formula.new
+        → Satisfies a formula.old × (next_holds source.now (values_of a now.now) (values_of a next) ≡ true)) }
+{
+    let next = fresh_state(alloc, formula, source.vars.len())?;
+    let some = some_branch(alloc, formula, source.next.as_slice(), now, next.as_slice())?;
+    require_all(formula, &[some])?;
+    Ok(next)
+}
+
+// A literal that is true exactly where some branch is.
+#[tactic(auto, using(sat_formula::proofs::Extension::gates))]
+fn some_branch(
+    alloc: Global,
+    formula: &mut Formula,
+    branches: &[List<Conjunct>],
+    now: &[Lit],
+    next: &[Lit],
+) -> Result<Lit, AllocError>
+    requires now { All (IsBelow formula.old.vars) now.now }
+    requires next { All (IsBelow formula.old.vars) next.now }
+    requires alike { length next.now ≡ length now.now }
+    requires within { All (SpeakOf (length now.now)) branches.now }
+    ensures value { IfOk result (λ l. HasValue formula.new l
+        (λ a. some_holds branches.now (values_of a now.now) (values_of a next.now))) }
+    ensures extends { Extends formula.old formula.new }
+    ensures grown { formula.old.vars ≤ formula.new.vars }
+{
+    let mut some = formula.top().negated();
+    for branch in branches {
+        let holds = conjunction(alloc, formula, branch.as_slice(), now, next)?;
+        some = formula.or(some, holds)?;
+    }
+    Ok(some)
+}
+
+/// A literal that is true exactly where the conjuncts are.
+#[tactic(auto, using(sat_formula::proofs::Extension::gates))]
+pub(crate) fn conjunction(
+    alloc: Global,
+    formula: &mut Formula,
+    conjuncts: &[Conjunct],
+    now: &[Lit],
+    next: &[Lit],
+) -> Result<Lit, AllocError>
+    requires now { All (IsBelow formula.old.vars) now.now }
+    requires next { All (IsBelow formula.old.vars) next.now }
+    requires alike { length next.now ≡ length now.now }
+    requires within { SpeakOf (length now.now) conjuncts.now }
+    ensures value { IfOk result (λ l. HasValue formula.new l
+        (λ a. all_hold conjuncts.now (values_of a now.now) (values_of a next.now))) }
+    ensures extends { Extends formula.old formula.new }
+    ensures grown { formula.old.vars ≤ formula.new.vars }
+{
+    let lits = literals(alloc, conjuncts, now, next)?;
+    all_of(formula, &lits)
+}
+
+// A literal that is true exactly where all of these are.
+#[tactic(auto, using(sat_formula::proofs::Extension::gates))]
+fn all_of(formula: &mut Formula, lits: &[Lit]) -> Result<Lit, AllocError>
+    requires { All (IsBelow formula.old.vars) lits.now }
+    ensures value { IfOk result (λ l. HasValue formula.new l (λ a. list_all (λ x. lit_value x a) lits.now)) }
+    ensures extends { Extends formula.old formula.new }
+    ensures grown { formula.old.vars ≤ formula.new.vars }
+{
+    let mut all = formula.top();
+    for lit in lits {
+        all = formula.and(all, *lit)?;
+    }
+    Ok(all)
+}
+
+// From now on each of these literals is true.
+fn require_all(formula: &mut Formula, lits: &[Lit]) -> Result<(), AllocError>
+    requires { All (IsBelow formula.old.vars) lits.now }
+    ensures vars { formula.new.vars ≡ formula.old.vars }
+    ensures real { OnOk result ((a : List Bool) → Satisfies a formula.new
+        → Satisfies a formula.old × (list_all (λ l. lit_value l a) lits.now ≡ true)) }
+{
+    for lit in lits {
+        formula.add(&[*lit])?;
+    }
+    Ok(())
+}
+
+// A new literal for each variable.
+#[tactic(auto, using(sat_formula::proofs::Extension::gates))]
+fn fresh_state(alloc: Global, formula: &mut Formula, vars: usize) -> Result<List<Lit>, AllocError>
+    ensures code { IfOk result (IsCode formula.new vars) }
+    ensures extends { Extends formula.old formula.new }
+    ensures grown { formula.old.vars ≤ formula.new.vars }
+{
+    let mut state = Vec::new(alloc);
+    for _made in 0..vars {
+        state.push(formula.fresh()?)?;
+    }
+    Ok(List::from_vec(state))
+}
+
+// What the conjuncts ask of the literals of a state and of the next one.
+fn literals(
+    alloc: Global,
+    conjuncts: &[Conjunct],
+    now: &[Lit],
+    next: &[Lit],
+) -> Result<Vec<Lit>, AllocError>
+    requires within { SpeakOf (length now.now) conjuncts.now }
+    requires alike { length next.now ≡ length now.now }
+    ensures below { IfOk result (λ asked. (n : ℕ) → All (IsBelow n) now.now → All (IsBelow n) next.now → All (IsBelow n) asked.items) }
+    ensures value { IfOk result (λ asked. (a : List Bool)
+        → list_all (λ l. lit_value l a) asked.items ≡ all_hold conjuncts.now (values_of a now.now) (values_of a next.now)) }
+{
+    let mut asked = Vec::new(alloc);
+    for conjunct in conjuncts {
+        ask(&mut asked, conjunct, now, next)?;
+    }
+    Ok(asked)
+}
+
+// What one more conjunct asks: a literal, or nothing where it leaves the choice.
+fn ask(
+    asked: &mut Vec<Lit>,
+    conjunct: &Conjunct,
+    now: &[Lit],
+    next: &[Lit],
+) -> Result<(), AllocError>
+    requires within { conjunct.now.var < length now.now }
+    requires alike { length next.now ≡ length now.now }
+    ensures below { OnOk result ((n : ℕ) → All (IsBelow n) now.now → All (IsBelow n) next.now
+        → All (IsBelow n) asked.old.items → All (IsBelow n) asked.new.items) }
+    ensures value { OnOk result ((a : List Bool) → list_all (λ l. lit_value l a) asked.new.items
+        ≡ (list_all (λ l. lit_value l a) asked.old.items && holds_at (values_of a now.now) (values_of a next.now) conjunct.now)) }
+{
+    match conjunct.choice {
+        Some(truth) => {
+            asked.push(literal(conjunct, truth, now, next))?;
+            Ok(())
+        }
+        None => Ok(()),
+    }
+}
+
+// The literal that is true where the variable of a conjunct has this truth value.
+fn literal(conjunct: &Conjunct, truth: bool, now: &[Lit], next: &[Lit]) -> Lit
+    requires within { conjunct.now.var < length now.now }
+    requires alike { length next.now ≡ length now.now }
+    ensures below { (n : ℕ) → All (IsBelow n) now.now → All (IsBelow n) next.now → IsBelow n result }
+    ensures value { (a : List Bool) → lit_value result a ≡ allows (Some truth)
+        (slice_index_or (if conjunct.now.primed then values_of a next.now else values_of a now.now) conjunct.now.var false) }
+{
+    let lit = if conjunct.primed {
+        next[conjunct.var]
+    } else {
+        now[conjunct.var]
+    };
+    if truth { lit } else { lit.negated() }
+}

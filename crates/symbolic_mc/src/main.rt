@@ -1,0 +1,49 @@
+//! A symbolic bounded model checker for TLA+.
+#![tactic(auto)]
+
+use std::alloc::{AllocError, Global};
+use std::env;
+use std::io::{self, ErrorKind};
+use std::process::ExitCode;
+use tool_outside::{HostFiles, HostSink};
+
+mod checking;
+mod encoding;
+mod lines;
+mod pieces;
+mod reader;
+mod report;
+mod search;
+mod shape;
+mod top;
+mod words;
+
+pub use top::run;
+
+fn main(rt: HostRuntime) -> ExitCode {
+    let mut files = HostFiles::new(&rt);
+    let mut out = HostSink::new(io::writer(&rt));
+    let status = match given_words(&rt, rt.alloc()) {
+        Ok(words) => run(rt.alloc(), &words, &mut files, &mut out),
+        Err(_) => 50,
+    };
+    ExitCode::from(status)
+}
+
+// The words after the program's name. Words that are not text are taken as none, which is no command.
+fn given_words(rt: &HostRuntime, alloc: Global) -> Result<Vec<String>, AllocError> {
+    let mut words = Vec::new(alloc);
+    match env::args(rt) {
+        Ok(args) => {
+            for word in args.skip(1) {
+                words.push(word)?;
+            }
+            Ok(words)
+        }
+        Err(error) if error.kind() == ErrorKind::OutOfMemory => Err(AllocError),
+        Err(_) => Ok(words),
+    }
+}
+
+#[cfg(test)]
+mod tests;

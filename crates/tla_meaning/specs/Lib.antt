@@ -1,0 +1,11 @@
+pub mod Outcomes
+pub mod Numbers
+pub mod Shapes
+pub mod Forms
+pub mod Operators
+pub mod Scopes
+pub mod Meaning
+pub mod Actions
+pub mod Executions
+pub mod Strict
+pub mod Form1

@@ -1,0 +1,67 @@
+-- Outcomes, and how those of several operands are one.
+use Rattle.std.specs.Prelude.{ℕ, Bool, List, [], ◌∷◌, if◌then◌else◌}
+use Rattle.std.specs.declared.cmp.Ordering.{Ordering}
+use Rattle.std.specs.Ordering.{nat_cmp, is_lt}
+use Rattle.std.specs.Cmp.Lexicographic.{slice_cmp}
+use Rattle.tla_values.specs.declared.value.Value.{Value}
+use Rattle.tla_meaning.specs.declared.place.Place.{Place}
+use Rattle.tla_meaning.specs.declared.outcome.Fault.{Fault}
+use Rattle.tla_meaning.specs.declared.outcome.Fault.TheVariants.{NoFault, IsWrong, IsBig}
+use Rattle.tla_meaning.specs.declared.outcome.Outcome.{Outcome}
+use Rattle.tla_meaning.specs.declared.outcome.Outcome.TheVariants.{Val, Wrong, Big}
+
+-- places in order of file, line and column
+abbrev pub place_parts : Place → List ℕ
+place_parts p = p.file ∷ p.line ∷ p.col ∷ []
+
+abbrev pub place_cmp : Place → Place → Ordering
+place_cmp p q = slice_cmp nat_cmp (place_parts p) (place_parts q)
+
+abbrev pub before : Place → Place → Bool
+before p q = is_lt (place_cmp p q)
+
+abbrev pub least : Place → Place → Place
+least p q = if before q p then q else p
+
+-- Wrong at the least place at which one is Wrong, else Big at the least place at which one is Big
+abbrev pub both : Fault → Fault → Fault
+both NoFault g = g
+both (IsWrong p) NoFault = IsWrong p
+both (IsWrong p) (IsWrong q) = IsWrong (least p q)
+both (IsWrong p) (IsBig q) = IsWrong p
+both (IsBig p) NoFault = IsBig p
+both (IsBig p) (IsWrong q) = IsWrong q
+both (IsBig p) (IsBig q) = IsBig (least p q)
+
+abbrev pub fault_of : Outcome → Fault
+fault_of (Val v) = NoFault
+fault_of (Wrong p) = IsWrong p
+fault_of (Big p) = IsBig p
+
+-- the join of the faults of several outcomes
+abbrev pub joined : List Outcome → Fault
+joined [] = NoFault
+joined (o ∷ os) = both (fault_of o) (joined os)
+
+-- the outcomes that are values
+abbrev pub values : List Outcome → List Value
+values [] = []
+values (Val v ∷ os) = v ∷ values os
+values (Wrong p ∷ os) = values os
+values (Big p ∷ os) = values os
+
+-- the fault, or else the outcome
+abbrev pub unless : Fault → Outcome → Outcome
+unless NoFault o = o
+unless (IsWrong p) o = Wrong p
+unless (IsBig p) o = Big p
+
+-- the join of the operands, where there is no fault with the outcome of their values
+abbrev pub strict : List Outcome → (List Value → Outcome) → Outcome
+strict os f = unless (joined os) (f (values os))
+
+-- goes on with a value
+abbrev pub with_value : Outcome → (Value → Outcome) → Outcome
+with_value (Val v) f = f v
+with_value (Wrong p) f = Wrong p
+with_value (Big p) f = Big p

@@ -1,0 +1,46 @@
+// What is checked, and its states.
+ghost use Rattle.std.specs.Prelude.{◌≡◌, IfOk};
+
+use crate::expr::{Decl, Expr};
+use std::alloc::{AllocError, Global};
+use tla_values::{List, Text, Value, copy_value};
+
+/// What is checked.
+#[derive(Drop)]
+pub struct Job {
+    pub files: List<Text>,
+    pub names: List<Decl>,
+    pub aliases: List<(Text, Text)>,
+    pub cinit: Expr,
+    pub assume: Expr,
+    pub init: Expr,
+    pub next: Expr,
+    pub invs: List<(Text, Expr)>,
+}
+
+/// A value for each constant and variable.
+#[derive(Drop)]
+pub struct State {
+    pub vals: List<Value>,
+}
+
+/// The values of bound names.
+#[derive(Drop)]
+pub struct Env {
+    pub vals: List<(Text, Value)>,
+}
+
+impl State {
+    /// An equal state.
+    pub fn copy(&self, alloc: Global) -> Result<State, AllocError>
+        ensures { IfOk result (λ s. s ≡ self.now) }
+    {
+        let mut vals = Vec::new(alloc);
+        for v in self.vals.as_slice() {
+            vals.push(copy_value(alloc, v)?)?;
+        }
+        Ok(State {
+            vals: List::from_vec(vals),
+        })
+    }
+}

@@ -1,0 +1,20 @@
+//! The trees of a module and what they mean.
+#![tactic(auto)]
+
+mod boolean;
+mod copy;
+mod expr;
+mod job;
+mod modules;
+mod op;
+mod outcome;
+mod place;
+
+pub use boolean::{BooleanModule, Conjunct};
+pub use copy::copy_expr;
+pub use expr::{Decl, Def, Expr};
+pub use job::{Env, Job, State};
+pub use modules::{Flat, Module, Unit};
+pub use op::{Form, Op};
+pub use outcome::{Fault, Outcome};
+pub use place::Place;

@@ -1,0 +1,11 @@
+pub mod OrderLemmas
+pub mod Ends
+pub mod SetLemmas
+pub mod TotalLemmas
+pub mod ShowLemmas
+pub mod Laws
+pub mod Rising
+pub mod SetLaws
+pub mod NormalLemmas
+pub mod FunLaws
+pub mod SortLaws

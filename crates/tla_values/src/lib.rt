@@ -1,0 +1,25 @@
+//! Values of the language: truth values, whole numbers, texts, sets and functions.
+#![tactic(auto)]
+
+mod functions;
+mod list;
+mod names;
+mod normal;
+mod order;
+mod printing;
+mod search;
+mod sets;
+#[cfg(test)]
+mod tests;
+mod text;
+mod value;
+
+pub use functions::{apply, domain_of, fun_of, override_at};
+pub use list::List;
+pub use names::is_name;
+pub use normal::{is_function, is_normal, is_set};
+pub use order::{cmp_values, same_value};
+pub use printing::show;
+pub use sets::{inter_of, member, minus, set_of, subset, union_of};
+pub use text::{Text, copy_text, same_text};
+pub use value::{Value, copy_value};
