@@ -1,9 +1,12 @@
 pub mod Answered
 pub mod Decided
+pub mod Errors
 pub mod Found
 pub mod Literals
 pub mod Meaning
 pub mod Numbers
+pub mod Passed
+pub mod Reaching
 pub mod Runs
 pub mod Shapes
 pub mod Spelled

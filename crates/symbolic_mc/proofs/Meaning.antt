@@ -80,11 +80,10 @@ plain_act : (w : Width) (mk : Marks) (p q r : Place) (o : Option Bool) (i : ℕ)
 plain_act w mk p q r None i primed s t = simp (sense-roll, val-roll)
 plain_act w mk p q r (Some b) i primed s t = simp (sense-roll, val-roll)
 
-pub conjunct_act : (w : Width) (mk : Marks) (names : List (List ℕ)) (p : Place) (c : Conjunct) (now next : List Bool) → c.var < length now → length next ≡ length now
-    → (meaning w (conjunct_tree names p c) no_scope).act mk (state_of now) (state_of next) ≡ sure (holds_at now next c)
-conjunct_act w mk names p c now next lt alike =
-    plain_act w mk _ p _ c.choice c.var c.primed (state_of now) (state_of next)
-    ∙ ap effect_of (conjunct_val w names p c now next lt alike) ∙ effect_sure (holds_at now next c)
+-- where a conjunct's value is a truth value, so is its effect
+conjunct_does : (w : Width) (mk : Marks) (names : List (List ℕ)) (p : Place) (c : Conjunct) (s t : State) (b : Bool)
+    → val w (conjunct_tree names p c) no_scope s t ≡ yes_no b → (meaning w (conjunct_tree names p c) no_scope).act mk s t ≡ sure b
+conjunct_does w mk names p c s t b e = plain_act w mk _ p _ c.choice c.var c.primed s t ∙ ap effect_of e ∙ effect_sure b
 
 -- ---- lists of truth values
 
@@ -134,20 +133,24 @@ cons_as x y xs ys e es = ap (λ z. z ∷ xs) e ∙ ap (λ zs. y ∷ zs) es
 abbrev senses_of : Width → Place → List Expr → List Sense
 senses_of w p es = outer p [] (map (meaning w) es) no_scope
 
-conjuncts_val : (w : Width) (names : List (List ℕ)) (at p : Place) (cs : List Conjunct) (now next : List Bool) → SpeakOf (length now) cs → length next ≡ length now
-    → outcomes (senses_of w at (conjunct_trees names p cs)) (state_of now) (state_of next) ≡ map (λ c. yes_no (holds_at now next c)) cs
-conjuncts_val w names at p [] now next within alike = refl
-conjuncts_val w names at p (c ∷ cs) now next within alike =
-    let head = conjunct_val w names p c now next (All-head (λ (x : Conjunct). x.var < length now) c cs within) alike in
-    let tail = conjuncts_val w names at (behind p (length (conjunct_text names c) + 4)) cs now next (All-tail (λ (x : Conjunct). x.var < length now) c cs within) alike in
+-- wherever the conjunct stands, its value is what the test says
+abbrev pub Says : Width → List (List ℕ) → State → State → (Conjunct → Bool) → Conjunct → Type 0
+Says w names s t f c = (p : Place) → val w (conjunct_tree names p c) no_scope s t ≡ yes_no (f c)
+
+conjuncts_val : (w : Width) (names : List (List ℕ)) (at p : Place) (cs : List Conjunct) (s t : State) (f : Conjunct → Bool) → All (Says w names s t f) cs
+    → outcomes (senses_of w at (conjunct_trees names p cs)) s t ≡ map (λ c. yes_no (f c)) cs
+conjuncts_val w names at p [] s t f says = refl
+conjuncts_val w names at p (c ∷ cs) s t f says =
+    let head = All-head (Says w names s t f) c cs says p in
+    let tail = conjuncts_val w names at (behind p (length (conjunct_text names c) + 4)) cs s t f (All-tail (Says w names s t f) c cs says) in
     cons_as _ _ _ _ head tail
 
-conjuncts_act : (w : Width) (mk : Marks) (names : List (List ℕ)) (at p : Place) (cs : List Conjunct) (now next : List Bool) → SpeakOf (length now) cs → length next ≡ length now
-    → effects mk (senses_of w at (conjunct_trees names p cs)) (state_of now) (state_of next) ≡ map (λ c. sure (holds_at now next c)) cs
-conjuncts_act w mk names at p [] now next within alike = refl
-conjuncts_act w mk names at p (c ∷ cs) now next within alike =
-    let head = conjunct_act w mk names p c now next (All-head (λ (x : Conjunct). x.var < length now) c cs within) alike in
-    let tail = conjuncts_act w mk names at (behind p (length (conjunct_text names c) + 4)) cs now next (All-tail (λ (x : Conjunct). x.var < length now) c cs within) alike in
+conjuncts_act : (w : Width) (mk : Marks) (names : List (List ℕ)) (at p : Place) (cs : List Conjunct) (s t : State) (f : Conjunct → Bool) → All (Says w names s t f) cs
+    → effects mk (senses_of w at (conjunct_trees names p cs)) s t ≡ map (λ c. sure (f c)) cs
+conjuncts_act w mk names at p [] s t f says = refl
+conjuncts_act w mk names at p (c ∷ cs) s t f says =
+    let head = conjunct_does w mk names p c s t (f c) (All-head (Says w names s t f) c cs says p) in
+    let tail = conjuncts_act w mk names at (behind p (length (conjunct_text names c) + 4)) cs s t f (All-tail (Says w names s t f) c cs says) in
     cons_as _ _ _ _ head tail
 
 and_val : (w : Width) (p : Place) (es : List Expr) (s t : State) → val w (tree p op.And es) no_scope s t ≡ conjoined p (outcomes (senses_of w p es) s t)
@@ -166,41 +169,43 @@ and_true : (b : Bool) → (b && true) ≡ b
 and_true true = refl
 and_true false = refl
 
-pub conjunction_val : (w : Width) (names : List (List ℕ)) (p : Place) (cs : List Conjunct) (now next : List Bool) → SpeakOf (length now) cs → length next ≡ length now
-    → val w (conjunction_tree names p cs) no_scope (state_of now) (state_of next) ≡ yes_no (all_hold cs now next)
-conjunction_val w names p [] now next within alike = true_val w p (state_of now) (state_of next)
-conjunction_val w names p (c ∷ []) now next within alike =
-    conjunct_val w names p c now next (All-head (λ (x : Conjunct). x.var < length now) c [] within) alike ∙ ap yes_no (sym (and_true (holds_at now next c)))
-conjunction_val w names p (c ∷ d ∷ cs) now next within alike =
-    and_val w _ _ (state_of now) (state_of next)
-    ∙ ap (conjoined _) (conjuncts_val w names _ p (c ∷ d ∷ cs) now next within alike) ∙ conjoined_all _ (holds_at now next) (c ∷ d ∷ cs)
+pub conjunction_says : (w : Width) (names : List (List ℕ)) (p : Place) (cs : List Conjunct) (s t : State) (f : Conjunct → Bool) → All (Says w names s t f) cs
+    → val w (conjunction_tree names p cs) no_scope s t ≡ yes_no (list_all f cs)
+conjunction_says w names p [] s t f says = true_val w p s t
+conjunction_says w names p (c ∷ []) s t f says =
+    All-head (Says w names s t f) c [] says p ∙ ap yes_no (sym (and_true (f c)))
+conjunction_says w names p (c ∷ d ∷ cs) s t f says =
+    and_val w _ _ s t ∙ ap (conjoined _) (conjuncts_val w names _ p (c ∷ d ∷ cs) s t f says) ∙ conjoined_all _ f (c ∷ d ∷ cs)
 
-pub conjunction_act : (w : Width) (mk : Marks) (names : List (List ℕ)) (p : Place) (cs : List Conjunct) (now next : List Bool) → SpeakOf (length now) cs → length next ≡ length now
-    → (meaning w (conjunction_tree names p cs) no_scope).act mk (state_of now) (state_of next) ≡ sure (all_hold cs now next)
-conjunction_act w mk names p [] now next within alike = true_act w mk p (state_of now) (state_of next)
-conjunction_act w mk names p (c ∷ []) now next within alike =
-    conjunct_act w mk names p c now next (All-head (λ (x : Conjunct). x.var < length now) c [] within) alike ∙ ap sure (sym (and_true (holds_at now next c)))
-conjunction_act w mk names p (c ∷ d ∷ cs) now next within alike =
-    and_act w mk _ _ (state_of now) (state_of next)
-    ∙ ap effects_and (conjuncts_act w mk names _ p (c ∷ d ∷ cs) now next within alike) ∙ effects_and_all (holds_at now next) (c ∷ d ∷ cs)
+pub conjunction_does : (w : Width) (mk : Marks) (names : List (List ℕ)) (p : Place) (cs : List Conjunct) (s t : State) (f : Conjunct → Bool) → All (Says w names s t f) cs
+    → (meaning w (conjunction_tree names p cs) no_scope).act mk s t ≡ sure (list_all f cs)
+conjunction_does w mk names p [] s t f says = true_act w mk p s t
+conjunction_does w mk names p (c ∷ []) s t f says =
+    conjunct_does w mk names p c s t (f c) (All-head (Says w names s t f) c [] says p) ∙ ap sure (sym (and_true (f c)))
+conjunction_does w mk names p (c ∷ d ∷ cs) s t f says =
+    and_act w mk _ _ s t ∙ ap effects_and (conjuncts_act w mk names _ p (c ∷ d ∷ cs) s t f says) ∙ effects_and_all f (c ∷ d ∷ cs)
 
 -- ---- the branches of Next
 
-branches_val : (w : Width) (names : List (List ℕ)) (at : Place) (line : ℕ) (bs : List (List Conjunct)) (now next : List Bool) → All (SpeakOf (length now)) bs → length next ≡ length now
-    → outcomes (senses_of w at (branch_trees names line bs)) (state_of now) (state_of next) ≡ map (λ cs. yes_no (all_hold cs now next)) bs
-branches_val w names at line [] now next within alike = refl
-branches_val w names at line (b ∷ bs) now next within alike =
-    cons_as _ _ _ _
-    (conjunction_val w names (place_at line 12) b now next (All-head (SpeakOf (length now)) b bs within) alike)
-    (branches_val w names at (line + 1) bs now next (All-tail (SpeakOf (length now)) b bs within) alike)
+-- every conjunct of a branch
+abbrev pub AllSay : Width → List (List ℕ) → State → State → (Conjunct → Bool) → List Conjunct → Type 0
+AllSay w names s t f cs = All (Says w names s t f) cs
 
-branches_act : (w : Width) (mk : Marks) (names : List (List ℕ)) (at : Place) (line : ℕ) (bs : List (List Conjunct)) (now next : List Bool) → All (SpeakOf (length now)) bs → length next ≡ length now
-    → effects mk (senses_of w at (branch_trees names line bs)) (state_of now) (state_of next) ≡ map (λ cs. sure (all_hold cs now next)) bs
-branches_act w mk names at line [] now next within alike = refl
-branches_act w mk names at line (b ∷ bs) now next within alike =
+branches_val : (w : Width) (names : List (List ℕ)) (at : Place) (line : ℕ) (bs : List (List Conjunct)) (s t : State) (f : Conjunct → Bool) → All (AllSay w names s t f) bs
+    → outcomes (senses_of w at (branch_trees names line bs)) s t ≡ map (λ cs. yes_no (list_all f cs)) bs
+branches_val w names at line [] s t f says = refl
+branches_val w names at line (b ∷ bs) s t f says =
     cons_as _ _ _ _
-    (conjunction_act w mk names (place_at line 12) b now next (All-head (SpeakOf (length now)) b bs within) alike)
-    (branches_act w mk names at (line + 1) bs now next (All-tail (SpeakOf (length now)) b bs within) alike)
+    (conjunction_says w names (place_at line 12) b s t f (All-head (AllSay w names s t f) b bs says))
+    (branches_val w names at (line + 1) bs s t f (All-tail (AllSay w names s t f) b bs says))
+
+branches_act : (w : Width) (mk : Marks) (names : List (List ℕ)) (at : Place) (line : ℕ) (bs : List (List Conjunct)) (s t : State) (f : Conjunct → Bool) → All (AllSay w names s t f) bs
+    → effects mk (senses_of w at (branch_trees names line bs)) s t ≡ map (λ cs. sure (list_all f cs)) bs
+branches_act w mk names at line [] s t f says = refl
+branches_act w mk names at line (b ∷ bs) s t f says =
+    cons_as _ _ _ _
+    (conjunction_does w mk names (place_at line 12) b s t f (All-head (AllSay w names s t f) b bs says))
+    (branches_act w mk names at (line + 1) bs s t f (All-tail (AllSay w names s t f) b bs says))
 
 -- a disjunction is taken as an action or as a value; where no operand has a fault, both say the same
 or_act : (w : Width) (mk : Marks) (p : Place) (es : List Expr) (s t : State) (b : Bool)
@@ -213,59 +218,101 @@ or_act w mk p es s t b acts vals =
     either true = acts
     either false = ap effect_of vals ∙ effect_sure b
 
-pub next_act : (w : Width) (mk : Marks) (names : List (List ℕ)) (line : ℕ) (bs : List (List Conjunct)) (now next : List Bool) → All (SpeakOf (length now)) bs → length next ≡ length now
-    → (meaning w (next_tree names line bs) no_scope).act mk (state_of now) (state_of next) ≡ sure (some_holds bs now next)
-next_act w mk names line bs now next within alike =
-    or_act w mk (place_at line 9) (branch_trees names line bs) (state_of now) (state_of next) (some_holds bs now next)
-    (ap effects_or (branches_act w mk names (place_at line 9) line bs now next within alike) ∙ effects_or_any (λ cs. all_hold cs now next) bs)
-    (ap (disjoined (place_at line 9)) (branches_val w names (place_at line 9) line bs now next within alike) ∙ disjoined_any (place_at line 9) (λ cs. all_hold cs now next) bs)
+pub next_does : (w : Width) (mk : Marks) (names : List (List ℕ)) (line : ℕ) (bs : List (List Conjunct)) (s t : State) (f : Conjunct → Bool) → All (AllSay w names s t f) bs
+    → (meaning w (next_tree names line bs) no_scope).act mk s t ≡ sure (list_any (λ cs. list_all f cs) bs)
+next_does w mk names line bs s t f says =
+    or_act w mk (place_at line 9) (branch_trees names line bs) s t (list_any (λ cs. list_all f cs) bs)
+    (ap effects_or (branches_act w mk names (place_at line 9) line bs s t f says) ∙ effects_or_any (λ cs. list_all f cs) bs)
+    (ap (disjoined (place_at line 9)) (branches_val w names (place_at line 9) line bs s t f says) ∙ disjoined_any (place_at line 9) (λ cs. list_all f cs) bs)
 
 -- ---- the job
 
 sure_outcome : (b : Bool) → outcome_of (sure b) ≡ yes_no b
 sure_outcome b = refl
 
-pub start_is : (w : Width) (file : List ℕ) (m : BooleanModule) (now : List Bool) → SpeakOf (length now) m.init
-    → start w (job_of file m) (state_of now) ≡ yes_no (init_holds m now)
-start_is w file m now within =
-    ap outcome_of (ap (λ (e : Effect). effects_and (e ∷ assume_effects w (job_of file m) (state_of now) ++ last ∷ [])) (true_act w (in_cinit (job_of file m)) (place_at 1 1) (state_of now) (state_of now))
+pub start_says : (w : Width) (file : List ℕ) (m : BooleanModule) (s : State) (f : Conjunct → Bool) → AllSay w m.vars s s f m.init
+    → start w (job_of file m) s ≡ yes_no (list_all f m.init)
+start_says w file m s f says =
+    ap outcome_of (ap (λ (e : Effect). effects_and (e ∷ assume_effects w (job_of file m) s ++ last ∷ [])) (true_act w (in_cinit (job_of file m)) (place_at 1 1) s s)
     ∙ ap (λ (es : List Effect). effects_and (sure true ∷ es ++ last ∷ [])) assumed
-    ∙ ap (λ (e : Effect). effects_and (sure true ∷ sure true ∷ e ∷ [])) init_act ∙ whole (init_holds m now))
+    ∙ ap (λ (e : Effect). effects_and (sure true ∷ sure true ∷ e ∷ [])) init_act ∙ whole (list_all f m.init))
   where
     last : Effect
-    last = (meaning w (job_of file m).init no_scope).act (in_init (job_of file m)) (state_of now) (state_of now)
+    last = (meaning w (job_of file m).init no_scope).act (in_init (job_of file m)) s s
 
-    assumed : assume_effects w (job_of file m) (state_of now) ≡ sure true ∷ []
+    assumed : assume_effects w (job_of file m) s ≡ sure true ∷ []
     assumed =
-        ap (λ (x : Expr-F Expr). map (λ e. effect_of (val w e no_scope (state_of now) (state_of now))) (assumptions x.op no_part x.args)) (out-roll-Expr (record { place = place_at 1 1; op = op.Bool true; args = []; binds = [] }))
-        ∙ ap (λ (o : Outcome). effect_of o ∷ []) (true_val w (place_at 1 1) (state_of now) (state_of now)) ∙ ap (λ (e : Effect). e ∷ []) (effect_sure true)
+        ap (λ (x : Expr-F Expr). map (λ e. effect_of (val w e no_scope s s)) (assumptions x.op no_part x.args)) (out-roll-Expr (record { place = place_at 1 1; op = op.Bool true; args = []; binds = [] }))
+        ∙ ap (λ (o : Outcome). effect_of o ∷ []) (true_val w (place_at 1 1) s s) ∙ ap (λ (e : Effect). e ∷ []) (effect_sure true)
 
-    init_act : last ≡ sure (init_holds m now)
-    init_act = conjunction_act w (in_init (job_of file m)) m.vars (place_at (init_line m) 9) m.init now now within refl
+    init_act : last ≡ sure (list_all f m.init)
+    init_act = conjunction_does w (in_init (job_of file m)) m.vars (place_at (init_line m) 9) m.init s s f says
 
     whole : (b : Bool) → effects_and (sure true ∷ sure true ∷ sure b ∷ []) ≡ sure b
     whole true = refl
     whole false = refl
 
-pub next_is : (w : Width) (file : List ℕ) (m : BooleanModule) (now later : List Bool) → All (SpeakOf (length now)) m.next → length later ≡ length now
-    → next w (job_of file m) (state_of now) (state_of later) ≡ yes_no (next_holds m now later)
-next_is w file m now later within alike =
-    ap outcome_of (next_act w (in_next (job_of file m)) m.vars (init_line m + 1) m.next now later within alike) ∙ sure_outcome (next_holds m now later)
+pub next_says : (w : Width) (file : List ℕ) (m : BooleanModule) (s t : State) (f : Conjunct → Bool) → All (AllSay w m.vars s t f) m.next
+    → next w (job_of file m) s t ≡ yes_no (list_any (λ cs. list_all f cs) m.next)
+next_says w file m s t f says =
+    ap outcome_of (next_does w (in_next (job_of file m)) m.vars (init_line m + 1) m.next s t f says) ∙ sure_outcome (list_any (λ cs. list_all f cs) m.next)
 
 -- whether an outcome is TRUE
-yes_or_no : (b : Bool) → is_yes (yes_no b) ≡ b
+pub yes_or_no : (b : Bool) → is_yes (yes_no b) ≡ b
 yes_or_no true = simp value.outs-Bool
 yes_or_no false = simp value.outs-Bool
 
-pub invariant_is : (w : Width) (file : List ℕ) (m : BooleanModule) (now : List Bool) → SpeakOf (length now) m.inv
-    → invariant w (job_of file m) (state_of now) ≡ yes_no (inv_holds m now)
-invariant_is w file m now within =
-    ap (λ (o : Outcome). first_not_yes (o ∷ [])) (conjunction_val w m.vars (place_at (init_line m + 1 + length m.next) 8) m.inv now now within refl) ∙ first (inv_holds m now)
+pub invariant_says : (w : Width) (file : List ℕ) (m : BooleanModule) (s : State) (f : Conjunct → Bool) → AllSay w m.vars s s f m.inv
+    → invariant w (job_of file m) s ≡ yes_no (list_all f m.inv)
+invariant_says w file m s f says =
+    ap (λ (o : Outcome). first_not_yes (o ∷ [])) (conjunction_says w m.vars (place_at (init_line m + 1 + length m.next) 8) m.inv s s f says) ∙ first (list_all f m.inv)
   where
     first : (b : Bool) → first_not_yes (yes_no b ∷ []) ≡ yes_no b
     first b =
         ap (λ (c : Bool). elim c as (λ _. Outcome) [ true ↦ first_not_yes [] | false ↦ yes_no b ]) (yes_or_no b)
         ∙ elim b as (λ v. (elim v as (λ _. Outcome) [ true ↦ first_not_yes [] | false ↦ yes_no v ]) ≡ yes_no v) [ true ↦ refl | false ↦ refl ]
+
+-- ---- the job at states of truth values
+
+truths_say : (w : Width) (names : List (List ℕ)) (cs : List Conjunct) (now next : List Bool) → SpeakOf (length now) cs → length next ≡ length now
+    → AllSay w names (state_of now) (state_of next) (holds_at now next) cs
+truths_say w names cs now next within alike k d lt p = conjunct_val w names p (get_or cs k d) now next (within k d lt) alike
+
+pub conjunct_act : (w : Width) (mk : Marks) (names : List (List ℕ)) (p : Place) (c : Conjunct) (now next : List Bool) → c.var < length now → length next ≡ length now
+    → (meaning w (conjunct_tree names p c) no_scope).act mk (state_of now) (state_of next) ≡ sure (holds_at now next c)
+conjunct_act w mk names p c now next lt alike = conjunct_does w mk names p c (state_of now) (state_of next) (holds_at now next c) (conjunct_val w names p c now next lt alike)
+
+pub conjunction_val : (w : Width) (names : List (List ℕ)) (p : Place) (cs : List Conjunct) (now next : List Bool) → SpeakOf (length now) cs → length next ≡ length now
+    → val w (conjunction_tree names p cs) no_scope (state_of now) (state_of next) ≡ yes_no (all_hold cs now next)
+conjunction_val w names p cs now next within alike =
+    conjunction_says w names p cs (state_of now) (state_of next) (holds_at now next) (truths_say w names cs now next within alike)
+
+pub conjunction_act : (w : Width) (mk : Marks) (names : List (List ℕ)) (p : Place) (cs : List Conjunct) (now next : List Bool) → SpeakOf (length now) cs → length next ≡ length now
+    → (meaning w (conjunction_tree names p cs) no_scope).act mk (state_of now) (state_of next) ≡ sure (all_hold cs now next)
+conjunction_act w mk names p cs now next within alike =
+    conjunction_does w mk names p cs (state_of now) (state_of next) (holds_at now next) (truths_say w names cs now next within alike)
+
+branches_say : (w : Width) (names : List (List ℕ)) (bs : List (List Conjunct)) (now next : List Bool) → All (SpeakOf (length now)) bs → length next ≡ length now
+    → All (AllSay w names (state_of now) (state_of next) (holds_at now next)) bs
+branches_say w names bs now next within alike k d lt = truths_say w names (get_or bs k d) now next (within k d lt) alike
+
+pub next_act : (w : Width) (mk : Marks) (names : List (List ℕ)) (line : ℕ) (bs : List (List Conjunct)) (now next : List Bool) → All (SpeakOf (length now)) bs → length next ≡ length now
+    → (meaning w (next_tree names line bs) no_scope).act mk (state_of now) (state_of next) ≡ sure (some_holds bs now next)
+next_act w mk names line bs now next within alike =
+    next_does w mk names line bs (state_of now) (state_of next) (holds_at now next) (branches_say w names bs now next within alike)
+
+pub start_is : (w : Width) (file : List ℕ) (m : BooleanModule) (now : List Bool) → SpeakOf (length now) m.init
+    → start w (job_of file m) (state_of now) ≡ yes_no (init_holds m now)
+start_is w file m now within = start_says w file m (state_of now) (holds_at now now) (truths_say w m.vars m.init now now within refl)
+
+pub next_is : (w : Width) (file : List ℕ) (m : BooleanModule) (now later : List Bool) → All (SpeakOf (length now)) m.next → length later ≡ length now
+    → next w (job_of file m) (state_of now) (state_of later) ≡ yes_no (next_holds m now later)
+next_is w file m now later within alike =
+    next_says w file m (state_of now) (state_of later) (holds_at now later) (branches_say w m.vars m.next now later within alike)
+
+pub invariant_is : (w : Width) (file : List ℕ) (m : BooleanModule) (now : List Bool) → SpeakOf (length now) m.inv
+    → invariant w (job_of file m) (state_of now) ≡ yes_no (inv_holds m now)
+invariant_is w file m now within = invariant_says w file m (state_of now) (holds_at now now) (truths_say w m.vars m.inv now now within refl)
 
 -- ---- executions
 
@@ -273,7 +320,7 @@ no_constants : (line : ℕ) (xs : List (List ℕ)) → length (filter (λ (d : D
 no_constants line [] = refl
 no_constants line (x ∷ xs) = no_constants (line + 2) xs
 
-length-declarations : (line : ℕ) (xs : List (List ℕ)) → length (declarations line xs) ≡ length xs
+pub length-declarations : (line : ℕ) (xs : List (List ℕ)) → length (declarations line xs) ≡ length xs
 length-declarations line [] = refl
 length-declarations line (x ∷ xs) = ap (λ (n : ℕ). suc n) (length-declarations (line + 2) xs)
 
@@ -293,7 +340,7 @@ state_is file m bits size = record {
   normal = normal_bits bits;
 }
 
-is_yes_as : (o : Outcome) (b : Bool) → o ≡ yes_no b → b ≡ true → IsYes o
+pub is_yes_as : (o : Outcome) (b : Bool) → o ≡ yes_no b → b ≡ true → IsYes o
 is_yes_as o b e t = ap is_yes e ∙ yes_or_no b ∙ t
 
 -- the steps of a run

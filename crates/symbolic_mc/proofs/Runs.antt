@@ -11,7 +11,8 @@ use Rattle.sat_formula.specs.Formula.{Satisfies}
 use Rattle.tla_meaning.specs.declared.boolean.BooleanModule.{BooleanModule}
 use Rattle.tla_meaning.specs.declared.boolean.Conjunct.{Conjunct}
 use Rattle.symbolic_mc.specs.Boolean.{IsRun, RunsOn, all_hold, some_holds, init_holds, next_holds}
-use Rattle.symbolic_mc.specs.Levels.{values_of, IsCode, IsLevel}
+use Rattle.symbolic_mc.specs.Levels.{values_of, IsCode, IsLevel, IsReached, AreReached}
+use Rattle.symbolic_mc.proofs.Reaching.{reached_next}
 
 -- ---- equal lists
 
@@ -63,18 +64,23 @@ values_length a code n e = length-map code (λ l. lit_value l a) ∙ e
 -- ---- levels
 
 pub level_first : (m : BooleanModule) (f0 f : Cnf) (code : List Lit) → IsCode f (length m.vars) code
-    → ((a : List Bool) → Satisfies a f → Satisfies a f0 × (init_holds m (values_of a code) ≡ true)) → IsLevel m f (code ∷ [])
-level_first m f0 f code is real = record {
+    → ((a : List Bool) → Satisfies a f → Satisfies a f0 × (init_holds m (values_of a code) ≡ true))
+    → ((runs : List (List Bool)) → IsRun m runs → length runs ≡ 1 → AreReached f (code ∷ []) runs) → IsLevel m f (code ∷ [])
+level_first m f0 f code is real reach = record {
   each = All-cons (IsCode f (length m.vars)) code [] is (All-nil (IsCode f (length m.vars)));
   real = λ a sat. (values_length a code (length m.vars) is.fills, (real a sat).1, tt);
+  reached = reach;
 }
 
 pub level_next : (m : BooleanModule) (f g : Cnf) (codes : List (List Lit)) (i : ℕ) (d : List Lit) (now next : List Lit) → IsLevel m f codes → length codes ≡ i + 1
     → now ≡ get_or codes i d → IsCode g (length m.vars) next → f.vars ≤ g.vars
     → ((a : List Bool) → Satisfies a g → Satisfies a f × (next_holds m (values_of a now) (values_of a next) ≡ true))
+    → ((a bits : List Bool) → length a ≡ f.vars → Satisfies a f → length bits ≡ length m.vars → next_holds m (values_of a now) bits ≡ true
+    → (more : List Bool) × IsReached g (a ++ more) next bits)
     → IsLevel m g (codes ++ next ∷ [])
-level_next m f g codes i d now next level count last is le real = record {
-  each = All-push (IsCode g (length m.vars)) codes next (All-weaker (IsCode f (length m.vars)) (IsCode g (length m.vars)) (λ code h. code_later f g (length m.vars) code le h) codes level.each) is;
+level_next m f g codes i d now next level count last is le real step = record {
+  each =
+      All-push (IsCode g (length m.vars)) codes next (All-weaker (IsCode f (length m.vars)) (IsCode g (length m.vars)) (λ code h. code_later f g (length m.vars) code le h) codes level.each) is;
   real = λ a sat.
       let facts = real a sat in
       let lt : i < length codes = omega arith in
@@ -84,6 +90,7 @@ level_next m f g codes i d now next level count last is le real = record {
       let size : length (map (values_of a) codes) ≡ i + 1 = length-map codes (values_of a) ∙ count in
       subst (λ (x : List (List Bool)). IsRun m x) (sym (map-append (values_of a) codes (next ∷ [])))
       (run_more m (map (values_of a) codes) (values_of a next) i size (level.real a facts.0) (values_length a next (length m.vars) is.fills) holds);
+  reached = reached_next m f g codes i d now next count last level.each level.reached step;
 }
 
 -- the code of a state of a level

@@ -16,7 +16,22 @@ pub record IsCode (f : Cnf) (vars : ℕ) (code : List Lit) : Type 0 where
   pub fills : length code ≡ vars
   pub below : All (IsBelow f.vars) code
 
--- the literals of the states of an execution of so many steps, in the formula of that level
+-- the assignment satisfies the formula and gives the literals these truth values
+pub record IsReached (f : Cnf) (a : List Bool) (code : List Lit) (bits : List Bool) : Type 0 where
+  pub size : length a ≡ f.vars
+  pub satisfied : Satisfies a f
+  pub decodes : values_of a code ≡ bits
+
+-- the same of the literals of several states
+pub record AreReached (f : Cnf) (codes : List (List Lit)) (runs : List (List Bool)) : Type 0 where
+  pub assignment : List Bool
+  pub size : length assignment ≡ f.vars
+  pub satisfied : Satisfies assignment f
+  pub decodes : map (values_of assignment) codes ≡ runs
+
+-- the literals of the states of an execution of so many steps, in the formula of that level: what satisfies the
+-- formula decodes to an execution, and each execution is decoded by what satisfies the formula
 pub record IsLevel (m : BooleanModule) (f : Cnf) (codes : List (List Lit)) : Type 0 where
   pub each : All (IsCode f (length m.vars)) codes
   pub real : (a : List Bool) → Satisfies a f → IsRun m (map (values_of a) codes)
+  pub reached : (runs : List (List Bool)) → IsRun m runs → length runs ≡ length codes → AreReached f codes runs

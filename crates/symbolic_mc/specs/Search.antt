@@ -12,6 +12,15 @@ is_false values clause = list_all (λ l. nat_lt l.var (length values) && not (li
 abbrev pub has_false : List Bool → List (List Lit) → Bool
 has_false values clauses = list_any (is_false values) clauses
 
+-- the assignment comes before all those that begin with these values: it is false where they first differ
+abbrev pub is_before : List Bool → List Bool → Bool
+is_before [] a = false
+is_before (v ∷ vs) [] = false
+is_before (true ∷ vs) (true ∷ as') = is_before vs as'
+is_before (true ∷ vs) (false ∷ as') = true
+is_before (false ∷ vs) (true ∷ as') = false
+is_before (false ∷ vs) (false ∷ as') = is_before vs as'
+
 -- the next values in order after those that begin with these: the last that is false becomes true, and all behind it
 -- are taken back
 pub record IsTurn (old new : List Bool) : Type 0 where

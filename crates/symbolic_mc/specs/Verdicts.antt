@@ -1,12 +1,12 @@
 -- What the verdict on a job says.
-use Rattle.std.specs.Prelude.{◌≡◌, ℕ, ◌+◌, ◌≤◌, List, length, None, Some, false}
+use Rattle.std.specs.Prelude.{◌≡◌, ℕ, ◌+◌, ◌<◌, ◌≤◌, List, length, None, Some, false}
 use Rattle.tla_meaning.specs.declared.boolean.BooleanModule.{BooleanModule}
 use Rattle.tla_meaning.specs.declared.job.Job.{Job}
 use Rattle.tla_meaning.specs.declared.job.State.{State}
-use Rattle.tla_meaning.specs.Executions.{IsExecution, invariant, last_of}
+use Rattle.tla_meaning.specs.Executions.{IsExecution, Errs, invariant, last_of}
 use Rattle.tla_meaning.specs.Form1.{job_of}
 use Rattle.tla_meaning.specs.Operators.{yes_no}
-use Rattle.symbolic_mc.specs.Report.{error_report}
+use Rattle.symbolic_mc.specs.Report.{error_report, clean_report}
 use Rattle.symbolic_mc.specs.declared.checking.Verdict.{Verdict}
 use Rattle.symbolic_mc.specs.declared.checking.Verdict.TheVariants.{Clean, Error}
 
@@ -22,10 +22,14 @@ pub record IsCounterexample (job : Job) (steps : ℕ) (states : List State) : Ty
 abbrev pub Breaks : BooleanModule → ℕ → List State → Type 0
 Breaks m steps states = (file : List ℕ) → IsCounterexample (job_of file m) steps states
 
--- the verdict on the executions of at most so many steps
+-- the level does not err, whatever the file is called
+abbrev pub NoError : BooleanModule → ℕ → Type 0
+NoError m n = (file : List ℕ) → Errs (job_of file m) n → ⊥
+
+-- the verdict on the executions of at most so many steps: no level errs, or this is the least that does
 abbrev pub IsVerdict : BooleanModule → ℕ → Verdict → Type 0
-IsVerdict m longest (Clean n) = n ≡ longest
-IsVerdict m longest (Error n states) = (n ≤ longest) × Breaks m n states
+IsVerdict m longest (Clean n) = (n ≡ longest) × ((k : ℕ) → k ≤ longest → NoError m k)
+IsVerdict m longest (Error n states) = (n ≤ longest) × Breaks m n states × ((k : ℕ) → k < n → NoError m k)
 
 -- the report of an error of a module
 pub record IsModuleError (m : BooleanModule) (longest : ℕ) (report : List ℕ) : Type 0 where
@@ -33,4 +37,10 @@ pub record IsModuleError (m : BooleanModule) (longest : ℕ) (report : List ℕ)
   pub states : List State
   pub within : level ≤ longest
   pub breaks : Breaks m level states
+  pub least : (k : ℕ) → k < level → NoError m k
   pub written : report ≡ error_report m.vars level states
+
+-- the report of a module where no level up to the longest errs
+pub record IsModuleClean (m : BooleanModule) (longest : ℕ) (report : List ℕ) : Type 0 where
+  pub none : (k : ℕ) → k ≤ longest → NoError m k
+  pub written : report ≡ clean_report longest

@@ -1,10 +1,10 @@
 // The levels in order, up to the first that errs.
-ghost use Rattle.std.specs.Prelude.{◌≡◌, ◌<◌, All, map, length, IfOk, IfSome};
+ghost use Rattle.std.specs.Prelude.{◌≡◌, ◌<◌, All, map, length, IfOk, IfSome, IfNone};
 ghost use Rattle.sat_formula.specs.Lit.{IsBelow};
 ghost use Rattle.tla_meaning.specs.Form1.{IsBooleanModule};
 ghost use Rattle.symbolic_mc.specs.Boolean.{state_of};
 ghost use Rattle.symbolic_mc.specs.Levels.{values_of};
-ghost use Rattle.symbolic_mc.specs.Verdicts.{Breaks, IsVerdict};
+ghost use Rattle.symbolic_mc.specs.Verdicts.{Breaks, IsVerdict, NoError};
 
 use crate::encoding::{Level, conjunction, encode};
 use crate::search::search;
@@ -46,7 +46,8 @@ fn counterexample(
     steps: u32,
 ) -> Result<Option<List<State>>, AllocError>
     requires { IsBooleanModule source.now }
-    ensures { IfOk result (λ found. IfSome found (Breaks source.now steps)) }
+    ensures found { IfOk result (λ found. IfSome found (Breaks source.now steps)) }
+    ensures none { IfOk result (λ found. IfNone found (NoError source.now steps)) }
 {
     let Level {
         mut formula,

@@ -1,11 +1,11 @@
 // A level as a formula: the literals of its states, and what an execution asks of them.
-ghost use Rattle.std.specs.Prelude.{◌≡◌, ◌+◌, ◌<◌, ◌≤◌, All, Bool, List, ℕ, true, not, map, length, slice_index_or, if◌then◌else◌, ◌&&◌, false, Some, IfOk, OnOk};
+ghost use Rattle.std.specs.Prelude.{◌≡◌, ◌+◌, ◌<◌, ◌≤◌, All, Bool, List, ℕ, true, not, map, length, ◌++◌, slice_index_or, if◌then◌else◌, ◌&&◌, false, Some, IfOk, OnOk};
 ghost use Rattle.std.specs.List.{list_all, list_any};
 ghost use Rattle.sat_formula.specs.Formula.{Extends, HasValue, Satisfies};
 ghost use Rattle.sat_formula.specs.Lit.{lit_value, IsBelow};
 ghost use Rattle.tla_meaning.specs.Form1.{IsBooleanModule};
 ghost use Rattle.symbolic_mc.specs.Boolean.{allows, holds_at, all_hold, some_holds, init_holds, next_holds, SpeakOf};
-ghost use Rattle.symbolic_mc.specs.Levels.{values_of, IsCode, IsLevel};
+ghost use Rattle.symbolic_mc.specs.Levels.{values_of, IsCode, IsLevel, IsReached};
 
 use sat_formula::{Formula, Lit};
 use std::alloc::{AllocError, Global};
@@ -54,6 +54,10 @@ fn start(
     ensures code { IfOk result (IsCode formula.new (length source.now.vars)) }
     ensures real { IfOk result (λ state. (a : List Bool) → Satisfies a formula.new
         → Satisfies a formula.old × (init_holds source.now (values_of a state) ≡ true)) }
+    ensures size { OnOk result (formula.new.vars ≡ formula.old.vars + length source.now.vars) }
+    ensures reached { IfOk result (λ state. (a bits : List Bool) → length a ≡ formula.old.vars → Satisfies a formula.old
+        → length bits ≡ length source.now.vars → init_holds source.now bits ≡ true
+        → Satisfies (a ++ bits) formula.new × (values_of (a ++ bits) state ≡ bits)) }
 {
     let state = fresh_state(alloc, formula, source.vars.len())?;
     let asked = literals(
@@ -79,6 +83,9 @@ fn follow(
     ensures grown { formula.old.vars ≤ formula.new.vars }
     ensures real { IfOk result (λ next. (a : List Bool) → Satisfies a formula.new
         → Satisfies a formula.old × (next_holds source.now (values_of a now.now) (values_of a next) ≡ true)) }
+    ensures reached { IfOk result (λ next. (a bits : List Bool) → length a ≡ formula.old.vars → Satisfies a formula.old
+        → length bits ≡ length source.now.vars → next_holds source.now (values_of a now.now) bits ≡ true
+        → (more : List Bool) × IsReached formula.new (a ++ more) next bits) }
 {
     let next = fresh_state(alloc, formula, source.vars.len())?;
     let some = some_branch(alloc, formula, source.next.as_slice(), now, next.as_slice())?;
@@ -155,6 +162,8 @@ fn require_all(formula: &mut Formula, lits: &[Lit]) -> Result<(), AllocError>
     ensures vars { formula.new.vars ≡ formula.old.vars }
     ensures real { OnOk result ((a : List Bool) → Satisfies a formula.new
         → Satisfies a formula.old × (list_all (λ l. lit_value l a) lits.now ≡ true)) }
+    ensures reached { OnOk result ((a : List Bool) → Satisfies a formula.old
+        → list_all (λ l. lit_value l a) lits.now ≡ true → Satisfies a formula.new) }
 {
     for lit in lits {
         formula.add(&[*lit])?;
@@ -166,6 +175,9 @@ fn require_all(formula: &mut Formula, lits: &[Lit]) -> Result<(), AllocError>
 #[tactic(auto, using(sat_formula::proofs::Extension::gates))]
 fn fresh_state(alloc: Global, formula: &mut Formula, vars: usize) -> Result<List<Lit>, AllocError>
     ensures code { IfOk result (IsCode formula.new vars) }
+    ensures size { OnOk result (formula.new.vars ≡ formula.old.vars + vars) }
+    ensures free { IfOk result (λ state. (a bits : List Bool) → length a ≡ formula.old.vars → Satisfies a formula.old
+        → length bits ≡ vars → Satisfies (a ++ bits) formula.new × (values_of (a ++ bits) state ≡ bits)) }
     ensures extends { Extends formula.old formula.new }
     ensures grown { formula.old.vars ≤ formula.new.vars }
 {

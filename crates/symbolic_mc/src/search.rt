@@ -1,5 +1,5 @@
 // A plain complete search for an assignment.
-ghost use Rattle.std.specs.Prelude.{◌≡◌, ◌<◌, ℕ, All, true, false, length, slice_index_or, IfOk, IfSome, IfNone};
+ghost use Rattle.std.specs.Prelude.{◌≡◌, ◌<◌, ℕ, All, Bool, List, true, false, length, slice_index_or, IfOk, IfSome, IfNone};
 ghost use Rattle.std.specs.Bool.{OnTrue, OnFalse};
 ghost use Rattle.sat_formula.specs.Clause.{AllTrue, NamesBelow};
 ghost use Rattle.symbolic_mc.specs.Search.{is_false, has_false, IsTurn};
@@ -13,6 +13,8 @@ pub(crate) fn search(alloc: Global, cnf: &Cnf) -> Result<Option<Assignment>, All
     requires { NamesBelow cnf.now.vars cnf.now.clauses }
     ensures fills { IfOk result (λ found. IfSome found (λ a. length a ≡ cnf.now.vars)) }
     ensures satisfies { IfOk result (λ found. IfSome found (λ a. AllTrue a cnf.now.clauses)) }
+    ensures none { IfOk result (λ found. IfNone found
+        ((a : List Bool) → length a ≡ cnf.now.vars → AllTrue a cnf.now.clauses → ⊥)) }
 {
     let mut values = Vec::new(alloc);
     'values: loop {

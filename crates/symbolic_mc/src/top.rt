@@ -3,8 +3,8 @@ ghost use Rattle.std.specs.Prelude.{◌≡◌, ◌⊎◌, ℕ, ◌<◌, ◌≤�
 ghost use Rattle.std.specs.Io.KnownBytes.{Appends};
 ghost use Rattle.tla_meaning.specs.Form1.{IsBooleanModule, without_folder};
 ghost use Rattle.tool_outside.specs.Causes.{Holds, WritesPrefix};
-ghost use Rattle.symbolic_mc.specs.Top.{IsErrorReport, FindsError, WritesError};
-ghost use Rattle.symbolic_mc.specs.Verdicts.{IsModuleError};
+ghost use Rattle.symbolic_mc.specs.Top.{IsErrorReport, IsCleanReport, FindsError, FindsNone, WritesError, WritesClean};
+ghost use Rattle.symbolic_mc.specs.Verdicts.{IsModuleError, IsModuleClean};
 
 use crate::checking::{Verdict, check};
 use crate::lines::write_lines;
@@ -29,6 +29,7 @@ const NOT_BUILT: &[u8] = b"refused: form is not built\n";
 /// where a write failed, and 50 for want of memory. No file is changed.
 pub fn run<F: Files, K: Sink>(alloc: Global, words: &[String], files: &mut F, out: &mut K) -> u8
     ensures error { result ≡ 12 → WritesError words.now (F.held files.old) (K.written out.old) (K.written out.new) }
+    ensures clean { result ≡ 0 → WritesClean words.now (F.held files.old) (K.written out.old) (K.written out.new) }
     ensures files_stay { F.held files.new ≡ F.held files.old }
 {
     match decide(alloc, words, files) {
@@ -46,6 +47,7 @@ struct Answer {
 
 fn decide<F: Files>(alloc: Global, words: &[String], files: &mut F) -> Result<Answer, AllocError>
     ensures error { IfOk result (λ answer. answer.status ≡ 12 → FindsError words.now (F.held files.old) answer.report.items) }
+    ensures clean { IfOk result (λ answer. answer.status ≡ 0 → FindsNone words.now (F.held files.old) answer.report.items) }
     ensures files_stay { F.held files.new ≡ F.held files.old }
 {
     let Some(request) = requested(words) else {
@@ -72,8 +74,10 @@ fn answered(status: u8, report: Result<Vec<u8>, AllocError>) -> Result<Answer, A
 
 // The answer to the bytes of a file.
 fn checked(alloc: Global, request: &Request<'_>, bytes: &[u8]) -> Result<Answer, AllocError>
-    ensures { IfOk result (λ answer. answer.status ≡ 12
+    ensures error { IfOk result (λ answer. answer.status ≡ 12
         → IsErrorReport request.now.file.now request.now.length bytes.now answer.report.items) }
+    ensures clean { IfOk result (λ answer. answer.status ≡ 0
+        → IsCleanReport request.now.file.now request.now.length bytes.now answer.report.items) }
 {
     match read_module(alloc, bytes) {
         Ok(source) => {
@@ -91,7 +95,8 @@ fn checked(alloc: Global, request: &Request<'_>, bytes: &[u8]) -> Result<Answer,
 // The answer by the verdict.
 fn decided(alloc: Global, source: &BooleanModule, longest: u32) -> Result<Answer, AllocError>
     requires { IsBooleanModule source.now }
-    ensures { IfOk result (λ answer. answer.status ≡ 12 → IsModuleError source.now longest answer.report.items) }
+    ensures error { IfOk result (λ answer. answer.status ≡ 12 → IsModuleError source.now longest answer.report.items) }
+    ensures clean { IfOk result (λ answer. answer.status ≡ 0 → IsModuleClean source.now longest answer.report.items) }
 {
     match check(alloc, source, longest)? {
         Verdict::Clean(length) => {

@@ -8,4 +8,5 @@ abbrev pub invariant-loop-lit : goal.invariant-loop-lit
 invariant-loop-lit l = record {
   vars : l.formula.vars ≡ l.initial.formula.vars;
   real : (a : List Bool) → Satisfies a l.formula → Satisfies a l.initial.formula × (list_all (λ x. lit_value x a) (take l.lit-index l.lits) ≡ true);
+  reached : (a : List Bool) → Satisfies a l.initial.formula → list_all (λ x. lit_value x a) (take l.lit-index l.lits) ≡ true → Satisfies a l.formula;
 }

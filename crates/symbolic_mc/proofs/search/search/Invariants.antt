@@ -1,9 +1,13 @@
 use Rattle.std.proofs.Common.{◌≤◌, length}
+use Rattle.symbolic_mc.proofs.Passed.{Passed}
 use Rattle.symbolic_mc.proofs.Work.{work}
 use Rattle.symbolic_mc.proofs.search.search.Given as goal
 
 abbrev pub invariant-values : goal.invariant-values
-invariant-values l = length l.values.items ≤ l.cnf.vars
+invariant-values l = record {
+  fits : length l.values.items ≤ l.cnf.vars;
+  passed : Passed l.cnf.vars l.cnf.clauses l.values.items;
+}
 
 abbrev pub decreases-values : goal.decreases-values
 decreases-values l = work l.cnf.vars l.values.items

@@ -1,0 +1,4 @@
+pub mod Follows
+pub mod Marks
+pub mod Status
+pub mod Certificate

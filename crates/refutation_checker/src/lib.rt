@@ -1,0 +1,26 @@
+//! A checker of refutation logs, which is what a user trusts who trusts nothing else.
+//!
+//! A log is a list of clauses. Each stands with hints: the numbers of earlier clauses that force
+//! it by unit propagation. `check` says whether each step follows and the last is the empty
+//! clause; its yes implies that no assignment satisfies the formula. (Cruz-Filipe, Heule, Hunt,
+//! Kaufmann and Schneider-Kamp, "Efficient Certified RAT Verification", 2017: the format LRAT,
+//! here without deletions and without resolution asymmetric tautologies.)
+#![tactic(auto)]
+
+mod answers;
+mod checking;
+mod following;
+mod log;
+mod printing;
+mod section;
+#[cfg(test)]
+mod tests;
+mod trail;
+
+pub use answers::Check;
+pub use checking::check;
+pub use following::follows;
+pub use log::{Log, Step};
+pub use printing::{certificate_head, print_section};
+pub use section::{Certificate, QueryName, Section};
+pub use trail::Trail;
