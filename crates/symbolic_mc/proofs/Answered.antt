@@ -1,82 +1,121 @@
--- From a module's error to what the top call says of it.
-use Rattle.std.proofs.Common.{◌≡◌, ℕ, ◌+◌, ◌<◌, inl, inr, ◌⊎◌, List, [], ◌∷◌, ◌++◌, map, Option, None, Some, Result, Ok, Err, refl, sym, ◌∙◌, ap, subst, arith, codes}
-use Rattle.std.specs.Prelude.{IfOk, IfSome, String}
+-- From the verdict on a module to the answer of the program.
+use Rattle.std.proofs.Common.{◌≡◌, ℕ, ◌+◌, ◌≤◌, List, [], ◌∷◌, ◌++◌, map, length, Option, None, Some, refl, sym, ◌∙◌, ap, subst, codes}
+use Rattle.std.specs.Prelude.{IfSome, String}
 use Rattle.std.specs.declared.alloc.Global.{Global}
-use Rattle.std.specs.Io.KnownBytes.{Appends}
-use Rattle.tool_outside.specs.Causes.{Holds}
-use Rattle.tool_outside.specs.Outside.{Folder, file_at}
+use Rattle.tool_outside.specs.Causes.{Holds, IsLong, HandedOut}
+use Rattle.tool_outside.specs.Outside.{Folder, Rose, file_at}
 use Rattle.tla_meaning.specs.declared.boolean.BooleanModule.{BooleanModule}
 use Rattle.tla_meaning.specs.declared.expr.Decl.{Decl}
-use Rattle.tla_meaning.specs.Form1.{IsBooleanModule, module_text, without_folder, declarations, job_of}
-use Rattle.symbolic_mc.specs.Report.{error_report}
-use Rattle.symbolic_mc.specs.Top.{IsErrorReport, IsCleanReport, FindsError, FindsNone}
-use Rattle.symbolic_mc.specs.Verdicts.{IsModuleError, IsModuleClean}
+use Rattle.tla_meaning.specs.declared.job.Job.{Job}
+use Rattle.tla_meaning.specs.Form1.{IsBooleanModule, IsForm1, module_text, without_folder, declarations, job_of}
+use Rattle.symbolic_mc.specs.declared.answer.Answer.{Answer}
+use Rattle.symbolic_mc.specs.declared.answer.Answer.TheVariants.{Usage, ReadFault, TooLong, Missing, NotBuilt, Checked}
+use Rattle.symbolic_mc.specs.declared.checking.Verdict.{Verdict}
+use Rattle.symbolic_mc.specs.declared.checking.Verdict.TheVariants.{Clean, Error}
+use Rattle.symbolic_mc.specs.Report.{error_report, report_of}
+use Rattle.symbolic_mc.specs.Naming.{IsModuleOf}
+use Rattle.symbolic_mc.specs.Top.{IsOnlyForm1, IsErrorReport, IsCleanReport, IsFileAnswer, IsAnswer, IsRefusal, NoFile, NoForm, IsReadFault, Failed, Longer, module_limit}
+use Rattle.symbolic_mc.specs.Verdicts.{IsVerdict}
 use Rattle.symbolic_mc.specs.Words.{request_of}
-
-pub on_ok : {X E : Type 0} (r : Result X E) (P Q : X → Type 0) → ((x : X) → P x → Q x) → IfOk r P → IfOk r Q
-on_ok (Ok x) P Q f h = f x h
-on_ok (Err e) P Q f h = tt
 
 declared_names : (line : ℕ) (xs : List (List ℕ)) → map (λ (d : Decl). d.name) (declarations line xs) ≡ xs
 declared_names line [] = refl
 declared_names line (x ∷ xs) = ap (λ (ys : List (List ℕ)). x ∷ ys) (declared_names (line + 2) xs)
 
--- the error of a module is the error of each file that spells it
-pub file_error : (m : BooleanModule) (file : List ℕ) (longest : ℕ) (bytes report : List ℕ) → IsBooleanModule m → without_folder file ≡ m.name ++ codes ".tla"
-    → bytes ≡ module_text m → IsModuleError m longest report → IsErrorReport file longest bytes report
-file_error m file longest bytes report wf named spelled error = record {
-  job = job_of file m;
+-- each module that has the bytes as its text is this one
+abbrev pub IsSource : BooleanModule → List ℕ → Type 0
+IsSource m bytes = (other : BooleanModule) → IsBooleanModule other → bytes ≡ module_text other → other ≡ m
+
+only_form : (m : BooleanModule) (file bytes : List ℕ) → IsBooleanModule m → without_folder file ≡ m.name ++ codes ".tla"
+    → bytes ≡ module_text m → IsSource m bytes → IsOnlyForm1 file (job_of file m) bytes
+only_form m file bytes wf named spelled source = record {
   form = record { source = m; well_formed = wf; named = named; spelled = spelled; job_is = refl };
-  level = error.level;
-  states = error.states;
-  within = error.within;
-  counterexample = error.breaks file;
-  least = λ k lt. error.least k lt file;
-  written = error.written ∙ ap (λ (xs : List (List ℕ)). error_report xs error.level error.states) (sym (declared_names 3 m.vars));
+  only = λ other form. form.job_is ∙ ap (job_of file) (source form.source form.well_formed form.spelled);
 }
 
-handed_out : (held : Option Folder) (file bytes : List ℕ) (read : Option (List ℕ)) → read ≡ Some bytes → IfSome held (λ folder. read ≡ file_at folder file) → Holds held file (Some bytes)
-handed_out None file bytes read some h = tt
-handed_out (Some folder) file bytes read some h = sym h ∙ some
+-- the verdict on a module is the answer to each file that spells it
+pub file_verdict : (m : BooleanModule) (file : List ℕ) (longest : ℕ) (bytes : List ℕ) (verdict : Verdict) → IsBooleanModule m
+    → without_folder file ≡ m.name ++ codes ".tla" → bytes ≡ module_text m → IsSource m bytes → IsVerdict m longest verdict
+    → IsFileAnswer file longest bytes (Checked m.vars verdict)
+file_verdict m file longest bytes (Clean n) wf named spelled source is = record {
+  job = job_of file m;
+  form = only_form m file bytes wf named spelled source;
+  none = λ k within. is.1 k within file;
+  written = ap (λ (k : ℕ). report_of (Checked m.vars (Clean k))) is.0;
+}
+file_verdict m file longest bytes (Error n states) wf named spelled source is = record {
+  job = job_of file m;
+  form = only_form m file bytes wf named spelled source;
+  level = n;
+  states = states;
+  within = is.0;
+  counterexample = is.1 file;
+  least = λ k lt. is.2 k lt file;
+  written = ap (λ (xs : List (List ℕ)). error_report xs n states) (sym (declared_names 3 m.vars));
+}
 
-pub words_error : (words : List (String Global)) (held : Option Folder) (file : List ℕ) (longest : ℕ) (bytes seen report : List ℕ) (read : Option (List ℕ))
-    → Some (file, longest) ≡ request_of words → read ≡ Some bytes → IfSome held (λ folder. read ≡ file_at folder file) → seen ≡ bytes
-    → IsErrorReport file longest seen report → FindsError words held report
-words_error words held file longest bytes seen report read asked some handed same error = record {
+-- a module of another name than the file's
+pub other_name : (m : BooleanModule) (file bytes : List ℕ) → IsSource m bytes → ((without_folder file ≡ m.name ++ codes ".tla") → ⊥)
+    → (job : Job) → IsForm1 file job bytes → ⊥
+other_name m file bytes source differs job form =
+    differs (form.named ∙ ap (λ (x : BooleanModule). x.name ++ codes ".tla") (source form.source form.well_formed form.spelled))
+
+pub no_source : (file bytes : List ℕ) → ((m : BooleanModule) → IsBooleanModule m → bytes ≡ module_text m → ⊥)
+    → (job : Job) → IsForm1 file job bytes → ⊥
+no_source file bytes none job form = none form.source form.well_formed form.spelled
+
+-- ---- the bytes that were handed out
+
+holds_read : (held : Option Folder) (file : List ℕ) (read there : Option (List ℕ)) → read ≡ there
+    → IfSome held (λ folder. read ≡ file_at folder file) → Holds held file there
+holds_read None file read there same h = tt
+holds_read (Some folder) file read there same h = sym h ∙ same
+
+pub handed_out : (held : Option Folder) (file bytes : List ℕ) (read : Option (List ℕ)) → read ≡ Some bytes
+    → IfSome held (λ folder. read ≡ file_at folder file) → length bytes ≤ module_limit → HandedOut held file module_limit bytes
+handed_out held file bytes read some h within = record { told = holds_read held file read (Some bytes) some h; within = within }
+
+pub not_held : (held : Option Folder) (file : List ℕ) (read : Option (List ℕ)) → read ≡ None
+    → IfSome held (λ folder. read ≡ file_at folder file) → Holds held file None
+not_held held file read none h = holds_read held file read None none h
+
+-- the answer to the bytes of the file that the words name
+pub words_answer : (words : List (String Global)) (held : Option Folder) (before now : ℕ) (file : List ℕ) (longest : ℕ) (bytes seen : List ℕ) (answer : Answer)
+    → request_of words ≡ Some (file, longest) → HandedOut held file module_limit bytes → seen ≡ bytes → IsFileAnswer file longest seen answer
+    → IsAnswer words held before now answer
+words_answer words held before now file longest bytes seen Usage asked handed same is = absurd is
+words_answer words held before now file longest bytes seen (ReadFault name) asked handed same is = absurd is
+words_answer words held before now file longest bytes seen (TooLong name) asked handed same is = absurd is
+words_answer words held before now file longest bytes seen (Missing name) asked handed same is = absurd is
+words_answer words held before now file longest bytes seen NotBuilt asked handed same is =
+    NoForm file bytes longest asked handed (subst (λ (x : List ℕ). (job : Job) → IsForm1 file job x → ⊥) same is)
+words_answer words held before now file longest bytes seen (Checked names (Clean n)) asked handed same is = record {
   file = file;
   longest = longest;
-  asked = sym asked;
+  asked = asked;
   bytes = bytes;
-  handed = handed_out held file bytes read some handed;
-  error = subst (λ (x : List ℕ). IsErrorReport file longest x report) same error;
+  handed = handed;
+  clean = subst (λ (x : List ℕ). IsCleanReport file longest x (report_of (Checked names (Clean n)))) same is;
 }
-
-pub file_clean : (m : BooleanModule) (file : List ℕ) (longest : ℕ) (bytes report : List ℕ) → IsBooleanModule m → without_folder file ≡ m.name ++ codes ".tla"
-    → bytes ≡ module_text m → IsModuleClean m longest report → IsCleanReport file longest bytes report
-file_clean m file longest bytes report wf named spelled clean = record {
-  job = job_of file m;
-  form = record { source = m; well_formed = wf; named = named; spelled = spelled; job_is = refl };
-  none = λ k within. clean.none k within file;
-  written = clean.written;
-}
-
-pub words_clean : (words : List (String Global)) (held : Option Folder) (file : List ℕ) (longest : ℕ) (bytes seen report : List ℕ) (read : Option (List ℕ))
-    → Some (file, longest) ≡ request_of words → read ≡ Some bytes → IfSome held (λ folder. read ≡ file_at folder file) → seen ≡ bytes
-    → IsCleanReport file longest seen report → FindsNone words held report
-words_clean words held file longest bytes seen report read asked some handed same clean = record {
+words_answer words held before now file longest bytes seen (Checked names (Error n states)) asked handed same is = record {
   file = file;
   longest = longest;
-  asked = sym asked;
+  asked = asked;
   bytes = bytes;
-  handed = handed_out held file bytes read some handed;
-  clean = subst (λ (x : List ℕ). IsCleanReport file longest x report) same clean;
+  handed = handed;
+  error = subst (λ (x : List ℕ). IsErrorReport file longest x (report_of (Checked names (Error n states)))) same is;
 }
 
--- a status other than those of a failed write has its whole report
-pub told : (P : List ℕ → Type 0) (old new : Option (List ℕ)) (result status code : ℕ) (report seen : List ℕ) → code < 41
-    → (result ≡ 41) ⊎ (result ≡ 50) ⊎ ((result ≡ status) × Appends old new seen) → seen ≡ report
-    → (status ≡ code → P report) → result ≡ code → (written : List ℕ) × P written × Appends old new written
-told P old new result status code report seen small (inl is) same cause coded = absurd (omega arith)
-told P old new result status code report seen small (inr (inl is)) same cause coded = absurd (omega arith)
-told P old new result status code report seen small (inr (inr whole)) same cause coded =
-    (report, cause (sym whole.0 ∙ coded), subst (Appends old new) same whole.1)
+pub no_file : (words : List (String Global)) (held : Option Folder) (file name seen : List ℕ) (longest : ℕ) → request_of words ≡ Some (file, longest)
+    → Holds held file None → IsModuleOf file seen → name ≡ seen → IsRefusal words held (Missing name)
+no_file words held file name seen longest asked none is same = NoFile file name longest asked none (subst (IsModuleOf file) (sym same) is)
+
+pub read_failed : (words : List (String Global)) (held : Option Folder) (before now : ℕ) (file name : List ℕ) (longest : ℕ)
+    → request_of words ≡ Some (file, longest) → Rose before now → name ≡ file → IsReadFault words held before now (ReadFault name)
+read_failed words held before now file name longest asked rose same =
+    subst (λ (x : List ℕ). IsReadFault words held before now (ReadFault x)) (sym same) (Failed file longest asked rose)
+
+pub too_long : (words : List (String Global)) (held : Option Folder) (before now : ℕ) (file name : List ℕ) (longest : ℕ)
+    → request_of words ≡ Some (file, longest) → IsLong held file module_limit → name ≡ file → IsReadFault words held before now (TooLong name)
+too_long words held before now file name longest asked long same =
+    subst (λ (x : List ℕ). IsReadFault words held before now (TooLong x)) (sym same) (Longer file longest asked long)

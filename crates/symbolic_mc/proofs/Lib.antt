@@ -2,13 +2,15 @@ pub mod Answered
 pub mod Decided
 pub mod Errors
 pub mod Found
+pub mod Layouts
 pub mod Literals
 pub mod Meaning
 pub mod Numbers
 pub mod Passed
 pub mod Reaching
+pub mod Readings
 pub mod Runs
 pub mod Shapes
-pub mod Spelled
 pub mod Texts
+pub mod Told
 pub mod Work

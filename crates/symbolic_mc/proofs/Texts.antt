@@ -1,9 +1,9 @@
 -- Pieces of a text, one behind another.
-use Rattle.std.proofs.Common.{◌≡◌, ℕ, zero, suc, ◌+◌, ◌-◌, ◌<◌, ◌≤◌, Bool, true, false, List, [], ◌∷◌, ◌++◌, length, take, drop, get_or, Option, Some, None, refl, sym, ◌∙◌, ap, subst, arith, append_assoc, length-append}
-use Rattle.std.specs.Prelude.{flat_map, ◌||◌, if◌then◌else◌, MatchOption, IfSome, unwrap_or, bytes_eq}
+use Rattle.std.proofs.Common.{◌≡◌, ℕ, zero, suc, ◌+◌, ◌-◌, ◌<◌, ◌≤◌, Bool, true, false, List, [], ◌∷◌, ◌++◌, length, take, drop, get_or, Option, Some, None, Result, Ok, Err, refl, sym, ◌∙◌, ap, subst, arith, append_assoc, length-append, codes}
+use Rattle.std.specs.Prelude.{flat_map, ◌||◌, if◌then◌else◌, MatchOption, IfOk, IfSome, IfNone, unwrap_or, bytes_eq, IsTrue}
 use Rattle.std.specs.List.{join_by, list_any}
 use Rattle.std.proofs.lemmas.Grind.{flat_map-append}
-use Rattle.std.proofs.lemmas.List.{append-nil, take_all, length-drop}
+use Rattle.std.proofs.lemmas.List.{append-nil, append_cancel_right, take_all, length-drop}
 use Rattle.std.proofs.lemmas.Bool.{or_right, eq-eqb}
 use Rattle.std.proofs.lemmas.Option.{slice_get_read}
 use Rattle.std.proofs.lemmas.Slice.Eq.{bytes_eq-Decides}
@@ -62,9 +62,26 @@ no_slash xs at none all =
 
 -- ---- beginnings and ends
 
-pub weaker : {X : Type 0} (o : Option X) (A : Type 0) (P Q : X → Type 0) → ((x : X) → P x → Q x) → MatchOption o A P → IfSome o Q
-weaker None A P Q f h = tt
-weaker (Some x) A P Q f h = f x h
+pub on_some : {X : Type 0} (o : Option X) (A : Type 0) (P : X → Type 0) → MatchOption o A P → IfSome o P
+on_some None A P h = tt
+on_some (Some x) A P h = h
+
+pub on_ok : {X E : Type 0} (r : Result X E) (P Q : X → Type 0) → ((x : X) → P x → Q x) → IfOk r P → IfOk r Q
+on_ok (Ok x) P Q f h = f x h
+on_ok (Err e) P Q f h = tt
+
+pub on_none : {X : Type 0} (o : Option X) (A : Type 0) (P : X → Type 0) → MatchOption o A P → IfNone o A
+on_none None A P h = h
+on_none (Some x) A P h = tt
+
+-- the file has the name that stands before its ending
+pub named_so : (result : Bool) (file seen whole stem name : List ℕ) → result ≡ bytes_eq stem name → whole ≡ stem ++ codes ".tla" → whole ≡ without_folder seen → seen ≡ file
+    → (IsTrue result → without_folder file ≡ name ++ codes ".tla") × (without_folder file ≡ name ++ codes ".tla" → IsTrue result)
+named_so result file seen whole stem name same ends cut is =
+    let parts : without_folder file ≡ stem ++ codes ".tla" = sym (cut ∙ ap without_folder is) ∙ ends in (
+      (λ yes. parts ∙ ap (λ (x : List ℕ). x ++ codes ".tla") ((bytes_eq-Decides stem name).0 (sym same ∙ yes))),
+      λ e. same ∙ (bytes_eq-Decides stem name).1 (append_cancel_right stem name (codes ".tla") (sym parts ∙ e)),
+    )
 
 -- ---- names
 

@@ -1,7 +1,11 @@
 pub mod Boolean
+pub mod Layout
 pub mod Levels
+pub mod Naming
+pub mod Reading
 pub mod Report
 pub mod Search
+pub mod Told
 pub mod Top
 pub mod Verdicts
 pub mod Words

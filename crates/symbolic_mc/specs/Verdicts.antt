@@ -6,7 +6,6 @@ use Rattle.tla_meaning.specs.declared.job.State.{State}
 use Rattle.tla_meaning.specs.Executions.{IsExecution, Errs, invariant, last_of}
 use Rattle.tla_meaning.specs.Form1.{job_of}
 use Rattle.tla_meaning.specs.Operators.{yes_no}
-use Rattle.symbolic_mc.specs.Report.{error_report, clean_report}
 use Rattle.symbolic_mc.specs.declared.checking.Verdict.{Verdict}
 use Rattle.symbolic_mc.specs.declared.checking.Verdict.TheVariants.{Clean, Error}
 
@@ -30,17 +29,3 @@ NoError m n = (file : List ℕ) → Errs (job_of file m) n → ⊥
 abbrev pub IsVerdict : BooleanModule → ℕ → Verdict → Type 0
 IsVerdict m longest (Clean n) = (n ≡ longest) × ((k : ℕ) → k ≤ longest → NoError m k)
 IsVerdict m longest (Error n states) = (n ≤ longest) × Breaks m n states × ((k : ℕ) → k < n → NoError m k)
-
--- the report of an error of a module
-pub record IsModuleError (m : BooleanModule) (longest : ℕ) (report : List ℕ) : Type 0 where
-  pub level : ℕ
-  pub states : List State
-  pub within : level ≤ longest
-  pub breaks : Breaks m level states
-  pub least : (k : ℕ) → k < level → NoError m k
-  pub written : report ≡ error_report m.vars level states
-
--- the report of a module where no level up to the longest errs
-pub record IsModuleClean (m : BooleanModule) (longest : ℕ) (report : List ℕ) : Type 0 where
-  pub none : (k : ℕ) → k ≤ longest → NoError m k
-  pub written : report ≡ clean_report longest

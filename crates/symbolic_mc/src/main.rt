@@ -7,9 +7,11 @@ use std::io::{self, ErrorKind};
 use std::process::ExitCode;
 use tool_outside::{HostFiles, HostSink};
 
+mod answer;
 mod checking;
 mod encoding;
 mod lines;
+mod naming;
 mod pieces;
 mod reader;
 mod report;

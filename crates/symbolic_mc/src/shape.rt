@@ -4,6 +4,7 @@ ghost use Rattle.std.specs.List.{list_all};
 ghost use Rattle.tla_meaning.specs.Form1.{IsBooleanModule, gives_each, is_guard, is_branch, is_plain_name, are_different, is_among, defined_names};
 ghost use Rattle.tla_values.specs.Names.{is_letter};
 
+use crate::pieces::is_letter;
 use tla_meaning::{BooleanModule, Conjunct};
 use tla_values::{List, Text, is_name};
 
@@ -52,12 +53,6 @@ fn are_letters(bytes: &[u8]) -> bool
     ensures { result ≡ list_all is_letter bytes.now }
 {
     bytes.iter().all(|byte| is_letter(*byte))
-}
-
-fn is_letter(byte: u8) -> bool
-    ensures { result ≡ is_letter byte }
-{
-    (b'A' <= byte && byte <= b'Z') || (b'a' <= byte && byte <= b'z')
 }
 
 fn is_among(name: &[u8], names: &[Text]) -> bool

@@ -1,4 +1,5 @@
 use crate::run;
+use std::alloc::Global;
 use std::process::Abort;
 use std::test::Fail;
 use tla_values::List;
@@ -26,56 +27,401 @@ Inv == x = FALSE
 ====
 ";
 
-// What the program writes for these words, where the file has these bytes.
+const UNEQUAL_TOGGLE: &str = "---- MODULE Toggle ----
+VARIABLE
+  \\* @type: Bool;
+  x
+Init == x = FALSE
+Next == \\/ x = FALSE /\\ x' = TRUE
+        \\/ x = TRUE /\\ x' = FALSE
+Inv == x # TRUE
+====
+";
+
+// Init gives x both values: no state starts, and the layout has no such text.
+const NO_START: &str = "---- MODULE Toggle ----
+VARIABLE
+  \\* @type: Bool;
+  x
+Init == x = FALSE /\\ x = TRUE
+Next == \\/ x = FALSE /\\ x' = TRUE
+Inv == x = FALSE
+====
+";
+
+// Next asks both values of y at once, and so is never enabled.
+const STUCK: &str = "---- MODULE Toggle ----
+VARIABLES
+  \\* @type: Bool;
+  x,
+  \\* @type: Bool;
+  y
+Init == x = FALSE /\\ y \\in BOOLEAN
+Next == \\/ y = FALSE /\\ y = TRUE /\\ x' = TRUE /\\ y' \\in BOOLEAN
+Inv == x = FALSE
+====
+";
+
+// Sixteen variables: a guard on the first, and all become TRUE or stay free.
+const SIXTEEN: &str = "---- MODULE Toggle ----
+VARIABLES
+  \\* @type: Bool;
+  a,
+  \\* @type: Bool;
+  b,
+  \\* @type: Bool;
+  c,
+  \\* @type: Bool;
+  d,
+  \\* @type: Bool;
+  e,
+  \\* @type: Bool;
+  f,
+  \\* @type: Bool;
+  g,
+  \\* @type: Bool;
+  h,
+  \\* @type: Bool;
+  i,
+  \\* @type: Bool;
+  j,
+  \\* @type: Bool;
+  k,
+  \\* @type: Bool;
+  l,
+  \\* @type: Bool;
+  m,
+  \\* @type: Bool;
+  n,
+  \\* @type: Bool;
+  o,
+  \\* @type: Bool;
+  p
+Init == a = FALSE /\\ b = FALSE /\\ c = FALSE /\\ d = FALSE /\\ e = FALSE /\\ f = FALSE /\\ g = FALSE /\\ h = FALSE /\\ i = FALSE /\\ j = FALSE /\\ k = FALSE /\\ l = FALSE /\\ m = FALSE /\\ n = FALSE /\\ o = FALSE /\\ p = FALSE
+Next == \\/ a = FALSE /\\ a' = TRUE /\\ b' = FALSE /\\ c' = FALSE /\\ d' = FALSE /\\ e' = FALSE /\\ f' = FALSE /\\ g' = FALSE /\\ h' = FALSE /\\ i' = FALSE /\\ j' = FALSE /\\ k' = FALSE /\\ l' = FALSE /\\ m' = FALSE /\\ n' = FALSE /\\ o' = FALSE /\\ p' = TRUE
+Inv == p = FALSE
+====
+";
+
+const SIXTEEN_REPORT: &str = "error at level 1: invariant Inv is FALSE
+state 0
+/\\ a = FALSE
+/\\ b = FALSE
+/\\ c = FALSE
+/\\ d = FALSE
+/\\ e = FALSE
+/\\ f = FALSE
+/\\ g = FALSE
+/\\ h = FALSE
+/\\ i = FALSE
+/\\ j = FALSE
+/\\ k = FALSE
+/\\ l = FALSE
+/\\ m = FALSE
+/\\ n = FALSE
+/\\ o = FALSE
+/\\ p = FALSE
+state 1
+/\\ a = TRUE
+/\\ b = FALSE
+/\\ c = FALSE
+/\\ d = FALSE
+/\\ e = FALSE
+/\\ f = FALSE
+/\\ g = FALSE
+/\\ h = FALSE
+/\\ i = FALSE
+/\\ j = FALSE
+/\\ k = FALSE
+/\\ l = FALSE
+/\\ m = FALSE
+/\\ n = FALSE
+/\\ o = FALSE
+/\\ p = TRUE
+";
+
+// A walk through thirteen states, numbered by a, b, c and d, at whose end e is TRUE. The text up to Init and from Next on.
+const WALK_HEAD: &str = "---- MODULE Toggle ----
+VARIABLES
+  \\* @type: Bool;
+  a,
+  \\* @type: Bool;
+  b,
+  \\* @type: Bool;
+  c,
+  \\* @type: Bool;
+  d,
+  \\* @type: Bool;
+  e
+Init == ";
+
+const WALK_TAIL: &str = "
+Next == \\/ a = FALSE /\\ b = FALSE /\\ c = FALSE /\\ d = FALSE /\\ a' = FALSE /\\ b' = FALSE /\\ c' = FALSE /\\ d' = TRUE /\\ e' = FALSE
+        \\/ a = FALSE /\\ b = FALSE /\\ c = FALSE /\\ d = TRUE /\\ a' = FALSE /\\ b' = FALSE /\\ c' = TRUE /\\ d' = FALSE /\\ e' = FALSE
+        \\/ a = FALSE /\\ b = FALSE /\\ c = TRUE /\\ d = FALSE /\\ a' = FALSE /\\ b' = FALSE /\\ c' = TRUE /\\ d' = TRUE /\\ e' = FALSE
+        \\/ a = FALSE /\\ b = FALSE /\\ c = TRUE /\\ d = TRUE /\\ a' = FALSE /\\ b' = TRUE /\\ c' = FALSE /\\ d' = FALSE /\\ e' = FALSE
+        \\/ a = FALSE /\\ b = TRUE /\\ c = FALSE /\\ d = FALSE /\\ a' = FALSE /\\ b' = TRUE /\\ c' = FALSE /\\ d' = TRUE /\\ e' = FALSE
+        \\/ a = FALSE /\\ b = TRUE /\\ c = FALSE /\\ d = TRUE /\\ a' = FALSE /\\ b' = TRUE /\\ c' = TRUE /\\ d' = FALSE /\\ e' = FALSE
+        \\/ a = FALSE /\\ b = TRUE /\\ c = TRUE /\\ d = FALSE /\\ a' = FALSE /\\ b' = TRUE /\\ c' = TRUE /\\ d' = TRUE /\\ e' = FALSE
+        \\/ a = FALSE /\\ b = TRUE /\\ c = TRUE /\\ d = TRUE /\\ a' = TRUE /\\ b' = FALSE /\\ c' = FALSE /\\ d' = FALSE /\\ e' = FALSE
+        \\/ a = TRUE /\\ b = FALSE /\\ c = FALSE /\\ d = FALSE /\\ a' = TRUE /\\ b' = FALSE /\\ c' = FALSE /\\ d' = TRUE /\\ e' = FALSE
+        \\/ a = TRUE /\\ b = FALSE /\\ c = FALSE /\\ d = TRUE /\\ a' = TRUE /\\ b' = FALSE /\\ c' = TRUE /\\ d' = FALSE /\\ e' = FALSE
+        \\/ a = TRUE /\\ b = FALSE /\\ c = TRUE /\\ d = FALSE /\\ a' = TRUE /\\ b' = FALSE /\\ c' = TRUE /\\ d' = TRUE /\\ e' = FALSE
+        \\/ a = TRUE /\\ b = FALSE /\\ c = TRUE /\\ d = TRUE /\\ a' = TRUE /\\ b' = TRUE /\\ c' = FALSE /\\ d' = FALSE /\\ e' = TRUE
+Inv == e = FALSE
+====
+";
+
+const WALK_STARTS: [&str; 13] = [
+    "a = FALSE /\\ b = FALSE /\\ c = FALSE /\\ d = FALSE /\\ e = FALSE",
+    "a = FALSE /\\ b = FALSE /\\ c = FALSE /\\ d = TRUE /\\ e = FALSE",
+    "a = FALSE /\\ b = FALSE /\\ c = TRUE /\\ d = FALSE /\\ e = FALSE",
+    "a = FALSE /\\ b = FALSE /\\ c = TRUE /\\ d = TRUE /\\ e = FALSE",
+    "a = FALSE /\\ b = TRUE /\\ c = FALSE /\\ d = FALSE /\\ e = FALSE",
+    "a = FALSE /\\ b = TRUE /\\ c = FALSE /\\ d = TRUE /\\ e = FALSE",
+    "a = FALSE /\\ b = TRUE /\\ c = TRUE /\\ d = FALSE /\\ e = FALSE",
+    "a = FALSE /\\ b = TRUE /\\ c = TRUE /\\ d = TRUE /\\ e = FALSE",
+    "a = TRUE /\\ b = FALSE /\\ c = FALSE /\\ d = FALSE /\\ e = FALSE",
+    "a = TRUE /\\ b = FALSE /\\ c = FALSE /\\ d = TRUE /\\ e = FALSE",
+    "a = TRUE /\\ b = FALSE /\\ c = TRUE /\\ d = FALSE /\\ e = FALSE",
+    "a = TRUE /\\ b = FALSE /\\ c = TRUE /\\ d = TRUE /\\ e = FALSE",
+    "a = TRUE /\\ b = TRUE /\\ c = FALSE /\\ d = FALSE /\\ e = TRUE",
+];
+
+const WALK_STATES: [&str; 13] = [
+    "/\\ a = FALSE\n/\\ b = FALSE\n/\\ c = FALSE\n/\\ d = FALSE\n/\\ e = FALSE\n",
+    "/\\ a = FALSE\n/\\ b = FALSE\n/\\ c = FALSE\n/\\ d = TRUE\n/\\ e = FALSE\n",
+    "/\\ a = FALSE\n/\\ b = FALSE\n/\\ c = TRUE\n/\\ d = FALSE\n/\\ e = FALSE\n",
+    "/\\ a = FALSE\n/\\ b = FALSE\n/\\ c = TRUE\n/\\ d = TRUE\n/\\ e = FALSE\n",
+    "/\\ a = FALSE\n/\\ b = TRUE\n/\\ c = FALSE\n/\\ d = FALSE\n/\\ e = FALSE\n",
+    "/\\ a = FALSE\n/\\ b = TRUE\n/\\ c = FALSE\n/\\ d = TRUE\n/\\ e = FALSE\n",
+    "/\\ a = FALSE\n/\\ b = TRUE\n/\\ c = TRUE\n/\\ d = FALSE\n/\\ e = FALSE\n",
+    "/\\ a = FALSE\n/\\ b = TRUE\n/\\ c = TRUE\n/\\ d = TRUE\n/\\ e = FALSE\n",
+    "/\\ a = TRUE\n/\\ b = FALSE\n/\\ c = FALSE\n/\\ d = FALSE\n/\\ e = FALSE\n",
+    "/\\ a = TRUE\n/\\ b = FALSE\n/\\ c = FALSE\n/\\ d = TRUE\n/\\ e = FALSE\n",
+    "/\\ a = TRUE\n/\\ b = FALSE\n/\\ c = TRUE\n/\\ d = FALSE\n/\\ e = FALSE\n",
+    "/\\ a = TRUE\n/\\ b = FALSE\n/\\ c = TRUE\n/\\ d = TRUE\n/\\ e = FALSE\n",
+    "/\\ a = TRUE\n/\\ b = TRUE\n/\\ c = FALSE\n/\\ d = FALSE\n/\\ e = TRUE\n",
+];
+
+const USAGE: &str = "usage: symbolic_mc check|induct|audit|recheck|ring OPTIONS NAMES\n";
+
+const TOGGLE_REPORT: &str =
+    "error at level 1: invariant Inv is FALSE\nstate 0\n/\\ x = FALSE\nstate 1\n/\\ x = TRUE\n";
+
+// The call of the files and that of the sink that fail; no call has this number.
+const NEVER: u64 = 1_000_000;
+
+// The status, and what the program writes for these words, where `Toggle.tla` has these bytes.
 fn answers(
-    rt: &(impl Abort + AllocGlobal),
+    alloc: Global,
     words: &[&str],
     bytes: &str,
-    status: u8,
-    written: &str,
-) -> Result<(), Fail> {
-    let alloc = rt.alloc();
-    let mut files = MemoryFiles::new(alloc, List::from_vec(Vec::new(alloc)));
+    file_fails: u64,
+    sink_fails: u64,
+) -> Result<(u8, Vec<u8>), Fail> {
+    let mut files = MemoryFiles::new(alloc, List::from_vec(vec![in alloc; file_fails]?));
     files.put("Toggle.tla", bytes.as_bytes())?;
-    let mut out = MemorySink::new(alloc, List::from_vec(Vec::new(alloc)));
+    let mut out = MemorySink::new(alloc, List::from_vec(vec![in alloc; sink_fails]?));
     let mut owned = Vec::new(alloc);
     for word in words {
         owned.push(String::from_str(alloc, word)?)?;
     }
-    assert_eq!(rt; run(alloc, &owned, &mut files, &mut out), status);
-    assert_eq!(rt; out.bytes(), written.as_bytes());
+    let status = run(alloc, &owned, &mut files, &mut out);
+    Ok((status, out.bytes().to_vec(alloc)?))
+}
+
+fn agrees(
+    rt: &(impl Abort + AllocGlobal),
+    words: &[&str],
+    bytes: &str,
+    fails: (u64, u64),
+    status: u8,
+    written: &str,
+) -> Result<(), Fail> {
+    let (answered, out) = answers(rt.alloc(), words, bytes, fails.0, fails.1)?;
+    assert_eq!(rt; answered, status, "{written}");
+    assert_eq!(rt; out.as_slice(), written.as_bytes());
     Ok(())
 }
 
 #[test]
-fn the_toggle_errs_at_its_first_step(rt: HostRuntime) -> Result<(), Fail> {
-    answers(
+fn each_answer_has_its_status_and_its_bytes(rt: HostRuntime) -> Result<(), Fail> {
+    let calm = (NEVER, NEVER);
+    let found = (12, TOGGLE_REPORT);
+    let free = "error at level 0: invariant Inv is FALSE\nstate 0\n/\\ x = TRUE\n";
+    let no_form = "refused: form is not built\n";
+    let no_module = "refused: module Gone is missing\n";
+    agrees(
         &rt,
         &["check", "Toggle.tla", "1"],
         TOGGLE,
-        12,
-        "error at level 1: invariant Inv is FALSE\nstate 0\n/\\ x = FALSE\nstate 1\n/\\ x = TRUE\n",
-    )
-}
-
-#[test]
-fn a_free_toggle_errs_at_its_start(rt: HostRuntime) -> Result<(), Fail> {
-    answers(
+        calm,
+        found.0,
+        found.1,
+    )?;
+    agrees(
         &rt,
         &["check", "Toggle.tla", "0"],
         FREE_TOGGLE,
+        calm,
         12,
-        "error at level 0: invariant Inv is FALSE\nstate 0\n/\\ x = TRUE\n",
+        free,
+    )?;
+    agrees(
+        &rt,
+        &["check", "Toggle.tla", "0"],
+        TOGGLE,
+        calm,
+        0,
+        "no error to 0\n",
+    )?;
+    agrees(
+        &rt,
+        &["check", "Toggle.tla", "1"],
+        UNEQUAL_TOGGLE,
+        calm,
+        30,
+        no_form,
+    )?;
+    agrees(
+        &rt,
+        &["check", "Toggle.tla", "1"],
+        NO_START,
+        calm,
+        30,
+        no_form,
+    )?;
+    agrees(&rt, &["check", "Toggle.tla", "1"], "", calm, 30, no_form)?;
+    agrees(
+        &rt,
+        &["check", "Gone.tla", "1"],
+        TOGGLE,
+        calm,
+        30,
+        no_module,
+    )?;
+    agrees(
+        &rt,
+        &["check", "far/Gone.tla", "1"],
+        TOGGLE,
+        calm,
+        30,
+        no_module,
+    )?;
+    agrees(&rt, &["check", "Gone", "1"], TOGGLE, calm, 30, no_module)?;
+    agrees(
+        &rt,
+        &["check", "Toggle.tla", "1"],
+        TOGGLE,
+        (0, NEVER),
+        40,
+        "read fault: Toggle.tla\n",
+    )?;
+    agrees(
+        &rt,
+        &["check", "Toggle.tla", "1"],
+        TOGGLE,
+        (NEVER, 2),
+        41,
+        "error at level 1: invariant Inv is FALSE\nstate 0\n",
+    )?;
+    agrees(&rt, &["check", "Toggle.tla", "1"], TOGGLE, (0, 0), 41, "")
+}
+
+#[test]
+fn words_of_another_form_give_the_usage(rt: HostRuntime) -> Result<(), Fail> {
+    let commands: [&[&str]; 8] = [
+        &[],
+        &["check"],
+        &["check", "Toggle.tla"],
+        &["check", "Toggle.tla", "1001"],
+        &["check", "Toggle.tla", "-1"],
+        &["check", "Toggle.tla", "1x"],
+        &["check", "Toggle.tla", ""],
+        &["check", "Toggle.tla", "1", "1"],
+    ];
+    for words in commands {
+        agrees(&rt, words, TOGGLE, (NEVER, NEVER), 31, USAGE)?;
+    }
+    agrees(
+        &rt,
+        &["check", "Toggle.tla", "1000"],
+        STUCK,
+        (NEVER, 0),
+        41,
+        "",
     )
 }
 
 #[test]
-fn the_toggle_does_not_err_at_its_start(rt: HostRuntime) -> Result<(), Fail> {
-    answers(
+fn a_module_that_never_steps_and_one_of_sixteen_variables(rt: HostRuntime) -> Result<(), Fail> {
+    agrees(
         &rt,
-        &["check", "Toggle.tla", "0"],
-        TOGGLE,
+        &["check", "Toggle.tla", "6"],
+        STUCK,
+        (NEVER, NEVER),
         0,
-        "no error to 0\n",
+        "no error to 6\n",
+    )?;
+    agrees(
+        &rt,
+        &["check", "Toggle.tla", "1"],
+        SIXTEEN,
+        (NEVER, NEVER),
+        12,
+        SIXTEEN_REPORT,
+    )
+}
+
+// Where memory runs out, the status says so and a prefix of the report, or of the line for it, is there.
+#[test]
+fn a_refused_allocation_leaves_a_prefix(rt: HostRuntime) -> Result<(), Fail> {
+    let (status, out) = answers(
+        rt.alloc(),
+        &["check", "Toggle.tla", "1"],
+        TOGGLE,
+        NEVER,
+        NEVER,
+    )?;
+    let prefix = TOGGLE_REPORT.as_bytes().starts_with(&out);
+    let line = b"out of memory\n".as_slice();
+    assert_eq!(rt; status == 12 || status == 50, true);
+    assert_eq!(rt; prefix || (status == 50 && line.starts_with(&out)), true);
+    Ok(())
+}
+
+#[test]
+fn an_error_is_found_at_each_least_level_to_twelve(rt: HostRuntime) -> Result<(), Fail> {
+    let alloc = rt.alloc();
+    for level in 0..13 {
+        let mut text = String::from_str(alloc, WALK_HEAD)?;
+        text.push_str(WALK_STARTS[12 - level])?;
+        text.push_str(WALK_TAIL)?;
+        let mut report = format!(in alloc; "error at level {level}: invariant Inv is FALSE\n")?;
+        for state in 0..level + 1 {
+            let line = format!(in alloc; "state {state}\n")?;
+            report.push_str(&line)?;
+            report.push_str(WALK_STATES[12 - level + state])?;
+        }
+        agrees(
+            &rt,
+            &["check", "Toggle.tla", "12"],
+            &text,
+            (NEVER, NEVER),
+            12,
+            &report,
+        )?;
+    }
+    let mut text = String::from_str(alloc, WALK_HEAD)?;
+    text.push_str(WALK_STARTS[0])?;
+    text.push_str(WALK_TAIL)?;
+    agrees(
+        &rt,
+        &["check", "Toggle.tla", "11"],
+        &text,
+        (NEVER, NEVER),
+        0,
+        "no error to 11\n",
     )
 }

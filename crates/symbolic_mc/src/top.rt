@@ -1,27 +1,26 @@
 // The top call: words, module, verdict, report.
-ghost use Rattle.std.specs.Prelude.{◌≡◌, ◌⊎◌, ℕ, ◌<◌, ◌≤◌, ◌++◌, List, Some, codes, IfOk, IfSome, IsTrue};
+ghost use Rattle.std.specs.Prelude.{◌≡◌, ◌⊎◌, ◌<◌, None, IfOk};
 ghost use Rattle.std.specs.Io.KnownBytes.{Appends};
-ghost use Rattle.tla_meaning.specs.Form1.{IsBooleanModule, without_folder};
-ghost use Rattle.tool_outside.specs.Causes.{Holds, WritesPrefix};
-ghost use Rattle.symbolic_mc.specs.Top.{IsErrorReport, IsCleanReport, FindsError, FindsNone, WritesError, WritesClean};
-ghost use Rattle.symbolic_mc.specs.Verdicts.{IsModuleError, IsModuleClean};
+ghost use Rattle.tool_outside.specs.Causes.{Stayed, WritesPrefix};
+ghost use Rattle.tool_outside.specs.Outside.{Rose};
+ghost use Rattle.symbolic_mc.specs.declared.answer.Answer.TheVariants.{Usage};
+ghost use Rattle.symbolic_mc.specs.Report.{report_of, status_of, memory_line};
+ghost use Rattle.symbolic_mc.specs.Told.{IsTold};
+ghost use Rattle.symbolic_mc.specs.Top.{WritesError, WritesClean, WritesRefusal, WritesReadFault, WritesPart, IsAnswer, IsFileAnswer, AsksForForm1, IsStatus, IsCutStatus};
+ghost use Rattle.symbolic_mc.specs.Words.{request_of};
 
-use crate::checking::{Verdict, check};
+use crate::answer::Answer;
+use crate::checking::check;
 use crate::lines::write_lines;
-use crate::pieces::Early;
+use crate::naming::{has_name, module_of};
+use crate::pieces::{Early, copied};
 use crate::reader::read_module;
-use crate::report::{clean_report, error_report};
 use crate::words::{Request, requested};
 use std::alloc::{AllocError, Global};
-use tla_meaning::BooleanModule;
 use tool_outside::{FileFail, Files, Sink, SinkFail};
 
 /// The most bytes that a module may have.
 const LIMIT: u64 = 4_194_304;
-
-const USAGE: &[u8] = b"usage: symbolic_mc check|induct|audit|recheck|ring OPTIONS NAMES\n";
-
-const NOT_BUILT: &[u8] = b"refused: form is not built\n";
 
 /// Does all that the program does: takes the words after its name, reads the module that they name, checks it, writes
 /// the report to the sink, and answers the status of the program: 0 where no level errs, 12 where one does, 30 where
@@ -30,137 +29,85 @@ const NOT_BUILT: &[u8] = b"refused: form is not built\n";
 pub fn run<F: Files, K: Sink>(alloc: Global, words: &[String], files: &mut F, out: &mut K) -> u8
     ensures error { result ≡ 12 → WritesError words.now (F.held files.old) (K.written out.old) (K.written out.new) }
     ensures clean { result ≡ 0 → WritesClean words.now (F.held files.old) (K.written out.old) (K.written out.new) }
+    ensures refused { result ≡ 30 → WritesRefusal words.now (F.held files.old) (K.written out.old) (K.written out.new) }
+    ensures no_command { result ≡ 31 → (request_of words.now ≡ None)
+        × Appends (K.written out.old) (K.written out.new) (report_of Usage) }
+    ensures unread { result ≡ 40 → WritesReadFault words.now (F.held files.old) (F.faults files.old) (F.faults files.new)
+        (K.written out.old) (K.written out.new) }
+    ensures unwritten { result ≡ 41 → Rose (K.faults out.old) (K.faults out.new)
+        × WritesPart words.now (F.held files.old) (F.faults files.old) (F.faults files.new) (K.written out.old) (K.written out.new) }
+    ensures no_memory { result ≡ 50
+        → WritesPart words.now (F.held files.old) (F.faults files.old) (F.faults files.new) (K.written out.old) (K.written out.new)
+        ⊎ WritesPrefix (K.written out.old) (K.written out.new) memory_line }
+    ensures statuses { IsStatus result }
+    ensures usage { request_of words.now ≡ None → (result ≡ 31) ⊎ IsCutStatus result }
+    ensures in_form { AsksForForm1 words.now (F.held files.old) → Stayed (F.faults files.old) (F.faults files.new)
+        → Stayed (K.faults out.old) (K.faults out.new) → (result ≡ 0) ⊎ (result ≡ 12) ⊎ (result ≡ 50) }
+    ensures faults_of_files { F.faults files.old < F.faults files.new → (result ≡ 40) ⊎ IsCutStatus result }
+    ensures faults_of_sink { K.faults out.old < K.faults out.new → IsCutStatus result }
     ensures files_stay { F.held files.new ≡ F.held files.old }
 {
     match decide(alloc, words, files) {
-        Ok(answer) => finish(out, &answer.report, answer.status),
-        Err(_) => finish(out, b"out of memory\n", 50),
+        Ok(answer) => tell(alloc, &answer, out),
+        Err(_) => out_of_memory(out),
     }
 }
 
-// What is to be written, and the status that goes with it.
-#[derive(Drop)]
-struct Answer {
-    status: u8,
-    report: Vec<u8>,
-}
-
+// The answer to the words.
 fn decide<F: Files>(alloc: Global, words: &[String], files: &mut F) -> Result<Answer, AllocError>
-    ensures error { IfOk result (λ answer. answer.status ≡ 12 → FindsError words.now (F.held files.old) answer.report.items) }
-    ensures clean { IfOk result (λ answer. answer.status ≡ 0 → FindsNone words.now (F.held files.old) answer.report.items) }
+    ensures answer { IfOk result (IsAnswer words.now (F.held files.old) (F.faults files.old) (F.faults files.new)) }
+    ensures calm { IfOk result (λ answer. (F.faults files.new ≡ F.faults files.old) ⊎ (status_of answer ≡ 40)) }
     ensures files_stay { F.held files.new ≡ F.held files.old }
 {
     let Some(request) = requested(words) else {
-        return answered(31, Vec::from_slice(alloc, USAGE));
+        return Ok(Answer::Usage);
     };
     match files.read(alloc, request.file, LIMIT) {
         Ok(Some(bytes)) => checked(alloc, &request, &bytes),
-        Ok(None) => answered(30, missing(alloc, request.file)),
-        Err(FileFail::Failed) => answered(40, with_file(alloc, "read fault: ", request.file)),
-        Err(FileFail::TooLong) => answered(
-            40,
-            with_file(alloc, "file is too long: ", request.file),
-        ),
+        Ok(None) => Ok(Answer::Missing(copied(alloc, module_of(request.file))?)),
+        Err(FileFail::Failed) => Ok(Answer::ReadFault(copied(alloc, request.file.as_bytes())?)),
+        Err(FileFail::TooLong) => Ok(Answer::TooLong(copied(alloc, request.file.as_bytes())?)),
         Err(FileFail::Memory(fail)) => Err(fail),
     }
 }
 
-fn answered(status: u8, report: Result<Vec<u8>, AllocError>) -> Result<Answer, AllocError>
-    ensures status { IfOk result (λ answer. answer.status ≡ status) }
-{
-    let report = report?;
-    Ok(Answer { status, report })
-}
-
 // The answer to the bytes of a file.
 fn checked(alloc: Global, request: &Request<'_>, bytes: &[u8]) -> Result<Answer, AllocError>
-    ensures error { IfOk result (λ answer. answer.status ≡ 12
-        → IsErrorReport request.now.file.now request.now.length bytes.now answer.report.items) }
-    ensures clean { IfOk result (λ answer. answer.status ≡ 0
-        → IsCleanReport request.now.file.now request.now.length bytes.now answer.report.items) }
+    ensures { IfOk result (IsFileAnswer request.now.file.now request.now.length bytes.now) }
 {
     match read_module(alloc, bytes) {
         Ok(source) => {
-            if has_name(request.file, &source) {
-                decided(alloc, &source, request.length)
+            if has_name(request.file, source.name.bytes()) {
+                let verdict = check(alloc, &source, request.length)?;
+                Ok(Answer::Checked(source.vars, verdict))
             } else {
-                answered(30, Vec::from_slice(alloc, NOT_BUILT))
+                Ok(Answer::NotBuilt)
             }
         }
-        Err(Early::FormNotBuilt) => answered(30, Vec::from_slice(alloc, NOT_BUILT)),
+        Err(Early::FormNotBuilt) => Ok(Answer::NotBuilt),
         Err(Early::Memory(fail)) => Err(fail),
     }
 }
 
-// The answer by the verdict.
-fn decided(alloc: Global, source: &BooleanModule, longest: u32) -> Result<Answer, AllocError>
-    requires { IsBooleanModule source.now }
-    ensures error { IfOk result (λ answer. answer.status ≡ 12 → IsModuleError source.now longest answer.report.items) }
-    ensures clean { IfOk result (λ answer. answer.status ≡ 0 → IsModuleClean source.now longest answer.report.items) }
+// Writes the report of the answer. The result is its status, or 41 or 50 where it could not be written whole.
+fn tell<K: Sink>(alloc: Global, answer: &Answer, out: &mut K) -> u8
+    ensures { IsTold answer.now (K.written out.old) (K.written out.new) (K.faults out.old) (K.faults out.new) result }
 {
-    match check(alloc, source, longest)? {
-        Verdict::Clean(length) => {
-            let report = clean_report(alloc, length)?;
-            Ok(Answer { status: 0, report })
-        }
-        Verdict::Error(level, states) => {
-            let report = error_report(alloc, level, source.vars.as_slice(), states.as_slice())?;
-            Ok(Answer { status: 12, report })
-        }
-    }
-}
-
-// Whether the file, without its folder, is the module's name and `.tla`.
-fn has_name(file: &str, source: &BooleanModule) -> bool
-    ensures { IsTrue result → without_folder file.now ≡ source.now.name ++ codes ".tla" }
-{
-    match module_of(file) {
-        Some(name) => name == source.name.bytes(),
-        None => false,
-    }
-}
-
-// The name of the module that the file is to hold.
-fn module_of(file: &str) -> Option<&[u8]>
-    ensures { IfSome result (λ name. without_folder file.now ≡ name.now ++ codes ".tla") }
-{
-    without_folder(file.as_bytes()).strip_suffix(b".tla")
-}
-
-fn without_folder(file: &[u8]) -> &[u8]
-    ensures { result.now ≡ without_folder file.now }
-{
-    for at in (0..file.len()).rev() {
-        if file[at] == b'/' {
-            return &file[at + 1..];
-        }
-    }
-    file
-}
-
-fn missing(alloc: Global, file: &str) -> Result<Vec<u8>, AllocError> {
-    let mut report = Vec::from_slice(alloc, b"refused: module ")?;
-    report.extend_from_slice(module_of(file).unwrap_or(without_folder(file.as_bytes())))?;
-    report.extend_from_slice(b" is missing\n")?;
-    Ok(report)
-}
-
-fn with_file(alloc: Global, text: &str, file: &str) -> Result<Vec<u8>, AllocError> {
-    let mut report = Vec::from_slice(alloc, text.as_bytes())?;
-    report.extend_from_slice(file.as_bytes())?;
-    report.extend_from_slice(b"\n")?;
-    Ok(report)
-}
-
-// Writes the report, and answers the status that it has, or 41 or 50 where it could not be written whole.
-fn finish<K: Sink>(out: &mut K, report: &[u8], status: u8) -> u8
-    ensures whole { (result ≡ 41) ⊎ (result ≡ 50) ⊎ ((result ≡ status)
-        × Appends (K.written out.old) (K.written out.new) report.now) }
-    ensures prefix { WritesPrefix (K.written out.old) (K.written out.new) report.now }
-{
-    match write_lines(out, report) {
-        Ok(()) => status,
+    let Ok(report) = answer.report(alloc) else {
+        return out_of_memory(out);
+    };
+    match write_lines(out, &report) {
+        Ok(()) => answer.status(),
         Err(SinkFail::Failed) => 41,
         Err(SinkFail::Memory(_)) => 50,
     }
+}
+
+// Says so where memory ran out, if it can.
+fn out_of_memory<K: Sink>(out: &mut K) -> u8
+    ensures status { result ≡ 50 }
+    ensures prefix { WritesPrefix (K.written out.old) (K.written out.new) memory_line }
+{
+    let _ = write_lines(out, b"out of memory\n");
+    50
 }

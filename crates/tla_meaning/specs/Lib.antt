@@ -8,4 +8,7 @@ pub mod Meaning
 pub mod Actions
 pub mod Executions
 pub mod Strict
+pub mod Definitions
 pub mod Form1
+pub mod Inductive
+pub mod Questions

@@ -142,3 +142,52 @@ fn copy_exprs(alloc: Global, es: &[Expr]) -> Result<List<Expr>, AllocError>
     }
     Ok(List::from_vec(items))
 }
+
+pub(crate) fn copy_decls(alloc: Global, decls: &List<Decl>) -> Result<List<Decl>, AllocError>
+    ensures { IfOk result (λ l. l ≡ decls.now) }
+{
+    let mut items = Vec::new(alloc);
+    for decl in decls.as_slice() {
+        items.push(copy_decl(alloc, decl)?)?;
+    }
+    Ok(List::from_vec(items))
+}
+
+fn copy_decl(alloc: Global, decl: &Decl) -> Result<Decl, AllocError>
+    ensures { IfOk result (λ d. d ≡ decl.now) }
+{
+    let name = copy_text(alloc, &decl.name)?;
+    let note = copy_text(alloc, &decl.note)?;
+    Ok(Decl {
+        name,
+        place: decl.place,
+        constant: decl.constant,
+        note,
+    })
+}
+
+pub(crate) fn copy_aliases(
+    alloc: Global,
+    aliases: &List<(Text, Text)>,
+) -> Result<List<(Text, Text)>, AllocError>
+    ensures { IfOk result (λ l. l ≡ aliases.now) }
+{
+    let mut items = Vec::new(alloc);
+    for (name, text) in aliases.as_slice() {
+        items.push((copy_text(alloc, name)?, copy_text(alloc, text)?))?;
+    }
+    Ok(List::from_vec(items))
+}
+
+pub(crate) fn copy_named(
+    alloc: Global,
+    named: &List<(Text, Expr)>,
+) -> Result<List<(Text, Expr)>, AllocError>
+    ensures { IfOk result (λ l. l ≡ named.now) }
+{
+    let mut items = Vec::new(alloc);
+    for (name, e) in named.as_slice() {
+        items.push((copy_text(alloc, name)?, copy_expr(alloc, e)?))?;
+    }
+    Ok(List::from_vec(items))
+}

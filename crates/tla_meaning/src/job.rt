@@ -1,6 +1,7 @@
 // What is checked, and its states.
 ghost use Rattle.std.specs.Prelude.{◌≡◌, IfOk};
 
+use crate::copy::{copy_aliases, copy_decls, copy_expr, copy_named, copy_texts};
 use crate::expr::{Decl, Expr};
 use std::alloc::{AllocError, Global};
 use tla_values::{List, Text, Value, copy_value};
@@ -28,6 +29,32 @@ pub struct State {
 #[derive(Drop)]
 pub struct Env {
     pub vals: List<(Text, Value)>,
+}
+
+impl Job {
+    /// An equal job.
+    pub fn copy(&self, alloc: Global) -> Result<Job, AllocError>
+        ensures { IfOk result (λ job. job ≡ self.now) }
+    {
+        let files = copy_texts(alloc, &self.files)?;
+        let names = copy_decls(alloc, &self.names)?;
+        let aliases = copy_aliases(alloc, &self.aliases)?;
+        let cinit = copy_expr(alloc, &self.cinit)?;
+        let assume = copy_expr(alloc, &self.assume)?;
+        let init = copy_expr(alloc, &self.init)?;
+        let next = copy_expr(alloc, &self.next)?;
+        let invs = copy_named(alloc, &self.invs)?;
+        Ok(Job {
+            files,
+            names,
+            aliases,
+            cinit,
+            assume,
+            init,
+            next,
+            invs,
+        })
+    }
 }
 
 impl State {

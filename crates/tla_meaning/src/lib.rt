@@ -9,6 +9,7 @@ mod modules;
 mod op;
 mod outcome;
 mod place;
+mod theorems;
 
 pub use boolean::{BooleanModule, Conjunct};
 pub use copy::copy_expr;
@@ -18,3 +19,7 @@ pub use modules::{Flat, Module, Unit};
 pub use op::{Form, Op};
 pub use outcome::{Fault, Outcome};
 pub use place::Place;
+pub use theorems::faults_join;
+
+#[cfg(test)]
+mod tests;

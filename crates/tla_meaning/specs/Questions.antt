@@ -1,0 +1,44 @@
+-- The questions that are asked of a level under a width, and the errors of a level by them.
+use Rattle.std.specs.Prelude.{ℕ, zero, suc}
+use Rattle.tla_meaning.specs.declared.job.Job.{Job}
+use Rattle.tla_meaning.specs.declared.job.State.{State}
+use Rattle.tla_meaning.specs.declared.outcome.Outcome.{Outcome}
+use Rattle.tla_meaning.specs.declared.outcome.Outcome.TheVariants.{Val, Wrong, Big}
+use Rattle.tla_meaning.specs.Executions.{IsState, IsWrongOutcome, IsYes, Keeps, Reaches, invariant, next, start}
+use Rattle.tla_meaning.specs.Numbers.{Width}
+
+-- the questions of a level, in the order in which they are asked
+pub data Question : Type 0 where
+  StepWrong : Question
+  StepBig : Question
+  InvNotTrue : Question
+  InvBig : Question
+
+-- an integer was outside the width
+abbrev pub IsBigOutcome : Outcome → Type 0
+IsBigOutcome (Val v) = ⊥
+IsBigOutcome (Wrong p) = ⊥
+IsBigOutcome (Big p) = Unit {0}
+
+-- neither TRUE nor an integer outside the width
+abbrev pub IsNotTrue : Outcome → Type 0
+IsNotTrue (Val v) = IsYes (Val v) → ⊥
+IsNotTrue (Wrong p) = Unit {0}
+IsNotTrue (Big p) = ⊥
+
+-- the start at some state, or Next from the end of an execution of n - 1 steps to a state that keeps the constants,
+-- has such an outcome
+abbrev pub StepIs : (Outcome → Type 0) → Width → Job → ℕ → Type 0
+StepIs Is w job zero = (s : State) × IsState job s × Is (start w job s)
+StepIs Is w job (suc n) = (s : State) × (t : State) × Reaches w job n s × IsState job t × Keeps job s t × Is (next w job s t)
+
+-- the invariants have such an outcome at the end of an execution of n steps
+abbrev pub InvariantIs : (Outcome → Type 0) → Width → Job → ℕ → Type 0
+InvariantIs Is w job n = (s : State) × Reaches w job n s × Is (invariant w job s)
+
+-- the question holds at the level
+abbrev pub Holds : Question → Width → Job → ℕ → Type 0
+Holds StepWrong w job n = StepIs IsWrongOutcome w job n
+Holds StepBig w job n = StepIs IsBigOutcome w job n
+Holds InvNotTrue w job n = InvariantIs IsNotTrue w job n
+Holds InvBig w job n = InvariantIs IsBigOutcome w job n

@@ -1,0 +1,90 @@
+use crate::{Decl, Expr, Job, Op, Place, State};
+use std::alloc::{AllocError, Global};
+use std::process::Abort;
+use std::test::Fail;
+use tla_values::{List, Text, Value, same_value};
+
+const PLACE: Place = Place {
+    file: 0,
+    line: 2,
+    col: 3,
+};
+
+fn text(alloc: Global, bytes: &[u8]) -> Result<Text, AllocError> {
+    Ok(Text::from_vec(Vec::from_slice(alloc, bytes)?))
+}
+
+fn leaf(alloc: Global, op: Op) -> Expr {
+    Expr {
+        place: PLACE,
+        op,
+        args: List::new(alloc),
+        binds: List::new(alloc),
+    }
+}
+
+// A job of one constant with one invariant of each part's own tree.
+fn small_job(alloc: Global) -> Result<Job, AllocError> {
+    let mut names = List::new(alloc);
+    names.push(Decl {
+        name: text(alloc, b"c")?,
+        place: PLACE,
+        constant: true,
+        note: text(alloc, b" @type: Int;")?,
+    })?;
+    let mut invs = List::new(alloc);
+    invs.push((text(alloc, b"Inv")?, leaf(alloc, Op::Int(4))))?;
+    Ok(Job {
+        files: List::new(alloc),
+        names,
+        aliases: List::new(alloc),
+        cinit: leaf(alloc, Op::Int(0)),
+        assume: leaf(alloc, Op::Int(1)),
+        init: leaf(alloc, Op::Int(2)),
+        next: leaf(alloc, Op::Int(3)),
+        invs,
+    })
+}
+
+fn number_of(e: &Expr) -> i128 {
+    match e.op {
+        Op::Int(n) => n,
+        _ => -1,
+    }
+}
+
+#[test]
+fn a_copied_job_has_the_same_parts(rt: HostRuntime) -> Result<(), Fail> {
+    let alloc = rt.alloc();
+    let job = small_job(alloc)?.copy(alloc)?;
+    let numbers = [
+        number_of(&job.cinit),
+        number_of(&job.assume),
+        number_of(&job.init),
+        number_of(&job.next),
+    ];
+    assert_eq!(rt; numbers, [0, 1, 2, 3]);
+    for decl in job.names.as_slice() {
+        assert_eq!(rt; decl.name.bytes(), b"c".as_slice());
+        assert_eq!(rt; (decl.constant, decl.place), (true, PLACE));
+    }
+    for (name, inv) in job.invs.as_slice() {
+        assert_eq!(rt; name.bytes(), b"Inv".as_slice());
+        assert_eq!(rt; number_of(inv), 4);
+    }
+    assert_eq!(rt; (job.names.len(), job.invs.len()), (1, 1));
+    Ok(())
+}
+
+#[test]
+fn a_copied_state_has_the_same_values(rt: HostRuntime) -> Result<(), Fail> {
+    let alloc = rt.alloc();
+    let mut vals = List::new(alloc);
+    vals.push(Value::Int(7))?;
+    vals.push(Value::Bool(true))?;
+    let state = State { vals }.copy(alloc)?;
+    assert_eq!(rt; state.vals.len(), 2);
+    assert!(rt; same_value(&state.vals.as_slice()[0], &Value::Int(7)));
+    assert!(rt; same_value(&state.vals.as_slice()[1], &Value::Bool(true)));
+    Ok(())
+}
