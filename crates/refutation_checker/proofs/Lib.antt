@@ -6,3 +6,14 @@ pub mod FollowLemmas
 pub mod Soundness
 pub mod BuildLemmas
 pub mod PrintLemmas
+pub mod Splits
+pub mod Closed
+pub mod Numbers
+pub mod Literals
+pub mod LineTexts
+pub mod Stops
+pub mod SectionTexts
+pub mod SectionStops
+pub mod Feeds
+pub mod CertificateStops
+pub mod RecheckLemmas

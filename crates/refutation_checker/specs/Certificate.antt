@@ -1,10 +1,13 @@
 -- The text of a certificate, line by line. Clauses and literals are written as in DIMACS ("Satisfiability:
 -- Suggested Format", 1993), steps as in LRAT (Cruz-Filipe and others, "Efficient Certified RAT Verification", 2017).
-use Rattle.std.specs.Prelude.{ℕ, ◌+◌, Bool, List, [], ◌∷◌, ◌++◌, length, map, flat_map, if◌then◌else◌, codes, decimal}
+use Rattle.std.specs.Prelude.{◌≡◌, ℕ, ◌+◌, ◌<◌, ◌^◌, Bool, IsTrue, MatchBool, List, [], ◌∷◌, ◌++◌, length, map, flat_map, All, if◌then◌else◌, codes, decimal}
 use Rattle.sat_formula.specs.declared.lit.Lit.{Lit}
+use Rattle.sat_formula.specs.Lit.{IsBelow}
+use Rattle.sat_formula.specs.Clause.{NamesBelow}
 use Rattle.refutation_checker.specs.declared.log.Step.{Step}
 use Rattle.refutation_checker.specs.declared.section.Section.{Section}
 use Rattle.refutation_checker.specs.declared.section.QueryName.{QueryName}
+use Rattle.refutation_checker.specs.Follows.{ends_empty}
 use Rattle.refutation_checker.specs.declared.section.QueryName.TheVariants.{StepWrong, StepBig, InvNotTrue, InvBig, AssumeBig}
 
 -- a literal: its variable counted from 1, after a minus sign where it is a negation
@@ -33,8 +36,11 @@ kind_text InvNotTrue = codes "inv-false"
 kind_text InvBig = codes "inv-big"
 kind_text AssumeBig = codes "assume-big"
 
+abbrev pub question_text : Bool → ℕ → QueryName → List ℕ
+question_text typed level query = codes "query " ++ level_text typed level ++ codes " " ++ kind_text query
+
 abbrev pub query_text : Section → List ℕ
-query_text s = codes "query " ++ level_text s.typed s.level ++ codes " " ++ kind_text s.query
+query_text s = question_text s.typed s.level s.query
 
 -- the numbers of variables and of clauses
 abbrev pub header_text : ℕ → ℕ → List ℕ
@@ -62,3 +68,53 @@ first_line = codes "tla-refutation 1"
 -- the lines of a certificate: the first line, and then those of each section
 abbrev pub certificate_lines : List Section → List (List ℕ)
 certificate_lines sections = first_line ∷ flat_map section_lines sections
+
+-- a hint is told from the closing 0
+abbrev pub IsHint : ℕ → Type 0
+IsHint h = (0 < h) × (h < 2 ^ 63)
+
+-- a step over the first `vars` variables. That its number is the next and that each hint is a smaller one is asked
+-- where it is checked whether the step follows, and not here
+pub record IsStep (vars : ℕ) (s : Step) : Type 0 where
+  pub id : s.id < 2 ^ 63
+  pub lits : All (IsBelow vars) s.lits
+  pub hints : All IsHint s.hints
+
+-- before `open` no step is without literals; `end` follows only a step without literals
+abbrev pub EndsRightly : Bool → List Step → Type 0
+EndsRightly is_open steps = MatchBool is_open (All (λ s. 0 < length s.lits) steps) (IsTrue (ends_empty steps))
+
+-- the sections whose lines are in the grammar. A typed one has level 0, which is not written
+pub record IsInGrammar (s : Section) : Type 0 where
+  pub level : s.level < 2 ^ 32
+  pub typed : IsTrue s.typed → s.level ≡ 0
+  pub vars : s.formula.vars < 2 ^ 31
+  pub count : length s.formula.clauses < 2 ^ 63
+  pub clauses : NamesBelow s.formula.vars s.formula.clauses
+  pub steps : All (IsStep s.formula.vars) s.log
+  pub last : EndsRightly s.is_open s.log
+
+-- the first line and each section, printed one after another
+abbrev pub certificate_text : List Section → List ℕ
+certificate_text sections = text_of_lines (first_line ∷ []) ++ flat_map section_text sections
+
+-- the bytes are the certificate of these sections
+abbrev pub IsCertificate : List ℕ → List Section → Type 0
+IsCertificate bytes sections = All IsInGrammar sections × (bytes ≡ text_of_lines (certificate_lines sections))
+
+-- some certificate begins with these lines
+abbrev pub IsBeginning : List (List ℕ) → Type 0
+IsBeginning lines =
+    (sections : List Section) × (All IsInGrammar sections × ((tail : List (List ℕ)) × (certificate_lines sections ≡ lines ++ tail)))
+
+-- line n, counted from 1, is the first one outside the grammar: some certificate begins with the lines before it and
+-- none with it too; or no whole line is left, and what stands there, nothing or bytes without a line feed, does not
+-- end a certificate
+pub record IsFirstBadLine (bytes : List ℕ) (n : ℕ) : Type 0 where
+  pub before : List (List ℕ)
+  pub rest : List ℕ
+  pub cut : bytes ≡ text_of_lines before ++ rest
+  pub number : n ≡ length before + 1
+  pub good : IsBeginning before
+  pub bad : (line more : List ℕ) → rest ≡ line ++ 10 ∷ more → IsBeginning (before ++ line ∷ []) → ⊥
+  pub unfinished : rest ≡ [] → (sections : List Section) → All IsInGrammar sections → before ≡ certificate_lines sections → ⊥

@@ -6,6 +6,7 @@ ghost use Rattle.sat_formula.specs.Clause.{NamesBelow};
 ghost use Rattle.refutation_checker.specs.Follows.{IsAnswer, IsUnsatisfiable, ends_empty};
 
 use crate::answers::Check;
+use crate::endings::ends_empty;
 use crate::following::follows;
 use crate::log::{Log, Step};
 use crate::trail::Trail;
@@ -75,14 +76,9 @@ fn room_in_clause(start: usize, lits: &[Lit]) -> Result<usize, AllocError>
 fn verdict(steps: &[Step]) -> Check
     ensures { result ≡ (if ends_empty steps.now then Check.Yes else Check.Open) }
 {
-    match steps.last() {
-        Some(s) => {
-            if s.lits.lits().is_empty() {
-                Check::Yes
-            } else {
-                Check::Open
-            }
-        }
-        None => Check::Open,
+    if ends_empty(steps) {
+        Check::Yes
+    } else {
+        Check::Open
     }
 }

@@ -1,6 +1,6 @@
 //! Whether one step follows from the clauses before it.
 
-ghost use Rattle.std.specs.Prelude.{◌≡◌, ◌↔◌, ◌++◌, [], IsTrue, IfOk, OnOk, All, map, MatchBool};
+ghost use Rattle.std.specs.Prelude.{◌≡◌, ◌↔◌, [], IsTrue, IfOk, OnOk, All, map, MatchBool};
 ghost use Rattle.sat_formula.specs.Lit.{IsBelow};
 ghost use Rattle.refutation_checker.specs.Follows.{negation, HasNoOpposites, Propagates, known, Follows};
 ghost use Rattle.refutation_checker.specs.Status.{IsStatus, IsClauseAt};

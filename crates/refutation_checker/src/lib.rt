@@ -9,18 +9,28 @@
 
 mod answers;
 mod checking;
+mod cursor;
+mod endings;
+mod faults;
 mod following;
+mod lines;
 mod log;
 mod printing;
+mod reading;
+mod rechecking;
 mod section;
 #[cfg(test)]
 mod tests;
 mod trail;
+mod words;
 
-pub use answers::Check;
+pub use answers::{Check, Recheck};
 pub use checking::check;
+pub use faults::CertFault;
 pub use following::follows;
 pub use log::{Log, Step};
 pub use printing::{certificate_head, print_section};
+pub use reading::read_certificate;
+pub use rechecking::recheck;
 pub use section::{Certificate, QueryName, Section};
 pub use trail::Trail;

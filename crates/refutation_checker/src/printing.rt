@@ -1,20 +1,7 @@
 //! The text of a certificate.
 
-ghost use Rattle.std.specs.Prelude.{◌≡◌, ◌++◌, ◌∷◌, [], IfOk, OnOk, codes, decimal, flat_map, length, map, if◌then◌else◌};
-ghost use Rattle.refutation_checker.specs.Certificate.{
-  clause_text,
-  end_text,
-  first_line,
-  header_text,
-  hints_text,
-  kind_text,
-  level_text,
-  lit_text,
-  query_text,
-  section_text,
-  step_text,
-  text_of_lines,
-};
+ghost use Rattle.std.specs.Prelude.{◌≡◌, ◌++◌, ◌∷◌, [], IfOk, OnOk, codes, decimal, flat_map};
+ghost use Rattle.refutation_checker.specs.Certificate.{clause_text, end_text, first_line, header_text, kind_text, level_text, lit_text, query_text, section_text, step_text, text_of_lines};
 
 use crate::log::Step;
 use crate::section::{QueryName, Section};
@@ -30,7 +17,8 @@ pub fn certificate_head() -> &'static [u8]
 }
 
 /// The text of a section, each of its lines ended by a line feed: `query LEVEL KIND`,
-/// `p cnf V C`, the C clauses, `log`, the steps, and `end` or `open`.
+/// `p cnf V C`, the C clauses, `log`, the steps, and `end` or `open`. A section in the grammar is
+/// read back from it by [`read_certificate`](crate::read_certificate).
 pub fn print_section(alloc: Global, section: &Section) -> Result<Vec<u8>, AllocError>
     ensures { IfOk result (λ bytes. bytes.items ≡ section_text section.now) }
 {
@@ -65,7 +53,7 @@ fn print_level(typed: bool, level: u32, out: &mut Vec<u8>) -> Result<(), AllocEr
     }
 }
 
-fn kind_name(query: QueryName) -> &'static [u8]
+pub(crate) fn kind_name(query: QueryName) -> &'static [u8]
     ensures { result.now ≡ kind_text query }
 {
     match query {

@@ -21,6 +21,11 @@ pub enum QueryName {
 /// A question with its formula and log. `level` is the number of steps of the executions that it
 /// speaks of; `typed` says that it speaks of any state of its type instead, and then the level is
 /// 0. An open section's log does not refute the formula.
+///
+/// A section is in the grammar of certificates if its formula has fewer than 2^31 variables and
+/// 2^63 clauses, its clauses and steps name these variables alone, the steps' numbers are below
+/// 2^63 and the hints from 1 to 2^63 - 1. The last step is the empty clause; of an open section
+/// no step is.
 #[derive(Drop)]
 pub struct Section {
     pub level: u32,

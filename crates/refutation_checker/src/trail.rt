@@ -1,7 +1,6 @@
 //! The literals that are true, in the order in which they became so.
 
-ghost use Rattle.std.specs.Prelude.{◌≡◌, ℕ, ◌+◌, ◌-◌, ◌<◌, ◌≤◌, ◌↔◌, ◌++◌, ◌∷◌, [], length, IsTrue, IfOk, OnOk, OnErr, All, Contains, slice_index_or, List, true, false};
-ghost use Rattle.sat_formula.specs.Lit.{IsBelow};
+ghost use Rattle.std.specs.Prelude.{◌≡◌, ◌+◌, ◌-◌, ◌<◌, ◌↔◌, ◌++◌, ◌∷◌, [], length, IsTrue, IfOk, OnOk, OnErr, Contains, true, false};
 ghost use Rattle.refutation_checker.specs.Follows.{negation};
 ghost use Rattle.refutation_checker.specs.Marks.{Marks, TellsValue};
 

@@ -2,6 +2,7 @@ pub mod Answered
 pub mod Decided
 pub mod Errors
 pub mod Found
+pub mod Indexed
 pub mod Layouts
 pub mod Literals
 pub mod Meaning

@@ -1,4 +1,5 @@
 pub mod Boolean
+pub mod Index
 pub mod Layout
 pub mod Levels
 pub mod Naming

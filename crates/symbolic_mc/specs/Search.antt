@@ -12,6 +12,10 @@ is_false values clause = list_all (λ l. nat_lt l.var (length values) && not (li
 abbrev pub has_false : List Bool → List (List Lit) → Bool
 has_false values clauses = list_any (is_false values) clauses
 
+-- no clause was false before the last of the values
+abbrev pub WasCalm : List Bool → List (List Lit) → Type 0
+WasCalm values clauses = (before : List Bool) (last : Bool) → values ≡ before ++ last ∷ [] → has_false before clauses ≡ false
+
 -- the assignment comes before all those that begin with these values: it is false where they first differ
 abbrev pub is_before : List Bool → List Bool → Bool
 is_before [] a = false

@@ -10,6 +10,7 @@ use tool_outside::{HostFiles, HostSink};
 mod answer;
 mod checking;
 mod encoding;
+mod index;
 mod lines;
 mod naming;
 mod pieces;

@@ -1,11 +1,15 @@
 // A plain complete search for an assignment.
-ghost use Rattle.std.specs.Prelude.{◌≡◌, ◌<◌, ℕ, All, Bool, List, true, false, length, slice_index_or, IfOk, IfSome, IfNone};
+ghost use Rattle.std.specs.Prelude.{◌≡◌, ◌<◌, ◌≤◌, ℕ, [], All, Bool, List, true, false, length, slice_index_or, IfOk, IfSome, IfNone};
 ghost use Rattle.std.specs.Bool.{OnTrue, OnFalse};
+ghost use Rattle.std.specs.List.{list_any};
 ghost use Rattle.sat_formula.specs.Clause.{AllTrue, NamesBelow};
-ghost use Rattle.symbolic_mc.specs.Search.{is_false, has_false, IsTurn};
+ghost use Rattle.symbolic_mc.specs.Index.{IsIndex};
+ghost use Rattle.symbolic_mc.specs.Search.{is_false, has_false, IsTurn, WasCalm};
 
+use crate::index::by_greatest;
 use sat_formula::{Assignment, Clause, Cnf};
 use std::alloc::{AllocError, Global};
+use tla_values::List;
 
 /// An assignment that satisfies the clauses, if there is one. The least variable without a value is taken, first as
 /// false and then as true, and a branch ends at a false clause.
@@ -16,9 +20,10 @@ pub(crate) fn search(alloc: Global, cnf: &Cnf) -> Result<Option<Assignment>, All
     ensures none { IfOk result (λ found. IfNone found
         ((a : List Bool) → length a ≡ cnf.now.vars → AllTrue a cnf.now.clauses → ⊥)) }
 {
+    let index = by_greatest(alloc, cnf)?;
     let mut values = Vec::new(alloc);
     'values: loop {
-        if has_false(cnf, &values) {
+        if conflicts(cnf, &index, &values) {
             if !turn(&mut values) {
                 return Ok(None);
             }
@@ -28,6 +33,33 @@ pub(crate) fn search(alloc: Global, cnf: &Cnf) -> Result<Option<Assignment>, All
             values.push(false)?;
         }
     }
+}
+
+// Whether some clause is false, where none was before the last value: such a clause ends with the last variable.
+fn conflicts(cnf: &Cnf, index: &[List<usize>], values: &[bool]) -> bool
+    requires index { IsIndex cnf.now.clauses index.now }
+    requires within { length values.now ≤ length index.now }
+    requires calm { WasCalm values.now cnf.now.clauses }
+    ensures { result ≡ has_false values.now cnf.now.clauses }
+{
+    match values.len() {
+        0 => has_false(cnf, values),
+        count => has_false_among(cnf, index[count - 1].as_slice(), values),
+    }
+}
+
+// Whether one of the clauses with these numbers is false already.
+fn has_false_among(cnf: &Cnf, numbers: &[usize], values: &[bool]) -> bool
+    requires { All (λ k. k < length cnf.now.clauses) numbers.now }
+    ensures { result ≡ list_any (λ k. is_false values.now (slice_index_or cnf.now.clauses k [])) numbers.now }
+{
+    let clauses = cnf.clauses.clauses();
+    for number in numbers {
+        if is_false(&clauses[*number], values) {
+            return true;
+        }
+    }
+    false
 }
 
 // Whether some clause is false already.

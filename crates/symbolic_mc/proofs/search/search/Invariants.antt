@@ -1,4 +1,5 @@
 use Rattle.std.proofs.Common.{◌≤◌, length}
+use Rattle.symbolic_mc.specs.Search.{WasCalm}
 use Rattle.symbolic_mc.proofs.Passed.{Passed}
 use Rattle.symbolic_mc.proofs.Work.{work}
 use Rattle.symbolic_mc.proofs.search.search.Given as goal
@@ -7,6 +8,7 @@ abbrev pub invariant-values : goal.invariant-values
 invariant-values l = record {
   fits : length l.values.items ≤ l.cnf.vars;
   passed : Passed l.cnf.vars l.cnf.clauses l.values.items;
+  calm : WasCalm l.values.items l.cnf.clauses;
 }
 
 abbrev pub decreases-values : goal.decreases-values

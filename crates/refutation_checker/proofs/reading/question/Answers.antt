@@ -1,0 +1,15 @@
+use Rattle.std.proofs.Common.{refl}
+use Rattle.std.proofs.lemmas.Result.{err_from_is_err_and}
+use Rattle.refutation_checker.specs.Lines.{IsQuestion, question_line}
+use Rattle.refutation_checker.specs.Sections.{IsLineOf}
+use Rattle.refutation_checker.proofs.Stops.{no_line, not_this, none_spelled}
+use Rattle.refutation_checker.proofs.reading.question.Goals as goal
+
+pub returns-in_err-line : goal.returns-in_err-line
+returns-in_err-line c =
+    let p = err_from_is_err_and c.from_residual.result c.from_residual.ensures.1 in
+    rw (p.1, p.2, c.in_err-line.ensures.0) (refl, no_line (IsLineOf question_line IsQuestion) c.args.lines.now.rest c.in_err-line.ensures.1)
+
+pub returns-in-None : goal.returns-in-None
+returns-in-None c =
+    rw c.fault.ensures (c.in_ok-line.ensures.1.1, not_this (IsLineOf question_line IsQuestion) c.args.lines.now.rest c.in_ok-line.line.now c.take.new.self.rest c.in_ok-line.ensures.0 c.in_ok-line.ensures.1.0 (none_spelled question_line IsQuestion c.in_ok-line.line.now c.in-None.ensures))
