@@ -1,0 +1,104 @@
+-- Steps of the loops that build lists of lists.
+use Rattle.std.proofs.Common.{◌≡◌, ℕ, suc, ◌+◌, ◌-◌, ◌<◌, ◌≤◌, List, [], ◌∷◌, ◌++◌, map, drop, length, get_or, refl, ap, ◌∙◌, sym, arith, append_assoc, drop-cons, add-one, false, true, zero, take, ℤ, pos, cond, nat_le, zip, subst}
+use Rattle.std.proofs.lemmas.Bool.{le-leb}
+use Rattle.std.proofs.lemmas.List.{length-map}
+use Rattle.tla_meaning.specs.declared.place.Place.{Place}
+use Rattle.tla_meaning.specs.declared.outcome.Outcome.TheVariants.{Val, Wrong}
+use Rattle.tla_meaning.specs.Operators.{part_of}
+use Rattle.tla_meaning.specs.Forms.{results}
+use Rattle.tla_values.specs.declared.value.Value.{Value}
+use Rattle.tla_values.specs.declared.value.Value.TheVariants as value
+use Rattle.tla_meaning.specs.Shapes.{sublists, each_to, with_each, sequence}
+
+-- the list from a place on
+at_place : (xs : List Value) (i : ℕ) (x : Value) → 0 < i → i ≤ length xs → x ≡ get_or xs (i - 1) x → drop (i - 1) xs ≡ x ∷ drop i xs
+at_place xs i x low le is =
+    let lt : i - 1 < length xs = omega arith in
+    let s : suc (i - 1) ≡ i = omega arith in
+    drop-cons xs (i - 1) x lt ∙ ap (λ y. y ∷ drop (suc (i - 1)) xs) (sym is) ∙ ap (λ n. x ∷ drop n xs) s
+
+pub sublists_more : (xs : List Value) (i : ℕ) (x : Value) (ls new : List (List Value)) → 0 < i → i ≤ length xs → x ≡ get_or xs (i - 1) x →
+    ls ≡ sublists (drop i xs) → new ≡ ls ++ map (λ ys. x ∷ ys) ls → new ≡ sublists (drop (i - 1) xs)
+sublists_more xs i x ls new low le is e f =
+    f ∙ ap (λ l. l ++ map (λ ys. x ∷ ys) l) e ∙ ap sublists (sym (at_place xs i x low le is))
+
+pub each_to_more : (xs ts : List Value) (i : ℕ) (ls ls' new : List (List Value)) → 0 < i → i ≤ length xs →
+    ls ≡ each_to (drop i xs) ts → ls' ≡ ls → new ≡ with_each ts ls' → new ≡ each_to (drop (i - 1) xs) ts
+each_to_more xs ts i ls ls' new low le e s f =
+    let lt : i - 1 < length xs = omega arith in
+    let n : suc (i - 1) ≡ i = omega arith in
+    f ∙ ap (with_each ts) (s ∙ e) ∙ ap (λ k. with_each ts (each_to (drop k xs) ts)) (sym n)
+    ∙ ap (λ l. each_to l ts) (sym (drop-cons xs (i - 1) (value.Bool false) lt))
+
+pub with_each_more : (xs : List Value) (yss all new whole : List (List Value)) (i : ℕ) (x : Value) → i < length xs → x ≡ get_or xs i x →
+    all ++ with_each (drop i xs) yss ≡ whole → new ≡ all ++ map (λ ys. x ∷ ys) yss → new ++ with_each (drop (i + 1) xs) yss ≡ whole
+with_each_more xs yss all new whole i x lt is h e =
+    ap (λ l. l ++ with_each (drop (i + 1) xs) yss) e
+    ∙ append_assoc all (map (λ ys. x ∷ ys) yss) (with_each (drop (i + 1) xs) yss)
+    ∙ ap (λ k. all ++ with_each (x ∷ drop k xs) yss) (add-one i)
+    ∙ ap (λ y. all ++ with_each (y ∷ drop (suc i) xs) yss) is
+    ∙ ap (λ l. all ++ with_each l yss) (sym (drop-cons xs i x lt)) ∙ h
+
+-- ---- parts of sequences
+
+map-range : {X Y : Type 0} (f : X → Y) (i n : ℕ) (xs : List X) → map f (take n (drop i xs)) ≡ take n (drop i (map f xs))
+map-range f zero zero xs = refl
+map-range f zero (suc n) [] = refl
+map-range f zero (suc n) (x ∷ xs) = ap (λ l. f x ∷ l) (map-range f zero n xs)
+map-range f (suc i) zero xs = refl
+map-range f (suc i) (suc n) [] = refl
+map-range f (suc i) (suc n) (x ∷ xs) = map-range f i (suc n) xs
+
+pub results_range : (ps : List (Value × Value)) (i j : ℕ) → results (take (j - i) (drop i ps)) ≡ take (j - i) (drop i (results ps))
+results_range ps i j = map-range (λ (p : Value × Value). p.1) i (j - i) ps
+
+pub part_is : (p : Place) (xs : List Value) (m n : ℤ) (i j : ℕ) → m ≡ pos (1 + i) → n ≡ pos j → i < j → j ≤ length xs →
+    part_of p xs m n ≡ Val (sequence (take (j - i) (drop i xs)))
+part_is p xs m n i j em en lt le =
+    let s : 1 + i ≡ suc i = omega arith in
+    ap (λ k. part_of p xs k n) (em ∙ ap pos s) ∙ ap (part_of p xs (pos (suc i))) en
+    ∙ ap (λ b. cond b (cond (nat_le j (length xs)) (Val (sequence (take (j - i) (drop i xs)))) (Wrong p)) (Val (sequence []))) (nat_le-true (suc i) j (omega arith))
+    ∙ ap (λ b. cond b (Val (sequence (take (j - i) (drop i xs)))) (Wrong p)) (nat_le-true j (length xs) le)
+  where
+    nat_le-true : (a b : ℕ) → a ≤ b → nat_le a b ≡ true
+    nat_le-true a b h = le-leb a b h
+
+pub part_value : (p : Place) (ps qs : List (Value × Value)) (m n m' n' : ℤ) (i j len : ℕ) (v : Value) → m' ≡ m → n' ≡ n →
+    m' ≡ pos (1 + i) → n' ≡ pos j → i < j → j ≤ len → len ≡ length ps → qs ≡ ps →
+    v ≡ sequence (results (take (j - i) (drop i qs))) → Val v ≡ part_of p (results ps) m n
+part_value p ps qs m n m' n' i j len v sm sn em en lt le el eq ev =
+    let k : length (results ps) ≡ length ps = simp length-map in
+    ap Val (ev ∙ ap (λ l. sequence (results (take (j - i) (drop i l)))) eq ∙ ap sequence (results_range ps i j))
+    ∙ sym (part_is p (results ps) m n i j (sym sm ∙ em) (sym sn ∙ en) lt (omega (arith, k)))
+
+-- ---- pairs of two lists
+
+abbrev none_of : List Value
+none_of = []
+
+pub zip_none : (xs : List Value) → zip xs none_of ≡ []
+zip_none [] = refl
+zip_none (x ∷ xs) = refl
+
+zip_next : (xs ys : List Value) (y d : Value) → length (zip xs ys) < length xs →
+    zip xs (ys ++ y ∷ []) ≡ zip xs ys ++ (get_or xs (length (zip xs ys)) d, y) ∷ []
+zip_next [] ys y d lt = absurd (omega arith)
+zip_next (x ∷ xs) [] y d lt = ap (λ l. (x, y) ∷ l) (zip_none xs)
+zip_next (x ∷ xs) (z ∷ ys) y d lt = ap (λ l. (x, z) ∷ l) (zip_next xs ys y d (omega arith))
+
+zip_full : (xs ys : List Value) (y : Value) → length xs ≤ length (zip xs ys) → zip xs (ys ++ y ∷ []) ≡ zip xs ys
+zip_full [] ys y le = refl
+zip_full (x ∷ xs) [] y le = absurd (omega arith)
+zip_full (x ∷ xs) (z ∷ ys) y le = ap (λ l. (x, z) ∷ l) (zip_full xs ys y (omega arith))
+
+pub zip_more : (xs ys : List Value) (a b y d : Value) (ps new : List (Value × Value)) (len : ℕ) → ps ≡ zip xs ys → len ≡ length ps → len < length xs →
+    b ≡ get_or xs len d → a ≡ b → new ≡ ps ++ (a, y) ∷ [] → new ≡ zip xs (ys ++ y ∷ [])
+zip_more xs ys a b y d ps new len e el lt eb ea en =
+    let k : len ≡ length (zip xs ys) = el ∙ ap length e in
+    let m : length (zip xs ys) < length xs = subst (λ n. n < length xs) k lt in
+    en ∙ ap (λ l. l ++ (a, y) ∷ []) e ∙ ap (λ v. zip xs ys ++ (v, y) ∷ []) (ea ∙ eb ∙ ap (λ n. get_or xs n d) k) ∙ sym (zip_next xs ys y d m)
+
+pub zip_same : (xs ys : List Value) (y : Value) (ps : List (Value × Value)) (len : ℕ) → ps ≡ zip xs ys → len ≡ length ps → length xs ≤ len →
+    ps ≡ zip xs (ys ++ y ∷ [])
+zip_same xs ys y ps len e el le =
+    e ∙ sym (zip_full xs ys y (subst (λ n. length xs ≤ n) (el ∙ ap length e) le))

@@ -1,0 +1,6 @@
+use Rattle.tla_evaluator.proofs.NormalValues.{numbered-next}
+use Rattle.tla_evaluator.proofs.sequences.numbered.Goals as goal
+
+pub loop-item-preserved : goal.loop-item-preserved
+loop-item-preserved c =
+    numbered-next c.loop-item.yielded c.in-Some.item _ _ _ c.loop-item.invariant c.next_number-number.ensures c.in_ok-push.ensures.items

@@ -1,0 +1,24 @@
+-- What the calls answer.
+use Rattle.std.specs.Prelude.{List, [], ◌∷◌, ◌++◌, if◌then◌else◌}
+use Rattle.tla_values.specs.Sets.{Normal, arguments, insert_pair, member}
+use Rattle.tla_values.specs.declared.value.Value.{Value}
+use Rattle.tla_meaning.specs.declared.outcome.Outcome.{Outcome}
+use Rattle.tla_meaning.specs.declared.outcome.Outcome.TheVariants.{Val, Wrong, Big}
+
+-- a value of an outcome is normal
+abbrev pub IsNormalOutcome : Outcome → Type 0
+IsNormalOutcome (Val v) = Normal v
+IsNormalOutcome (Wrong p) = Unit {0}
+IsNormalOutcome (Big p) = Unit {0}
+
+abbrev pub IsNormalPair : Value × Value → Type 0
+IsNormalPair p = Normal p.0 × Normal p.1
+
+-- the function with one more pair, where its argument is a new one
+abbrev pub with_last : List (Value × Value) → Value × Value → List (Value × Value)
+with_last ps q = if member q.0 (arguments ps) then ps else insert_pair q ps
+
+-- the items of all lists
+abbrev pub all_of : List (List Value) → List Value
+all_of [] = []
+all_of (xs ∷ xss) = xs ++ all_of xss

@@ -1,0 +1,25 @@
+use Rattle.std.proofs.Common.{◌<◌, ◌∙◌, arith, subst}
+use Rattle.tla_lexer.specs.Classes.{is_equal_sign, BeginsWith}
+use Rattle.tla_lexer.proofs.Fronts.{StartsIn-some, some_run}
+use Rattle.tla_lexer.proofs.Signs.{one_equal_sign, short_equal_sign, equal_signs_found, many_signs, few_signs}
+use Rattle.tla_lexer.proofs.longest.equal_signs.Goals as goal
+use Rattle.tla_lexer.proofs.longest.equal_signs.Goals.{then-length-ge4, else-length-ge4+in_ok-piece}
+
+pub symbol-requires : goal.symbol-requires
+symbol-requires c =
+    let bytes = c.args.bytes.now in
+    record {
+      some = StartsIn-some is_equal_sign bytes c.requires;
+      symbolic = one_equal_sign bytes c.requires (subst (BeginsWith is_equal_sign bytes) c.if-length-eq1.true c.run_length-length.ensures);
+      short = short_equal_sign bytes c.requires;
+    }
+
+pub returns : goal.returns
+returns c =
+    let some = some_run is_equal_sign c.args.bytes.now _ c.requires c.run_length-length.ensures in
+    let more : 1 < c.run_length-length.result = omega arith in
+    equal_signs_found c.args.bytes.now _ _ c.requires c.run_length-length.ensures more
+    (elim c.if-length-ge4.branch [
+      | then-length-ge4 w ↦ w.piece-is ∙ many_signs _ _ _ w.if-length-ge4.true
+      | else-length-ge4+in_ok-piece w ↦ w.piece-is ∙ few_signs _ _ _ _ w.if-length-ge4.false w.in_ok-piece.ensures
+    ])

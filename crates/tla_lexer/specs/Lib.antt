@@ -1,0 +1,8 @@
+pub mod Classes
+pub mod Comments
+pub mod Header
+pub mod Pieces
+pub mod Places
+pub mod Runs
+pub mod Symbols
+pub mod Texts
