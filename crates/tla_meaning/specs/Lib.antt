@@ -12,3 +12,4 @@ pub mod Definitions
 pub mod Form1
 pub mod Inductive
 pub mod Questions
+pub mod Widths
