@@ -13,3 +13,4 @@ pub mod Form1
 pub mod Inductive
 pub mod Questions
 pub mod Widths
+pub mod Normals
