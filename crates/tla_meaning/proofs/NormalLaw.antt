@@ -1,5 +1,5 @@
 -- Values are normal, for every tree.
-use Rattle.std.proofs.Common.{◌≡◌, ℕ, suc, zero, Bool, true, false, ◌&&◌, IsTrue, List, [], ◌∷◌, ◌++◌, take, drop, map, zip, length, Option, Some, None, refl, ap, ◌∙◌, sym, subst, if◌then◌else◌}
+use Rattle.std.proofs.Common.{◌≡◌, ℕ, Bool, true, false, ◌&&◌, IsTrue, List, [], ◌∷◌, take, drop, map, zip, length, Option, Some, None, ◌∙◌, sym, subst, if◌then◌else◌}
 use Rattle.std.specs.List.{All, AllByRecursion, list_all}
 use Rattle.std.proofs.lemmas.List.Elements.{recursion_from_All}
 use Rattle.tla_values.specs.Sets.{Normal}
@@ -9,20 +9,19 @@ use Rattle.tla_meaning.specs.declared.expr.Expr.TheOpen.{Expr-F}
 use Rattle.tla_meaning.specs.declared.expr.Expr.TheFolds.{fold-roll-Expr, map-Expr, ind-Expr}
 use Rattle.tla_meaning.specs.declared.job.Env.{Env}
 use Rattle.tla_meaning.specs.declared.job.State.{State}
-use Rattle.tla_meaning.specs.declared.outcome.Outcome.{Outcome}
 use Rattle.tla_meaning.specs.declared.outcome.Outcome.TheVariants.{Val}
 use Rattle.tla_meaning.specs.declared.place.Place.{Place}
 use Rattle.tla_meaning.specs.Numbers.{Width}
 use Rattle.tla_meaning.specs.Scopes.{Sense, Scope, bind, bound_to, define, pass, find_last, or_else, same_text, stands_for}
-use Rattle.tla_meaning.specs.Meaning.{Meaning, View, senses, kid, Role, Named, Held, Lets, Plain_role, role, view, outer, inner, let_scope}
-use Rattle.tla_meaning.specs.Actions.{val, meaning, node}
+use Rattle.tla_meaning.specs.Meaning.{Meaning, senses, Role, Named, Held, Lets, Plain_role, role, view, outer, inner, let_scope}
+use Rattle.tla_meaning.specs.Actions.{val, meaning}
 use Rattle.tla_meaning.specs.Executions.{scope_of}
 use Rattle.tla_meaning.specs.Normals.{one_bound, filters_bind_one}
 use Rattle.tla_meaning.proofs.MeaningLemmas.{meaning-roll}
 use Rattle.tla_meaning.proofs.Views.{and_left, and_right}
 use Rattle.tla_meaning.proofs.NormalShapes.{Normals, IfSomes, truth_normal, all_plus}
 use Rattle.tla_meaning.proofs.NormalTable.{NormalOutcome}
-use Rattle.tla_meaning.proofs.NormalNodes.{Good, NormalSense, NormalSenses, NormalView, nonsense_normal, kid_normal, sense_normal}
+use Rattle.tla_meaning.proofs.NormalNodes.{NormalSense, NormalSenses, NormalView, nonsense_normal, kid_normal, sense_normal}
 
 -- ---- scopes
 

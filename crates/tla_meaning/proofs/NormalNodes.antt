@@ -1,5 +1,5 @@
 -- Each operator gives normal values, where its operands do.
-use Rattle.std.proofs.Common.{◌≡◌, ℕ, zero, suc, Bool, true, false, not, IsTrue, List, [], ◌∷◌, ◌++◌, length, take, drop, map, zip, Option, Some, None, refl, if◌then◌else◌}
+use Rattle.std.proofs.Common.{ℕ, zero, suc, Bool, true, false, not, IsTrue, List, [], ◌∷◌, take, drop, map, zip, Option, Some, None, if◌then◌else◌}
 use Rattle.std.specs.Prelude.{option_map, option_and_then, slice_get}
 use Rattle.std.specs.List.{AllByRecursion, list_any, list_all}
 use Rattle.tla_values.specs.Order.{Layer}
@@ -16,9 +16,9 @@ use Rattle.tla_meaning.specs.declared.outcome.Fault.{Fault}
 use Rattle.tla_meaning.specs.declared.outcome.Fault.TheVariants.{NoFault, IsWrong, IsBig}
 use Rattle.tla_meaning.specs.declared.outcome.Outcome.{Outcome}
 use Rattle.tla_meaning.specs.declared.outcome.Outcome.TheVariants.{Val, Wrong, Big}
-use Rattle.tla_meaning.specs.Outcomes.{both, fault_of, joined, values, unless, strict, with_value}
+use Rattle.tla_meaning.specs.Outcomes.{both, joined, values, unless, strict, with_value}
 use Rattle.tla_meaning.specs.Numbers.{Width}
-use Rattle.tla_meaning.specs.Shapes.{truth, the_set, the_function, sequence, with_each, choices, items_of, set_items, all_set_items}
+use Rattle.tla_meaning.specs.Shapes.{with_each, choices, items_of, set_items}
 use Rattle.tla_meaning.specs.Operators.{table, yes_no, on_all_sets, on_items}
 use Rattle.tla_meaning.specs.Forms.{SetForm, Formed, Made, Broken, form_fault, is_set_form, belongs}
 use Rattle.tla_meaning.specs.Scopes.{Sense, nonsense, value_found}
@@ -26,7 +26,7 @@ use Rattle.tla_meaning.specs.Meaning.{View, outcomes, kid, forms, choose, by_tru
 use Rattle.tla_meaning.specs.Actions.{meant, sense_of}
 use Rattle.tla_meaning.specs.Normals.{one_bound}
 use Rattle.tla_meaning.proofs.Views.{false≢true}
-use Rattle.tla_meaning.proofs.NormalShapes.{Normals, NormalPairs, NormalSet, NormalLists, NormalLayer, IfSomes, set_made, layer_normal, truth_normal, text_normal, the_set_normal, the_function_normal, all_plus, all_mapped, zip_pairs, Part, part_none, part_skip, part_keep, part_normal, sequence_normal, choices_normal, apply_normal, set_items_normal, lists_of}
+use Rattle.tla_meaning.proofs.NormalShapes.{Normals, NormalSet, NormalLists, NormalLayer, IfSomes, set_made, layer_normal, text_normal, the_set_normal, the_function_normal, all_plus, all_mapped, zip_pairs, Part, part_none, part_skip, part_keep, part_normal, sequence_normal, choices_normal, apply_normal, set_items_normal, lists_of}
 use Rattle.tla_meaning.proofs.NormalTable.{NormalOutcome, yes_normal, number_normal, on_items_normal, items_of_normal, on_all_sets_normal, taken, dropped, table_normal}
 
 abbrev pub NormalOutcomes : List Outcome → Type 0

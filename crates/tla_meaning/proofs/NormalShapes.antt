@@ -1,13 +1,13 @@
 -- The values that the operators make of normal values are normal.
-use Rattle.std.proofs.Common.{◌≡◌, ℕ, zero, suc, ◌+◌, Bool, true, false, ◌&&◌, IsTrue, List, [], ◌∷◌, ◌++◌, map, zip, filter, Option, Some, None, ℤ, pos, negsuc, ◌+ℤ◌, refl, ap, ◌∙◌, sym, subst, arith, if◌then◌else◌}
+use Rattle.std.proofs.Common.{◌≡◌, ℕ, zero, suc, ◌+◌, Bool, true, false, IsTrue, List, [], ◌∷◌, ◌++◌, map, zip, Option, Some, None, ℤ, pos, ◌+ℤ◌, refl, ap, ◌∙◌, sym, subst, arith, if◌then◌else◌}
 use Rattle.std.proofs.lemmas.Int.{ints}
 use Rattle.std.specs.Prelude.{option_map, option_and_then}
 use Rattle.std.specs.List.{AllByRecursion}
 use Rattle.std.specs.Ordering.{is_lt, int_cmp}
 use Rattle.std.specs.Cmp.{int_cmp_is}
 use Rattle.std.specs.declared.cmp.Ordering.TheVariants.{Less}
-use Rattle.tla_values.specs.Order.{Layer, value_cmp, same_value, value_lt}
-use Rattle.tla_values.specs.Sets.{Normal, increasing, arguments, set_of, function_of, union_of, insert, apply, override_at}
+use Rattle.tla_values.specs.Order.{Layer, value_cmp, same_value}
+use Rattle.tla_values.specs.Sets.{Normal, increasing, arguments, set_of, function_of, union_of, apply}
 use Rattle.tla_values.specs.declared.value.Value.{Value, out-Value, roll-Value}
 use Rattle.tla_values.specs.declared.value.Value.TheVariants as value
 use Rattle.tla_values.specs.declared.value.Value.TheOpen as layer
@@ -16,7 +16,7 @@ use Rattle.tla_values.proofs.Rising.{both_to}
 use Rattle.tla_values.proofs.SetLaws.{Above, Rising, rising_from, rising_to, rising_insert, all_insert, rising_set_of, all_set_of}
 use Rattle.tla_values.proofs.FunLaws.{rising_function, all_function}
 use Rattle.tla_values.proofs.OrderLemmas.{by_kinds}
-use Rattle.tla_values.proofs.NormalLemmas.{set_order, set_members, fun_order, fun_pairs, set_normal, fun_normal, normal_bool, normal_int, normal_text}
+use Rattle.tla_values.proofs.NormalLemmas.{set_order, set_members, set_normal, fun_normal, normal_bool, normal_int, normal_text}
 use Rattle.tla_meaning.specs.Numbers.{from_on}
 use Rattle.tla_meaning.specs.Shapes.{truth, the_set, the_function, numbered, sequence, record_of, is_int, items_from, set_items, all_set_items, union_all, sublists, with_each, choices, each_to, subsets, functions, records, tuples}
 

@@ -1,5 +1,5 @@
 -- The operators give normal values of normal values.
-use Rattle.std.proofs.Common.{◌≡◌, ℕ, zero, suc, ◌-◌, ◌+◌, Bool, true, false, not, List, [], ◌∷◌, ◌++◌, length, take, drop, map, filter, Option, Some, None, ℤ, pos, negsuc, ◌+ℤ◌, ◌-ℤ◌, ◌*ℤ◌, neg_ℤ, refl, ap, subst, if◌then◌else◌}
+use Rattle.std.proofs.Common.{ℕ, zero, suc, ◌-◌, ◌+◌, Bool, true, false, not, List, [], ◌∷◌, ◌++◌, length, take, drop, map, filter, Option, Some, None, ℤ, pos, negsuc, ◌+ℤ◌, ◌-ℤ◌, ◌*ℤ◌, neg_ℤ, refl, if◌then◌else◌}
 use Rattle.std.specs.Prelude.{int_lt, int_le, nat_le, nat_abs}
 use Rattle.std.specs.List.{AllByRecursion}
 use Rattle.tla_values.specs.Order.{Layer, same_value}
@@ -7,17 +7,17 @@ use Rattle.tla_values.specs.Sets.{Normal, arguments, apply, union_of, inter_of, 
 use Rattle.tla_values.specs.declared.value.Value.{Value, out-Value}
 use Rattle.tla_values.specs.declared.value.Value.TheVariants as value
 use Rattle.tla_values.specs.declared.value.Value.TheOpen as layer
-use Rattle.tla_values.proofs.NormalLemmas.{fun_order, fun_pairs, normal_domain, normal_filter, set_normal, fun_normal}
-use Rattle.tla_values.proofs.SetLaws.{rising_filter, all_filter, rising_from}
+use Rattle.tla_values.proofs.NormalLemmas.{fun_pairs, normal_domain, fun_normal}
+use Rattle.tla_values.proofs.SetLaws.{rising_filter, all_filter}
 use Rattle.tla_meaning.specs.declared.op.Op.{Op}
 use Rattle.tla_meaning.specs.declared.op.Op.TheVariants as op
 use Rattle.tla_meaning.specs.declared.place.Place.{Place}
 use Rattle.tla_meaning.specs.declared.outcome.Outcome.{Outcome}
 use Rattle.tla_meaning.specs.declared.outcome.Outcome.TheVariants.{Val, Wrong, Big}
-use Rattle.tla_meaning.specs.Numbers.{Width, in_width, number, quotient, remainder, power, div_floor, rem_floor, power_of, range, from_on}
+use Rattle.tla_meaning.specs.Numbers.{Width, in_width, number, quotient, remainder, power, div_floor, rem_floor, power_of, range}
 use Rattle.tla_meaning.specs.Operators.{table, yes_no, or_wrong, on_truth, on_truths, on_two, on_number, on_numbers, on_set, on_sets, on_function, on_functions, on_sequence, on_sequences, on_items, on_all_sets, applied, domain, head_of, tail_of, part_of, part_from_to, appended}
-use Rattle.tla_meaning.specs.Shapes.{truth, the_set, the_function, sequence, record_of, items_of, all_set_items, union_all, subsets, functions, records, tuples}
-use Rattle.tla_meaning.proofs.NormalShapes.{Normals, NormalPairs, NormalSet, NormalLists, NormalLayer, IfSomes, set_made, layer_normal, truth_normal, int_normal, the_set_normal, the_function_normal, all_plus, subsets_normal, from_normal, sequence_normal, record_normal, functions_normal, records_normal, tuples_normal, falsity_first, items_normal, apply_normal, all_items_normal, union_normal, union_all_normal, lists_of}
+use Rattle.tla_meaning.specs.Shapes.{truth, sequence, items_of, all_set_items, union_all}
+use Rattle.tla_meaning.proofs.NormalShapes.{Normals, NormalSet, NormalLayer, IfSomes, set_made, layer_normal, truth_normal, int_normal, the_set_normal, the_function_normal, all_plus, subsets_normal, from_normal, sequence_normal, record_normal, functions_normal, records_normal, tuples_normal, falsity_first, items_normal, apply_normal, all_items_normal, union_normal, union_all_normal, lists_of}
 
 abbrev pub NormalOutcome : Outcome → Type 0
 NormalOutcome (Val v) = Normal v

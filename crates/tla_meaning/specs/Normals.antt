@@ -1,5 +1,5 @@
 -- The trees whose values are normal.
-use Rattle.std.specs.Prelude.{ℕ, zero, suc, Bool, true, false, ◌&&◌, List, length}
+use Rattle.std.specs.Prelude.{ℕ, zero, suc, Bool, true, false, ◌&&◌, length}
 use Rattle.std.specs.List.{list_all}
 use Rattle.tla_meaning.specs.declared.expr.Expr.{Expr}
 use Rattle.tla_meaning.specs.declared.expr.Expr.TheFolds.{fold-Expr}
