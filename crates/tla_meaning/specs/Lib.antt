@@ -12,3 +12,5 @@ pub mod Definitions
 pub mod Form1
 pub mod Inductive
 pub mod Questions
+pub mod Widths
+pub mod Normals

@@ -1,9 +1,22 @@
 // Laws of the definitions, each as the contract of a function that does nothing.
-ghost use Rattle.std.specs.Prelude.{◌≡◌, ◌++◌, List};
+ghost use Rattle.std.specs.Prelude.{◌≡◌, ◌++◌, All, IsTrue, List, None, Some, ℕ};
+ghost use Rattle.tla_meaning.specs.Actions.{act, val};
+ghost use Rattle.tla_meaning.specs.Executions.{IsExecution, invariant, next, scope_of, start};
+ghost use Rattle.tla_meaning.specs.Normals.{filters_bind_one};
+ghost use Rattle.tla_meaning.specs.Numbers.{Width};
+ghost use Rattle.tla_meaning.specs.Scopes.{Marks};
+ghost use Rattle.tla_meaning.specs.Widths.{Narrow};
+ghost use Rattle.tla_meaning.specs.declared.expr.Expr.{Expr};
+ghost use Rattle.tla_meaning.specs.declared.job.Env.{Env};
+ghost use Rattle.tla_meaning.specs.declared.job.Job.{Job};
+ghost use Rattle.tla_meaning.specs.declared.job.State.{State};
 ghost use Rattle.tla_meaning.specs.declared.outcome.Fault.{Fault};
 ghost use Rattle.tla_meaning.specs.declared.outcome.Fault.TheVariants.{NoFault};
 ghost use Rattle.tla_meaning.specs.declared.outcome.Outcome.{Outcome};
+ghost use Rattle.tla_meaning.specs.declared.outcome.Outcome.TheVariants.{Val};
 ghost use Rattle.tla_meaning.specs.Outcomes.{both, joined};
+ghost use Rattle.tla_values.specs.Sets.{Normal};
+ghost use Rattle.tla_values.specs.declared.value.Value.{Value};
 
 /// The faults of several operands may be joined in any order and as often as one likes.
 pub fn faults_join()
@@ -12,4 +25,21 @@ pub fn faults_join()
     ensures idempotent { (f : Fault) → both f f ≡ f }
     ensures unit { (f : Fault) → both f NoFault ≡ f }
     ensures lists { (os more : List Outcome) → joined (os ++ more) ≡ both (joined os) (joined more) }
+{}
+
+/// What comes out under a width is Big, or is what comes out without a width, or is Wrong where that is Wrong too,
+/// perhaps at another place.
+pub fn widths_agree()
+    ensures values { (w : ℕ) (e : Expr) (env : Env) (s t : State) → Narrow (val (Some w) e (scope_of env) s t) (val None e (scope_of env) s t) }
+    ensures actions { (w : ℕ) (m : Marks) (e : Expr) (env : Env) (s t : State) → Narrow (act (Some w) m e (scope_of env) s t) (act None m e (scope_of env) s t) }
+    ensures starts { (w : ℕ) (job : Job) (s : State) → Narrow (start (Some w) job s) (start None job s) }
+    ensures steps { (w : ℕ) (job : Job) (s t : State) → Narrow (next (Some w) job s t) (next None job s t) }
+    ensures invariants { (w : ℕ) (job : Job) (s : State) → Narrow (invariant (Some w) job s) (invariant None job s) }
+    ensures executions { (w : ℕ) (job : Job) (ss : List State) → IsExecution (Some w) job ss → IsExecution None job ss }
+{}
+
+/// Every value of a tree over normal states and normal bound values is normal, where each `{x \in S : P}` binds one
+/// name, as the language has it.
+pub fn values_are_normal()
+    ensures { (w : Width) (e : Expr) (env : Env) (s t : State) (v : Value) → IsTrue (filters_bind_one e) → All (λ b. Normal b.1) env.vals → All Normal s.vals → All Normal t.vals → val w e (scope_of env) s t ≡ Val v → Normal v }
 {}

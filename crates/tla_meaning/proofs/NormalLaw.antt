@@ -1,0 +1,162 @@
+-- Values are normal, for every tree.
+use Rattle.std.proofs.Common.{◌≡◌, ℕ, Bool, true, false, ◌&&◌, IsTrue, List, [], ◌∷◌, take, drop, map, zip, length, Option, Some, None, ◌∙◌, sym, subst, if◌then◌else◌}
+use Rattle.std.specs.List.{All, AllByRecursion, list_all}
+use Rattle.std.proofs.lemmas.List.Elements.{recursion_from_All}
+use Rattle.tla_values.specs.Sets.{Normal}
+use Rattle.tla_values.specs.declared.value.Value.{Value}
+use Rattle.tla_meaning.specs.declared.expr.Expr.{Expr, roll-Expr}
+use Rattle.tla_meaning.specs.declared.expr.Expr.TheOpen.{Expr-F}
+use Rattle.tla_meaning.specs.declared.expr.Expr.TheFolds.{fold-roll-Expr, map-Expr, ind-Expr}
+use Rattle.tla_meaning.specs.declared.job.Env.{Env}
+use Rattle.tla_meaning.specs.declared.job.State.{State}
+use Rattle.tla_meaning.specs.declared.outcome.Outcome.TheVariants.{Val}
+use Rattle.tla_meaning.specs.declared.place.Place.{Place}
+use Rattle.tla_meaning.specs.Numbers.{Width}
+use Rattle.tla_meaning.specs.Scopes.{Sense, Scope, bind, bound_to, define, pass, find_last, or_else, same_text, stands_for}
+use Rattle.tla_meaning.specs.Meaning.{Meaning, senses, Role, Named, Held, Lets, Plain_role, role, view, outer, inner, let_scope}
+use Rattle.tla_meaning.specs.Actions.{val, meaning}
+use Rattle.tla_meaning.specs.Executions.{scope_of}
+use Rattle.tla_meaning.specs.Normals.{one_bound, filters_bind_one}
+use Rattle.tla_meaning.proofs.MeaningLemmas.{meaning-roll}
+use Rattle.tla_meaning.proofs.Views.{and_left, and_right}
+use Rattle.tla_meaning.proofs.NormalShapes.{Normals, IfSomes, truth_normal, all_plus}
+use Rattle.tla_meaning.proofs.NormalTable.{NormalOutcome}
+use Rattle.tla_meaning.proofs.NormalNodes.{NormalSense, NormalSenses, NormalView, nonsense_normal, kid_normal, sense_normal}
+
+-- ---- scopes
+
+abbrev NormalDef : (List Sense → Sense) → Type 0
+NormalDef d = (as' : List Sense) → NormalSenses as' → NormalSense (d as')
+
+abbrev Entries : {X : Type 0} → (X → Type 0) → List (List ℕ × X) → Type 0
+Entries P es = AllByRecursion (λ e. P e.1) es
+
+record NormalScope (a : Scope) : Type 0 where
+  pub bound : Entries Normal a.bound
+  pub named : Entries NormalDef a.named
+
+else_normal : {X : Type 0} (P : X → Type 0) (o q : Option X) → IfSomes P o → IfSomes P q → IfSomes P (or_else o q)
+else_normal P None q h k = k
+else_normal P (Some x) q h k = h
+
+test_normal : {X : Type 0} (P : X → Type 0) (b : Bool) (x : X) → P x → IfSomes P (if b then Some x else None)
+test_normal P true x h = h
+test_normal P false x h = tt
+
+find_normal : {X : Type 0} (P : X → Type 0) (x : List ℕ) (es : List (List ℕ × X)) → Entries P es → IfSomes P (find_last x es)
+find_normal P x [] h = tt
+find_normal P x (e ∷ es) h = else_normal P (find_last x es) _ (find_normal P x es h.1) (test_normal P (same_text x e.0) e.1 h.0)
+
+bound_normal : (xs : List (List ℕ)) (vs : List Value) → Normals vs → Entries Normal (bound_to xs vs)
+bound_normal [] vs h = tt
+bound_normal (x ∷ xs) [] h = (truth_normal false, bound_normal xs [] h)
+bound_normal (x ∷ xs) (v ∷ vs) h = (h.0, bound_normal xs vs h.1)
+
+passed_normal : (xs : List (List ℕ)) (as' : List Sense) → NormalSenses as' → Entries NormalDef (zip xs (map (λ a. λ (_ : List Sense). a) as'))
+passed_normal [] as' h = tt
+passed_normal (x ∷ xs) [] h = tt
+passed_normal (x ∷ xs) (a ∷ as') h = ((λ bs k. h.0), passed_normal xs as' h.1)
+
+bind_normal : (xs : List (List ℕ)) (vs : List Value) (a : Scope) → Normals vs → NormalScope a → NormalScope (bind xs vs a)
+bind_normal xs vs a h r = record { bound = all_plus (λ e. Normal e.1) a.bound (bound_to xs vs) r.bound (bound_normal xs vs h); named = r.named }
+
+define_normal : (x : List ℕ) (d : List Sense → Sense) (a : Scope) → NormalDef d → NormalScope a → NormalScope (define x d a)
+define_normal x d a h r = record { bound = r.bound; named = all_plus (λ e. NormalDef e.1) a.named ((x, d) ∷ []) r.named (h, tt) }
+
+pass_normal : (xs : List (List ℕ)) (as' : List Sense) (a : Scope) → NormalSenses as' → NormalScope a → NormalScope (pass xs as' a)
+pass_normal xs as' a h r = record { bound = r.bound; named = all_plus (λ e. NormalDef e.1) a.named _ r.named (passed_normal xs as' h) }
+
+stands_normal : (p : Place) (o : Option (List Sense → Sense)) (as' : List Sense) → IfSomes NormalDef o → NormalSenses as' → NormalSense (stands_for p o as')
+stands_normal p None as' h k = nonsense_normal p
+stands_normal p (Some d) as' h k = h as' k
+
+-- ---- views
+
+abbrev NormalMeaning : Meaning → Type 0
+NormalMeaning k = (a : Scope) → NormalScope a → NormalSense (k a)
+
+abbrev NormalMeanings : List Meaning → Type 0
+NormalMeanings ks = AllByRecursion NormalMeaning ks
+
+senses_normal : (ks : List Meaning) (a : Scope) → NormalMeanings ks → NormalScope a → NormalSenses (senses ks a)
+senses_normal [] a h r = tt
+senses_normal (k ∷ ks) a h r = (h.0 a r, senses_normal ks a h.1 r)
+
+outer_normal : (p : Place) (ms : List Bool) (ks : List Meaning) (a : Scope) → NormalMeanings ks → NormalScope a → NormalSenses (outer p ms ks a)
+outer_normal p ms [] a h r = tt
+outer_normal p [] (k ∷ ks) a h r = (h.0 a r, outer_normal p [] ks a h.1 r)
+outer_normal p (true ∷ ms) (k ∷ ks) a h r = (nonsense_normal p, outer_normal p ms ks a h.1 r)
+outer_normal p (false ∷ ms) (k ∷ ks) a h r = (h.0 a r, outer_normal p ms ks a h.1 r)
+
+inner_normal : (p : Place) (ms : List Bool) (ks : List Meaning) (a : Scope) → NormalMeanings ks → NormalScope a → NormalSenses (inner p ms ks a)
+inner_normal p ms [] a h r = tt
+inner_normal p [] (k ∷ ks) a h r = (nonsense_normal p, inner_normal p [] ks a h.1 r)
+inner_normal p (true ∷ ms) (k ∷ ks) a h r = (h.0 a r, inner_normal p ms ks a h.1 r)
+inner_normal p (false ∷ ms) (k ∷ ks) a h r = (nonsense_normal p, inner_normal p ms ks a h.1 r)
+
+let_normal : (ds : List (List ℕ × ℕ)) (xs : List (List ℕ)) (ks : List Meaning) (a : Scope) → NormalMeanings ks → NormalScope a →
+    NormalScope (let_scope ds xs ks a)
+let_normal (d ∷ ds) xs (k ∷ ks) a h r =
+    let new : List Sense → Sense = λ as'. k (pass (take d.1 xs) as' a) in
+    let_normal ds (drop d.1 xs) ks (define d.0 new a) h.1
+    (define_normal d.0 new a (λ as' g. h.0 (pass (take d.1 xs) as' a) (pass_normal (take d.1 xs) as' a g r)) r)
+let_normal ds xs ks a h r = r
+
+view_normal : (p : Place) (o : Role) (xs : List (List ℕ)) (ks : List Meaning) (a : Scope) → NormalMeanings ks → NormalScope a → NormalView (view p o xs ks a)
+view_normal p (Named x) xs ks a h r = record {
+  here = senses_normal ks a h r;
+  under = λ vs g. tt;
+  held = tt;
+  whole = stands_normal p (find_last x a.named) (senses ks a) (find_normal NormalDef x a.named r.named) (senses_normal ks a h r);
+}
+view_normal p (Held x) xs ks a h r = record {
+  here = senses_normal ks a h r;
+  under = λ vs g. tt;
+  held = find_normal Normal x a.bound r.bound;
+  whole = tt;
+}
+view_normal p (Lets ds) xs ks a h r = record {
+  here = senses_normal ks a h r;
+  under = λ vs g. tt;
+  held = tt;
+  whole = kid_normal p (length ds) (senses ks (let_scope ds xs ks a)) (senses_normal ks (let_scope ds xs ks a) h (let_normal ds xs ks a h r));
+}
+view_normal p (Plain_role ms) xs ks a h r = record {
+  here = outer_normal p ms ks a h r;
+  under = λ vs g. inner_normal p ms ks (bind xs vs a) h (bind_normal xs vs a g r);
+  held = tt;
+  whole = tt;
+}
+
+-- ---- trees
+
+abbrev IsNormal : Width → Expr → Type 0
+IsNormal w e = IsTrue (filters_bind_one e) → NormalMeaning (meaning w e)
+
+children_normal : (w : Width) (ys : List ((e : Expr) × IsNormal w e)) →
+    IsTrue (list_all (λ b. b) (map filters_bind_one (map (λ y. y.0) ys))) → NormalMeanings (map (meaning w) (map (λ y. y.0) ys))
+children_normal w [] h = tt
+children_normal w (y ∷ ys) h =
+    let one : Bool = filters_bind_one y.0 in
+    let rest : Bool = list_all (λ b. b) (map filters_bind_one (map (λ y. y.0) ys)) in
+    (y.1 (and_left one rest h), children_normal w ys (and_right one rest h))
+
+meaning_normal : (w : Width) (e : Expr) → IsNormal w e
+meaning_normal w = ind-Expr (IsNormal w) (λ x y is.
+    subst (λ (z : Expr-F Expr). IsNormal w (roll-Expr z)) is (λ h a r.
+    let z : Expr-F Expr = map-Expr ((e : Expr) × IsNormal w e) Expr (λ e. e.0) y in
+    let one : Bool = one_bound z.op (length z.binds) in
+    let rest : Bool = list_all (λ b. b) (map filters_bind_one z.args) in
+    let k : IsTrue (one && rest) = sym (fold-roll-Expr Bool (λ x. one_bound x.op (length x.binds) && list_all (λ b. b) x.args) z) ∙ h in
+    let o : Role = role z.op (length z.binds) in
+    let ks : List Meaning = map (meaning w) z.args in
+    subst (λ (m : Meaning). NormalSense (m a)) (sym (meaning-roll w z))
+    (sense_normal w z.place z.op (length z.binds) (view z.place o z.binds ks a) (and_left one rest k)
+    (view_normal z.place o z.binds ks a (children_normal w y.args (and_right one rest k)) r))))
+
+pub val_normal : (w : Width) (e : Expr) (env : Env) (s t : State) (v : Value) → IsTrue (filters_bind_one e) → All (λ b. Normal b.1) env.vals →
+    All Normal s.vals → All Normal t.vals → val w e (scope_of env) s t ≡ Val v → Normal v
+val_normal w e env s t v f b g h is =
+    let sc : NormalScope (scope_of env) = record { bound = recursion_from_All (λ b. Normal b.1) env.vals b; named = tt } in
+    subst NormalOutcome is
+    ((meaning_normal w e f (scope_of env) sc).value s t (recursion_from_All Normal s.vals g) (recursion_from_All Normal t.vals h))
