@@ -1,5 +1,5 @@
 -- What the definitions of a flat module stand for (Specifying Systems, sections 17.1 and 17.5).
-use Rattle.std.specs.Prelude.{ℕ, List, [], ◌∷◌, map}
+use Rattle.std.specs.Prelude.{ℕ, List, [], ◌∷◌}
 use Rattle.tla_meaning.specs.declared.expr.Def.{Def}
 use Rattle.tla_meaning.specs.declared.modules.Flat.{Flat}
 use Rattle.tla_meaning.specs.declared.place.Place.{Place}

@@ -1,5 +1,5 @@
 -- Inductive errors: one step from any state within bounds at which the assumptions and the invariants hold.
-use Rattle.std.specs.Prelude.{List, ◌∷◌, ◌++◌, map, None}
+use Rattle.std.specs.Prelude.{◌∷◌, ◌++◌, map, None}
 use Rattle.tla_meaning.specs.declared.job.Job.{Job}
 use Rattle.tla_meaning.specs.declared.job.State.{State}
 use Rattle.tla_meaning.specs.declared.outcome.Outcome.{Outcome}
