@@ -1,0 +1,67 @@
+-- What an evaluation computes: the meaning of expanded trees, where bound names have values and nothing is defined.
+use Rattle.std.specs.Prelude.{ℕ, Bool, true, false, ◌&&◌, List, [], map, Some}
+use Rattle.std.specs.List.{All, list_all}
+use Rattle.tla_values.specs.Sets.{Normal}
+use Rattle.tla_values.specs.declared.value.Value.{Value}
+use Rattle.tla_meaning.specs.declared.expr.Expr.{Expr}
+use Rattle.tla_meaning.specs.declared.expr.Expr.TheOpen.{Expr-F}
+use Rattle.tla_meaning.specs.declared.expr.Expr.TheFolds.{fold-Expr}
+use Rattle.tla_meaning.specs.declared.job.State.{State}
+use Rattle.tla_meaning.specs.declared.op.Op.{Op}
+use Rattle.tla_meaning.specs.declared.op.Op.TheVariants as op
+use Rattle.tla_meaning.specs.declared.outcome.Outcome.{Outcome}
+use Rattle.tla_meaning.specs.Actions.{node}
+use Rattle.tla_meaning.specs.Forms.{Formed}
+use Rattle.tla_meaning.specs.Meaning.{Meaning}
+use Rattle.tla_meaning.specs.Numbers.{Width}
+use Rattle.tla_meaning.specs.Scopes.{Effect, Marks, Scope, nonsense}
+
+-- the operators that are left after expansion
+abbrev pub stays : Op → Bool
+stays (op.Use x) = false
+stays (op.Param x) = false
+stays (op.Let ds) = false
+stays op.Prime = false
+stays op.Unchanged = false
+stays op.Boxed = false
+stays op.Angled = false
+stays o = true
+
+abbrev pub is_expanded : Expr → Bool
+is_expanded = fold-Expr Bool (λ x. stays x.op && list_all (λ b. b) x.args)
+
+-- such a node means what it means, and every other one nothing
+abbrev pub lone_node : Width → Expr-F Meaning → Meaning
+lone_node w x sc = elim (stays x.op) [ true ↦ node w x sc | false ↦ nonsense x.place ]
+
+-- the meaning of trees that use nothing that is defined elsewhere
+unfoldable pub lone : Width → Expr → Meaning
+lone w = fold-Expr Meaning (lone_node w)
+
+-- bound names have these values, and nothing is defined
+abbrev pub scope_at : List (List ℕ × Value) → Scope
+scope_at vars = record { bound = vars; named = [] }
+
+abbrev pub value_at : ℕ → Expr → List (List ℕ × Value) → State → State → Outcome
+value_at w e vars s t = (lone (Some w) e (scope_at vars)).value s t
+
+abbrev pub form_at : ℕ → Expr → List (List ℕ × Value) → State → State → Formed
+form_at w e vars s t = (lone (Some w) e (scope_at vars)).form s t
+
+abbrev pub effect_at : ℕ → Marks → Expr → List (List ℕ × Value) → State → State → Effect
+effect_at w m e vars s t = (lone (Some w) e (scope_at vars)).act m s t
+
+abbrev pub outcomes_at : ℕ → List Expr → List (List ℕ × Value) → State → State → List Outcome
+outcomes_at w es vars s t = map (λ e. value_at w e vars s t) es
+
+abbrev pub forms_at : ℕ → List Expr → List (List ℕ × Value) → State → State → List Formed
+forms_at w es vars s t = map (λ e. form_at w e vars s t) es
+
+abbrev pub effects_at : ℕ → Marks → List Expr → List (List ℕ × Value) → State → State → List Effect
+effects_at w m es vars s t = map (λ e. effect_at w m e vars s t) es
+
+-- the values that an evaluation reads are normal
+pub record AreNormal (vars : List (List ℕ × Value)) (s t : State) : Type 0 where
+  pub bound : All (λ b. Normal b.1) vars
+  pub now : All Normal s.vals
+  pub next : All Normal t.vals
