@@ -1,3 +1,4 @@
+pub mod Excepts
 pub mod Results
 pub mod SetRules
 pub mod Trees

@@ -1,12 +1,17 @@
 //! Evaluates expressions as their meaning says.
 #![tactic(auto)]
 
+mod binders;
+mod excepts;
 mod forms;
 mod functions;
 mod logic;
+mod memberships;
+mod names;
 mod numbers;
 mod operands;
 mod operators;
+mod outcomes;
 mod records;
 mod sequences;
 mod sets;
