@@ -1,3 +1,4 @@
+pub mod BinderLemmas
 pub mod FormLemmas
 pub mod NameLemmas
 pub mod NumberLemmas

@@ -1,5 +1,5 @@
 // What a binder gives of its choices and of the body's value at each.
-ghost use Rattle.std.specs.Prelude.{◌≡◌, ◌+◌, ◌++◌, ◌∷◌, [], Bool as Truth, IfOk, List as Items, OnOk, drop, map, option_map, true, zip};
+ghost use Rattle.std.specs.Prelude.{◌≡◌, ◌+◌, ◌++◌, ◌∷◌, [], Bool as Truth, IfOk, List as Items, OnOk, drop, map, option_map, zip};
 ghost use Rattle.tla_meaning.specs.Meaning.{argument, bound_table, kept, truths};
 ghost use Rattle.tla_meaning.specs.Shapes.{the_function};
 
@@ -92,31 +92,30 @@ fn kept_of(
     let mut members = Vec::new(alloc);
     for (i, v) in values.iter().enumerate() {
         match v {
-            Value::Bool(b) => {
-                if *b {
-                    copy_first_onto(alloc, choices, i, &mut members)?;
-                }
-            }
+            Value::Bool(b) => keep_first(alloc, *b, choices, i, &mut members)?,
             _ => return Ok(None),
         }
     }
     Ok(Some(members))
 }
 
-// Adds the first member of the i-th choice, where there is one.
-fn copy_first_onto(
+// Adds the first member of the i-th choice, where it passes and there is one.
+fn keep_first(
     alloc: Global,
+    passes: bool,
     choices: &[List<Value>],
     i: usize,
     out: &mut Vec<Value>,
 ) -> Result<(), AllocError>
     ensures { OnOk result ((bs : Items Truth) →
-        out.new.items ++ kept (drop (i + 1) choices.now) bs ≡ out.old.items ++ kept (drop i choices.now) (true ∷ bs)) }
+        out.new.items ++ kept (drop (i + 1) choices.now) bs ≡ out.old.items ++ kept (drop i choices.now) (passes ∷ bs)) }
 {
     if i < choices.len() {
         if let [first, ..] = choices[i].as_slice() {
-            let copy = copy_value(alloc, first)?;
-            out.push(copy)?;
+            if passes {
+                let copy = copy_value(alloc, first)?;
+                out.push(copy)?;
+            }
         }
     }
     Ok(())
