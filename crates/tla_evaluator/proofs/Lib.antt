@@ -1,5 +1,6 @@
 pub mod BinderLemmas
 pub mod FormLemmas
+pub mod FormSteps
 pub mod NameLemmas
 pub mod NumberLemmas
 pub mod FunctionLemmas

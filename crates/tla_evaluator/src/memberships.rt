@@ -1,10 +1,11 @@
 // Set forms that may have a fault, and what stands on both sides of a membership.
-ghost use Rattle.std.specs.Prelude.{◌≡◌, ◌∷◌, ◌++◌, [], IfOk, List as Items, MatchResult, OnOk, length, map, not};
+ghost use Rattle.std.specs.Prelude.{◌≡◌, ◌∷◌, ◌++◌, [], IfOk, List as Items, MatchResult, OnOk, length, map, not, option_and_then};
 ghost use Rattle.tla_values.specs.declared.value.Value.{Value as Member};
 ghost use Rattle.tla_meaning.specs.Forms.{Broken, Formed, Made, Functions, Records, Sequences, SetForm, SetForms, Subsets, Tuples, all_set_forms, belongs, form_fault, form_faults};
-ghost use Rattle.tla_meaning.specs.Meaning.{all_in, form_of_all, form_of_one, function_form, in_form, plain};
+ghost use Rattle.tla_meaning.specs.Meaning.{all_in, form_of_all, form_of_one, function_form, in_form, layer_of, plain};
 ghost use Rattle.tla_meaning.specs.Operators.{yes_no};
 ghost use Rattle.tla_meaning.specs.Outcomes.{both, fault_of};
+ghost use Rattle.tla_meaning.specs.Shapes.{set_items};
 ghost use Rattle.tla_evaluator.specs.SetRules.{fault_or_wrong, form_of, formed_of, forms_in, forms_of};
 
 use crate::forms::{SetRule, all_belong, belongs, is_set_form};
@@ -256,10 +257,13 @@ fn all_set_rules(rules: &[SetRule]) -> bool
 
 // The forms, where each is a set form, or the fault that stands in their place.
 fn set_rules(joined: JoinedForms, place: Place) -> Result<Vec<SetRule>, Fault>
-    ensures { (fs : Items Formed) → joined.fault ≡ form_faults fs → map form_of joined.forms.items ≡ forms_in fs →
-        MatchResult result
-        (λ rs. (make : SetForms → SetForm) → form_of_all place make fs ≡ Made (make (forms_of (map form_of rs.items))))
-        (λ g. (make : SetForms → SetForm) → form_of_all place make fs ≡ Broken g) }
+    ensures { MatchResult result
+        (λ rs. (fs : Items Formed) (make : SetForms → SetForm) →
+            joined.fault ≡ form_faults fs → map form_of joined.forms.items ≡ forms_in fs →
+            form_of_all place make fs ≡ Made (make (forms_of (map form_of rs.items))))
+        (λ g. (fs : Items Formed) (make : SetForms → SetForm) →
+            joined.fault ≡ form_faults fs → map form_of joined.forms.items ≡ forms_in fs →
+            form_of_all place make fs ≡ Broken g) }
 {
     match joined.fault {
         Fault::NoFault => {
@@ -303,32 +307,55 @@ pub(crate) fn function_form(
     rest: JoinedForms,
     count: usize,
 ) -> Result<FormOutcome, AllocError>
-    ensures { (os : Items Outcome) (d : Formed) (fs : Items Formed) →
+    ensures { IfOk result (λ f. (os : Items Outcome) (d : Formed) (fs : Items Formed) →
         rest.fault ≡ form_faults fs → map form_of rest.forms.items ≡ forms_in fs → count ≡ length fs →
-        IfOk result (λ f. formed_of f ≡ function_form place (domain ∷ os) (d ∷ fs)) }
+        formed_of f ≡ function_form place (domain ∷ os) (d ∷ fs)) }
 {
     match both(fault_of(&domain), rest.fault) {
-        Fault::NoFault => match domain {
-            Outcome::Val(Value::Set(items)) => {
-                if count == 1 {
-                    functions_of(alloc, items, only_form(rest), place)
-                } else {
-                    Ok(FormOutcome::Broken(Fault::IsWrong(place)))
-                }
-            }
-            _ => Ok(FormOutcome::Broken(Fault::IsWrong(place))),
+        Fault::NoFault => match set_items(domain) {
+            Some(items) => functions_from(alloc, items, rest, count, place),
+            None => Ok(FormOutcome::Broken(Fault::IsWrong(place))),
         },
         fault => Ok(FormOutcome::Broken(fault)),
     }
 }
 
-// The form of which this is the join.
+// The items of the set that the outcome is.
+fn set_items(outcome: Outcome) -> Option<List<Value>>
+    ensures { result ≡ option_and_then set_items (layer_of outcome) }
+{
+    match outcome {
+        Outcome::Val(Value::Set(items)) => Some(items),
+        _ => None,
+    }
+}
+
+// `[S -> F]`, where S has these items.
+fn functions_from(
+    alloc: Global,
+    items: List<Value>,
+    joined: JoinedForms,
+    count: usize,
+    place: Place,
+) -> Result<FormOutcome, AllocError>
+    ensures { IfOk result (λ f. (fs : Items Formed) →
+        joined.fault ≡ form_faults fs → map form_of joined.forms.items ≡ forms_in fs → count ≡ length fs →
+        formed_of f ≡ form_of_one place (Functions items) fs) }
+{
+    if count == 1 {
+        functions_of(alloc, items, only_form(joined), place)
+    } else {
+        Ok(FormOutcome::Broken(Fault::IsWrong(place)))
+    }
+}
+
+// The form of which alone this is the join.
 fn only_form(joined: JoinedForms) -> FormOutcome
     ensures { (f : Formed) → joined.fault ≡ form_faults (f ∷ []) → map form_of joined.forms.items ≡ forms_in (f ∷ []) →
         formed_of result ≡ f }
 {
-    let JoinedForms { fault, forms } = joined;
-    match forms.into_iter().next() {
+    let JoinedForms { fault, mut forms } = joined;
+    match forms.pop() {
         Some(rule) => FormOutcome::Made(rule),
         None => FormOutcome::Broken(fault),
     }
