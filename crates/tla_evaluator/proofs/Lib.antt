@@ -8,3 +8,6 @@ pub mod ListLemmas
 pub mod NormalValues
 pub mod OutcomeLemmas
 pub mod Rows
+pub mod TreeLemmas
+pub mod NodeLemmas
+pub mod FormNodes

@@ -2,6 +2,7 @@
 #![tactic(auto)]
 
 mod binders;
+mod eval;
 mod excepts;
 mod forms;
 mod functions;
@@ -17,6 +18,8 @@ mod sequences;
 mod sets;
 #[cfg(test)]
 mod tests;
+mod trees;
 
 pub use forms::{SetRule, all_belong, belongs, is_set_form};
 pub use operators::table;
+pub use trees::is_expanded;

@@ -3,16 +3,16 @@ ghost use Rattle.std.specs.Prelude.{◌≡◌, ◌∷◌, ◌++◌, [], IfOk, Li
 ghost use Rattle.tla_values.specs.declared.value.Value.{Value as Member};
 ghost use Rattle.tla_meaning.specs.Forms.{Broken, Formed, Made, Functions, Records, Sequences, SetForm, SetForms, Subsets, Tuples, all_set_forms, belongs, form_fault, form_faults};
 ghost use Rattle.tla_meaning.specs.Meaning.{all_in, form_of_all, form_of_one, function_form, in_form, layer_of, plain};
-ghost use Rattle.tla_meaning.specs.Operators.{yes_no};
 ghost use Rattle.tla_meaning.specs.Outcomes.{both, fault_of};
 ghost use Rattle.tla_meaning.specs.Shapes.{set_items};
+ghost use Rattle.tla_evaluator.specs.Trees.{membership_test};
 ghost use Rattle.tla_evaluator.specs.SetRules.{fault_or_wrong, form_of, formed_of, forms_in, forms_of};
 
 use crate::forms::{SetRule, all_belong, belongs, is_set_form};
 use crate::logic::yes_no;
-use crate::outcomes::both;
+use crate::outcomes::{both, fault_of};
 use std::alloc::{AllocError, Global};
-use tla_meaning::{Fault, Outcome, Place};
+use tla_meaning::{Fault, Op, Outcome, Place};
 use tla_values::{List, Text, Value};
 
 // A set form, or a fault on the way to it.
@@ -70,17 +70,6 @@ pub(crate) fn plain(outcome: Outcome) -> FormOutcome
 
 // ---- memberships
 
-// What kept an outcome from being a value.
-fn fault_of(outcome: &Outcome) -> Fault
-    ensures { result ≡ fault_of outcome.now }
-{
-    match outcome {
-        Outcome::Val(_) => Fault::NoFault,
-        Outcome::Wrong(p) => Fault::IsWrong(*p),
-        Outcome::Big(p) => Fault::IsBig(*p),
-    }
-}
-
 fn form_fault(form: &FormOutcome) -> Fault
     ensures { result ≡ form_fault (formed_of form.now) }
 {
@@ -129,36 +118,25 @@ pub(crate) fn sides(
     }
 }
 
-// `\in`.
-pub(crate) fn is_in(outcome: Outcome, form: FormOutcome, place: Place) -> Outcome
+// `\in`, `\notin` and `\subseteq`, of the outcomes of both sides.
+pub(crate) fn tested(op: &Op, outcome: Outcome, form: FormOutcome, place: Place) -> Outcome
     ensures { (os : Items Outcome) (d : Formed) →
-        result ≡ in_form place (λ v f. yes_no (belongs f v)) (outcome ∷ os) (d ∷ formed_of form ∷ []) }
+        result ≡ in_form place (membership_test op.now place) (outcome ∷ os) (d ∷ formed_of form ∷ []) }
 {
     match sides(outcome, form, place) {
-        Ok((v, rule)) => yes_no(belongs(&rule, &v)),
+        Ok((v, rule)) => test(op, &v, &rule, place),
         Err(other) => other,
     }
 }
 
-// `\notin`.
-pub(crate) fn is_not_in(outcome: Outcome, form: FormOutcome, place: Place) -> Outcome
-    ensures { (os : Items Outcome) (d : Formed) →
-        result ≡ in_form place (λ v f. yes_no (not (belongs f v))) (outcome ∷ os) (d ∷ formed_of form ∷ []) }
+fn test(op: &Op, v: &Value, rule: &SetRule, place: Place) -> Outcome
+    ensures { result ≡ membership_test op.now place v.now (form_of rule.now) }
 {
-    match sides(outcome, form, place) {
-        Ok((v, rule)) => yes_no(!belongs(&rule, &v)),
-        Err(other) => other,
-    }
-}
-
-// `\subseteq`.
-pub(crate) fn is_included(outcome: Outcome, form: FormOutcome, place: Place) -> Outcome
-    ensures { (os : Items Outcome) (d : Formed) →
-        result ≡ in_form place (all_in place) (outcome ∷ os) (d ∷ formed_of form ∷ []) }
-{
-    match sides(outcome, form, place) {
-        Ok((v, rule)) => all_in(&v, &rule, place),
-        Err(other) => other,
+    match op {
+        Op::In => yes_no(belongs(rule, v)),
+        Op::NotIn => yes_no(!belongs(rule, v)),
+        Op::SubsetEq => all_in(v, rule, place),
+        _ => Outcome::Wrong(place),
     }
 }
 

@@ -1,5 +1,5 @@
 // Outcomes, and how those of several operands are one.
-ghost use Rattle.std.specs.Prelude.{◌≡◌, ◌++◌, ◌∷◌, [], MatchResult, OnOk};
+ghost use Rattle.std.specs.Prelude.{◌≡◌, ◌++◌, ◌∷◌, [], IsTrue, MatchResult, OnOk, false};
 ghost use Rattle.tla_meaning.specs.Meaning.{choose};
 ghost use Rattle.tla_meaning.specs.Operators.{yes_no};
 ghost use Rattle.tla_meaning.specs.Outcomes.{before, both, fault_of, least, unless, values};
@@ -101,5 +101,26 @@ pub(crate) fn truth(outcome: Outcome, place: Place) -> Result<bool, Outcome>
         Outcome::Val(_) => Err(Outcome::Wrong(place)),
         Outcome::Wrong(p) => Err(Outcome::Wrong(p)),
         Outcome::Big(p) => Err(Outcome::Big(p)),
+    }
+}
+
+// What kept an outcome from being a value.
+pub(crate) fn fault_of(outcome: &Outcome) -> Fault
+    ensures { result ≡ fault_of outcome.now }
+{
+    match outcome {
+        Outcome::Val(_) => Fault::NoFault,
+        Outcome::Wrong(p) => Fault::IsWrong(*p),
+        Outcome::Big(p) => Fault::IsBig(*p),
+    }
+}
+
+pub(crate) fn is_fault(fault: Fault) -> bool
+    ensures yes { IsTrue result → (o q : Outcome) → unless fault o ≡ unless fault q }
+    ensures no { result ≡ false → fault ≡ Fault.NoFault }
+{
+    match fault {
+        Fault::NoFault => false,
+        _ => true,
     }
 }
