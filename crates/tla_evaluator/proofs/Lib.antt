@@ -11,3 +11,9 @@ pub mod Rows
 pub mod TreeLemmas
 pub mod NodeLemmas
 pub mod FormNodes
+pub mod LoneLaws
+pub mod TreeSizes
+pub mod NormalBinds
+pub mod EvalSteps
+pub mod ListSteps
+pub mod FormLoops

@@ -229,20 +229,20 @@ module _ (w : ℕ) (e : Expr) (vars : List (List ℕ × Value)) (s t : State) wh
   pub bound_is : (x : List ℕ) → (out-Expr e).op ≡ op.Bound x → value_found place (find_last x vars) ≡ value_at w e vars s t
   bound_is x is = sym (value_is (op.Bound x) is refl)
 
-  pub and_is : (out-Expr e).op ≡ op.And → junction false place (outcomes_at w trees vars s t) ≡ value_at w e vars s t
-  and_is is = sym (value_is op.And is refl ∙ ap (conjoined place) (here_outcomes w place names vars s t trees))
+  pub and_is : (es : List Expr) → es ≡ trees → (out-Expr e).op ≡ op.And → junction false place (outcomes_at w es vars s t) ≡ value_at w e vars s t
+  and_is es same is = ap (λ z. junction false place (outcomes_at w z vars s t)) same ∙ sym (value_is op.And is refl ∙ ap (conjoined place) (here_outcomes w place names vars s t trees))
 
-  pub or_is : (out-Expr e).op ≡ op.Or → junction true place (outcomes_at w trees vars s t) ≡ value_at w e vars s t
-  or_is is = sym (value_is op.Or is refl ∙ ap (disjoined place) (here_outcomes w place names vars s t trees))
+  pub or_is : (es : List Expr) → es ≡ trees → (out-Expr e).op ≡ op.Or → junction true place (outcomes_at w es vars s t) ≡ value_at w e vars s t
+  or_is es same is = ap (λ z. junction true place (outcomes_at w z vars s t)) same ∙ sym (value_is op.Or is refl ∙ ap (disjoined place) (here_outcomes w place names vars s t trees))
 
-  pub implies_is : (out-Expr e).op ≡ op.Implies → implied place (outcomes_at w trees vars s t) ≡ value_at w e vars s t
-  implies_is is = sym (value_is op.Implies is refl ∙ ap (implied place) (here_outcomes w place names vars s t trees))
+  pub implies_is : (es : List Expr) → es ≡ trees → (out-Expr e).op ≡ op.Implies → implied place (outcomes_at w es vars s t) ≡ value_at w e vars s t
+  implies_is es same is = ap (λ z. implied place (outcomes_at w z vars s t)) same ∙ sym (value_is op.Implies is refl ∙ ap (implied place) (here_outcomes w place names vars s t trees))
 
-  pub if_is : (out-Expr e).op ≡ op.If → if_chosen place (outcomes_at w trees vars s t) ≡ value_at w e vars s t
-  if_is is = sym (value_is op.If is refl ∙ ap (if_chosen place) (here_outcomes w place names vars s t trees))
+  pub if_is : (es : List Expr) → es ≡ trees → (out-Expr e).op ≡ op.If → if_chosen place (outcomes_at w es vars s t) ≡ value_at w e vars s t
+  if_is es same is = ap (λ z. if_chosen place (outcomes_at w z vars s t)) same ∙ sym (value_is op.If is refl ∙ ap (if_chosen place) (here_outcomes w place names vars s t trees))
 
-  pub case_is : (b : Bool) → (out-Expr e).op ≡ op.Case b → case_chosen place (outcomes_at w trees vars s t) ≡ value_at w e vars s t
-  case_is b is = sym (value_is (op.Case b) is refl ∙ ap (case_chosen place) (here_outcomes w place names vars s t trees))
+  pub case_is : (es : List Expr) → es ≡ trees → (b : Bool) → (out-Expr e).op ≡ op.Case b → case_chosen place (outcomes_at w es vars s t) ≡ value_at w e vars s t
+  case_is es same b is = ap (λ z. case_chosen place (outcomes_at w z vars s t)) same ∙ sym (value_is (op.Case b) is refl ∙ ap (case_chosen place) (here_outcomes w place names vars s t trees))
 
   pub membership_is : (o : Op) → (out-Expr e).op ≡ o → IsTrue (is_membership o) →
       in_form place (membership_test (out-Expr e).op place) (outcomes_at w trees vars s t) (forms_at w trees vars s t) ≡ value_at w e vars s t
@@ -260,14 +260,14 @@ module _ (w : ℕ) (e : Expr) (vars : List (List ℕ × Value)) (s t : State) wh
       ∙ binder_value w place o names (kids w place names vars s t trees) (scope_at vars) s t h
       ∙ sym (value_is o is (binder_stays o h))
 
-  pub except_is : (ns : List ℕ) → (out-Expr e).op ≡ op.Except ns → except_at w place ns names trees vars s t ≡ value_at w e vars s t
-  except_is ns is = except_given w place names vars s t ns trees ∙ sym (value_is (op.Except ns) is refl)
+  pub except_is : (ns ms : List ℕ) → ms ≡ ns → (out-Expr e).op ≡ op.Except ns → except_at w place ms names trees vars s t ≡ value_at w e vars s t
+  except_is ns ms same is = ap (λ z. except_at w place z names trees vars s t) same ∙ except_given w place names vars s t ns trees ∙ sym (value_is (op.Except ns) is refl)
 
   pub fold_is : (out-Expr e).op ≡ op.Fold → fold_at w place names trees vars s t ≡ value_at w e vars s t
   fold_is is = fold_given w place names vars s t trees ∙ sym (value_is op.Fold is refl)
 
-  pub noted_is : (x : List ℕ) → (out-Expr e).op ≡ op.Noted x → first_at w place trees vars s t ≡ value_at w e vars s t
-  noted_is x is = sym (value_is (op.Noted x) is refl ∙ here_first w place names vars s t trees)
+  pub noted_is : (es : List Expr) → es ≡ trees → (x : List ℕ) → (out-Expr e).op ≡ op.Noted x → first_at w place es vars s t ≡ value_at w e vars s t
+  noted_is es same x is = ap (λ z. first_at w place z vars s t) same ∙ sym (value_is (op.Noted x) is refl ∙ here_first w place names vars s t trees)
 
   pub strict_is : IsTrue (is_strict (out-Expr e).op) →
       strict (outcomes_at w trees vars s t) (table (Some w) place (out-Expr e).op) ≡ value_at w e vars s t
@@ -275,3 +275,59 @@ module _ (w : ℕ) (e : Expr) (vars : List (List ℕ × Value)) (s t : State) wh
       sym (ap (λ (os : List Outcome). strict os (table (Some w) place (out-Expr e).op)) (here_outcomes w place names vars s t trees))
       ∙ strict_value w place (out-Expr e).op names (kids w place names vars s t trees) (scope_at vars) s t h
       ∙ sym (value_is (out-Expr e).op refl (strict_stays (out-Expr e).op h))
+
+-- an operator that is none of those that are read in a way of their own
+pub record IsRest (o : Op) : Type 0 where
+  pub stays : IsTrue (stays o)
+  pub not_bool : (b : Bool) → o ≡ op.Bool b → ⊥
+  pub not_int : (n : ℤ) → o ≡ op.Int n → ⊥
+  pub not_str : (a : List ℕ) → o ≡ op.Str a → ⊥
+  pub not_and : o ≡ op.And → ⊥
+  pub not_or : o ≡ op.Or → ⊥
+  pub not_implies : o ≡ op.Implies → ⊥
+  pub not_if : o ≡ op.If → ⊥
+  pub not_case : (b : Bool) → o ≡ op.Case b → ⊥
+  pub not_in : o ≡ op.In → ⊥
+  pub not_notin : o ≡ op.NotIn → ⊥
+  pub not_subseteq : o ≡ op.SubsetEq → ⊥
+  pub not_exists : o ≡ op.Exists → ⊥
+  pub not_forall : o ≡ op.Forall → ⊥
+  pub not_filter : o ≡ op.Filter → ⊥
+  pub not_mapto : o ≡ op.MapTo → ⊥
+  pub not_lambda : o ≡ op.Lambda → ⊥
+  pub not_except : (ns : List ℕ) → o ≡ op.Except ns → ⊥
+  pub not_fold : o ≡ op.Fold → ⊥
+  pub not_noted : (x : List ℕ) → o ≡ op.Noted x → ⊥
+  pub not_name : (i : ℕ) (primed : Bool) → o ≡ op.Name i primed → ⊥
+  pub not_bound : (x : List ℕ) → o ≡ op.Bound x → ⊥
+
+pub rest_is_strict : (o : Op) → IsRest o → IsTrue (is_strict o)
+rest_is_strict (op.Bool b) h = absurd (h.not_bool b refl)
+rest_is_strict (op.Int n) h = absurd (h.not_int n refl)
+rest_is_strict (op.Str a) h = absurd (h.not_str a refl)
+rest_is_strict op.And h = absurd (h.not_and refl)
+rest_is_strict op.Or h = absurd (h.not_or refl)
+rest_is_strict op.Implies h = absurd (h.not_implies refl)
+rest_is_strict op.If h = absurd (h.not_if refl)
+rest_is_strict (op.Case b) h = absurd (h.not_case b refl)
+rest_is_strict op.In h = absurd (h.not_in refl)
+rest_is_strict op.NotIn h = absurd (h.not_notin refl)
+rest_is_strict op.SubsetEq h = absurd (h.not_subseteq refl)
+rest_is_strict op.Exists h = absurd (h.not_exists refl)
+rest_is_strict op.Forall h = absurd (h.not_forall refl)
+rest_is_strict op.Filter h = absurd (h.not_filter refl)
+rest_is_strict op.MapTo h = absurd (h.not_mapto refl)
+rest_is_strict op.Lambda h = absurd (h.not_lambda refl)
+rest_is_strict (op.Except ns) h = absurd (h.not_except ns refl)
+rest_is_strict op.Fold h = absurd (h.not_fold refl)
+rest_is_strict (op.Use x) h = absurd (false≢true h.stays)
+rest_is_strict (op.Param x) h = absurd (false≢true h.stays)
+rest_is_strict (op.Let ds) h = absurd (false≢true h.stays)
+rest_is_strict op.Prime h = absurd (false≢true h.stays)
+rest_is_strict op.Unchanged h = absurd (false≢true h.stays)
+rest_is_strict op.Boxed h = absurd (false≢true h.stays)
+rest_is_strict op.Angled h = absurd (false≢true h.stays)
+rest_is_strict (op.Noted x) h = absurd (h.not_noted x refl)
+rest_is_strict (op.Name i primed) h = absurd (h.not_name i primed refl)
+rest_is_strict (op.Bound x) h = absurd (h.not_bound x refl)
+rest_is_strict o h = refl

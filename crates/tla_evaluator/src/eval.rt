@@ -294,7 +294,7 @@ fn cases(
             Err(fault) => return Ok(fault),
         }
     }
-    first(alloc, &trees[2 * arms..], place, env, s, t, width)
+    first(alloc, after(trees, 2 * arms), place, env, s, t, width)
 }
 
 // `\in`, `\notin` and `\subseteq`: a value and a set form.
@@ -403,9 +403,12 @@ fn except(
             let outcome = value(alloc, function, env, s, t, width)?;
             let found = indexes(alloc, rest, counts, env, s, t, width)?;
             let fault = both(fault_of(&outcome), found.fault);
+            if is_fault(fault) {
+                return Ok(unless(fault, Outcome::Wrong(e.place)));
+            }
             match outcome {
-                Outcome::Val(v) if !is_fault(fault) => updated(alloc, e, found.paths.as_slice(), v, env, s, t, width),
-                _ => Ok(unless(fault, Outcome::Wrong(e.place))),
+                Outcome::Val(v) => updated(alloc, e, found.paths.as_slice(), v, env, s, t, width),
+                _ => Ok(Outcome::Wrong(e.place)),
             }
         }
         [] => Ok(Outcome::Wrong(e.place)),
@@ -474,8 +477,8 @@ fn updated(
         let sides = after(rest, *n);
         match at_path(&result, path.as_slice()) {
             Reached::At(old) => {
-                let olds = [copy_value(alloc, old)?];
-                match under(alloc, sides, e.place, e.binds.as_slice(), &olds, env, s, t, width)? {
+                let olds = one_value(alloc, old)?;
+                match under(alloc, sides, e.place, e.binds.as_slice(), olds.as_slice(), env, s, t, width)? {
                     Outcome::Val(new) => result = set_path(alloc, &result, path.as_slice(), &new)?,
                     fault => return Ok(fault),
                 }
@@ -513,6 +516,23 @@ fn fold(
     }
 }
 
+fn one_value(alloc: Global, v: &Value) -> Result<Vec<Value>, AllocError>
+    ensures { IfOk result (λ l. l.items ≡ v.now ∷ []) }
+{
+    let mut values = Vec::new(alloc);
+    values.push(copy_value(alloc, v)?)?;
+    Ok(values)
+}
+
+fn two_values(alloc: Global, a: Value, b: &Value) -> Result<Vec<Value>, AllocError>
+    ensures { IfOk result (λ l. l.items ≡ a ∷ b.now ∷ []) }
+{
+    let mut values = Vec::new(alloc);
+    values.push(a)?;
+    values.push(copy_value(alloc, b)?)?;
+    Ok(values)
+}
+
 #[cycle(eval)]
 fn folded(
     alloc: Global,
@@ -535,8 +555,8 @@ fn folded(
 {
     let mut so_far = start;
     for (_, item) in items {
-        let pair = [so_far, copy_value(alloc, item)?];
-        match under(alloc, e.args.as_slice(), e.place, e.binds.as_slice(), &pair, env, s, t, width)? {
+        let pair = two_values(alloc, so_far, item)?;
+        match under(alloc, e.args.as_slice(), e.place, e.binds.as_slice(), pair.as_slice(), env, s, t, width)? {
             Outcome::Val(v) => so_far = v,
             fault => return Ok(fault),
         }
