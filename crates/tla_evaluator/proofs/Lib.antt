@@ -1,6 +1,9 @@
+pub mod ActionNodes
 pub mod FormLemmas
-pub mod NumberLemmas
 pub mod FunctionLemmas
 pub mod ListLemmas
+pub mod MarkLemmas
+pub mod NormalBinds
 pub mod NormalValues
+pub mod NumberLemmas
 pub mod Rows

@@ -1,12 +1,17 @@
 //! Evaluates expressions as their meaning says.
 #![tactic(auto)]
 
+mod actions;
+mod eval;
 mod forms;
 mod functions;
 mod logic;
+mod marks;
+mod names;
 mod numbers;
 mod operands;
 mod operators;
+mod outcomes;
 mod records;
 mod sequences;
 mod sets;
