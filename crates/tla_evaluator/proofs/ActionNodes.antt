@@ -193,10 +193,10 @@ first_none w m q (e ∷ es) vars s t none = absurd (omega arith)
 
 -- ---- several effects
 
-behind_twice : (f g : Fault) (x : scopes.Effect) → behind (both f g) x ≡ behind f (behind g x)
+pub behind_twice : (f g : Fault) (x : scopes.Effect) → behind (both f g) x ≡ behind f (behind g x)
 behind_twice f g x = ap (λ h. record { holds = x.holds; fault = h }) (both_assoc f g x.fault)
 
-not_not : (b : Bool) → not b ≡ false → b ≡ true
+pub not_not : (b : Bool) → not b ≡ false → b ≡ true
 not_not true e = refl
 not_not false e = absurd (cc)
 
@@ -263,7 +263,7 @@ module _ (w : ℕ) (m : Marks) (body : Expr) (names : List (List ℕ)) (vars : L
 
 -- ---- places in a list
 
-get_or-default : {X : Type 0} (xs : List X) (i : ℕ) (a b : X) → i < length xs → get_or xs i a ≡ get_or xs i b
+pub get_or-default : {X : Type 0} (xs : List X) (i : ℕ) (a b : X) → i < length xs → get_or xs i a ≡ get_or xs i b
 get_or-default [] i a b lt = absurd (omega arith)
 get_or-default (x ∷ xs) zero a b lt = refl
 get_or-default (x ∷ xs) (suc i) a b lt = get_or-default xs i a b (omega arith)

@@ -2,8 +2,10 @@ pub mod ActionNodes
 pub mod FormLemmas
 pub mod FunctionLemmas
 pub mod ListLemmas
+pub mod LoneLaw
 pub mod MarkLemmas
 pub mod NormalBinds
 pub mod NormalValues
 pub mod NumberLemmas
 pub mod Rows
+pub mod TopLemmas

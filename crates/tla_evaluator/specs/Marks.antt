@@ -17,6 +17,10 @@ marks_of (CInit n) i primed = nat_lt i n
 marks_of (Init n) i primed = nat_le n i
 marks_of (Next n) i primed = primed && nat_le n i
 
+-- the names that count in an action at large
+abbrev pub primed_names : scopes.Marks
+primed_names i primed = primed
+
 -- whether a node is such a name, or one of its children holds one; u says that it stands under a prime
 abbrev pub marked_at : scopes.Marks → Bool → Op → List Bool → Bool
 marked_at m u (op.Name i primed) ks = m i (primed || u)

@@ -74,7 +74,7 @@ fn split(es: &[Expr], n: usize) -> (&[Expr], &[Expr])
 }
 
 // By the outcome of a tree.
-fn by_value(
+pub(crate) fn by_value(
     alloc: Global,
     e: &Expr,
     env: &[(Text, Value)],

@@ -17,6 +17,8 @@ mod sequences;
 mod sets;
 #[cfg(test)]
 mod tests;
+mod tops;
 
 pub use forms::{SetRule, all_belong, belongs, is_set_form};
 pub use operators::table;
+pub use tops::{act, invariant, next, start};

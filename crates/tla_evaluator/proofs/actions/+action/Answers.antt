@@ -78,7 +78,7 @@ this_choice : (P : List Value → Type 0) (xs : List (List Value)) (i : ℕ) (x 
 this_choice P xs i x lt is h = subst P (sym is) (h i x lt)
 
 pub body_effects-action-requires : goal.body_effects-action-requires
-body_effects-action-requires t c = 
+body_effects-action-requires t c =
     let normal : AreNormal c.as_slice-in-loop-choice.result.now c.args.s.now c.args.t.now =
     longer_normal _ _ _ _ _ _ (c.as_slice-in-loop-choice.ensures.value ∙ c.in_ok-bound.ensures) c.requires.normal
     (All-same Normal _ _ c.as_slice.ensures (this_choice (λ d. All Normal d) _ _ _ c.loop-choice-test.true c.choice-item.is c.requires.choices)) in
