@@ -129,26 +129,12 @@ pub(crate) fn action(
             [child, ..] => action(alloc, child, marks, env, s, t, width),
             [] => Ok(fails_by(Fault::IsWrong(e.place))),
         },
-        Op::Or => {
-            if any_marked(args, marks) {
-                some_effect(alloc, args, marks, env, s, t, width)
-            } else {
-                by_value(alloc, e, env, s, t, width)
-            }
+        Op::Or if any_marked(args, marks) => some_effect(alloc, args, marks, env, s, t, width),
+        Op::If if any_marked(args, marks) => {
+            if_effect(alloc, args, e.place, marks, env, s, t, width)
         }
-        Op::If => {
-            if any_marked(args, marks) {
-                if_effect(alloc, args, e.place, marks, env, s, t, width)
-            } else {
-                by_value(alloc, e, env, s, t, width)
-            }
-        }
-        Op::Case(_) => {
-            if any_marked(args, marks) {
-                case_effect(alloc, args, e.place, marks, env, s, t, width)
-            } else {
-                by_value(alloc, e, env, s, t, width)
-            }
+        Op::Case(_) if any_marked(args, marks) => {
+            case_effect(alloc, args, e.place, marks, env, s, t, width)
         }
         _ => by_value(alloc, e, env, s, t, width),
     }

@@ -14,10 +14,11 @@ use Rattle.tla_evaluator.specs.Trees.{AreNormal, effects_at, outcomes_at}
 use Rattle.tla_evaluator.proofs.ActionNodes.{is_now, at_value, at_and, at_or, at_or_value, at_if, at_if_value, at_case, at_case_value, at_exists, at_noted, and_next, or_next, bodies_next, case_false, case_fault, if_fault, exists_body, first_some, first_none, no_deeper}
 use Rattle.tla_evaluator.proofs.NormalBinds.{longer_normal, choices_are_normal}
 use Rattle.tla_evaluator.proofs.actions.+action.Goals as goal
+use Rattle.tla_evaluator.proofs.actions.+action.Goals.{action-in_default-via-in-Or+else-any_marked, action-in_default-via-in-If+else-any_marked-2, action-in_default-via-in-Case+else-any_marked-3, action-in_default-via-in_default}
 
--- whether a child is marked, by the call
-here : (m : Marks) (es args : List Expr) (b r : Bool) → es ≡ args → r ≡ list_any (marked m false) es → r ≡ b → list_any (marked m false) args ≡ b
-here m es args b r same is k = ap (list_any (marked m false)) (sym same) ∙ sym is ∙ k
+-- whether a child is marked, as the call says
+here : (m : Marks) (es args : List Expr) (b : Bool) → es ≡ args → b ≡ list_any (marked m false) es → list_any (marked m false) args ≡ b
+here m es args b same is = ap (list_any (marked m false)) (sym same) ∙ sym is
 
 pub all_effects-loop-e-preserved : goal.all_effects-loop-e-preserved
 all_effects-loop-e-preserved t c =
@@ -112,54 +113,44 @@ action-returns-in-len1-up t c =
     ∙ sym (at_noted _ _ _ _ _ _ _ c.in-Noted.is))
     c.action.ensures
 
-pub action-returns-then-any_marked : goal.action-returns-then-any_marked
-action-returns-then-any_marked t c =
+pub action-returns-in-Or : goal.action-returns-in-Or
+action-returns-in-Or t c =
     is_now c.some_effect.result _ _
     (ap (λ es. effects_or (effects_at c.args.width (marks_of c.args.marks) es c.args.env.now c.args.s.now c.args.t.now)) c.as_slice-args.ensures
-    ∙ sym (at_or _ _ _ _ _ _ c.in-Or.is (here (marks_of c.args.marks) _ _ _ _ c.as_slice-args.ensures c.any_marked.ensures c.if-any_marked.true)))
+    ∙ sym (at_or _ _ _ _ _ _ c.in-Or.is (here (marks_of c.args.marks) _ _ _ c.as_slice-args.ensures c.if-any_marked.ensures)))
     c.some_effect.ensures
 
-pub action-returns-else-any_marked : goal.action-returns-else-any_marked
-action-returns-else-any_marked t c =
-    is_now c.by_value.result _ _
-    (sym (at_or_value _ _ _ _ _ _ c.in-Or.is (here (marks_of c.args.marks) _ _ _ _ c.as_slice-args.ensures c.any_marked.ensures c.if-any_marked.false)))
-    c.by_value.ensures
-
-pub action-returns-then-any_marked-2 : goal.action-returns-then-any_marked-2
-action-returns-then-any_marked-2 t c =
+pub action-returns-in-If : goal.action-returns-in-If
+action-returns-in-If t c =
     is_now c.if_effect.result _ _
     (ap (λ es. if_effect (out-Expr c.args.e.now).place (outcomes_at c.args.width es c.args.env.now c.args.s.now c.args.t.now) (effects_at c.args.width (marks_of c.args.marks) es c.args.env.now c.args.s.now c.args.t.now)) c.as_slice-args.ensures
-    ∙ sym (at_if _ _ _ _ _ _ c.in-If.is (here (marks_of c.args.marks) _ _ _ _ c.as_slice-args.ensures c.any_marked-in-If.ensures c.if-any_marked-2.true)))
+    ∙ sym (at_if _ _ _ _ _ _ c.in-If.is (here (marks_of c.args.marks) _ _ _ c.as_slice-args.ensures c.if-any_marked-2.ensures)))
     c.if_effect.ensures
 
-pub action-returns-else-any_marked-2 : goal.action-returns-else-any_marked-2
-action-returns-else-any_marked-2 t c =
-    is_now c.by_value-else-any_marked-2.result _ _
-    (sym (at_if_value _ _ _ _ _ _ c.in-If.is (here (marks_of c.args.marks) _ _ _ _ c.as_slice-args.ensures c.any_marked-in-If.ensures c.if-any_marked-2.false)))
-    c.by_value-else-any_marked-2.ensures
-
-pub action-returns-then-any_marked-3 : goal.action-returns-then-any_marked-3
-action-returns-then-any_marked-3 t c =
+pub action-returns-in-Case : goal.action-returns-in-Case
+action-returns-in-Case t c =
     is_now c.case_effect.result _ _
     (ap (λ es. case_effect (out-Expr c.args.e.now).place (outcomes_at c.args.width es c.args.env.now c.args.s.now c.args.t.now) (effects_at c.args.width (marks_of c.args.marks) es c.args.env.now c.args.s.now c.args.t.now)) c.as_slice-args.ensures
-    ∙ sym (at_case _ _ _ _ _ _ _ c.in-Case.is (here (marks_of c.args.marks) _ _ _ _ c.as_slice-args.ensures c.any_marked-in-Case.ensures c.if-any_marked-3.true)))
+    ∙ sym (at_case _ _ _ _ _ _ _ c.in-Case.is (here (marks_of c.args.marks) _ _ _ c.as_slice-args.ensures c.if-any_marked-3.ensures)))
     c.case_effect.ensures
-
-pub action-returns-else-any_marked-3 : goal.action-returns-else-any_marked-3
-action-returns-else-any_marked-3 t c =
-    is_now c.by_value-else-any_marked-3.result _ _
-    (sym (at_case_value _ _ _ _ _ _ _ c.in-Case.is (here (marks_of c.args.marks) _ _ _ _ c.as_slice-args.ensures c.any_marked-in-Case.ensures c.if-any_marked-3.false)))
-    c.by_value-else-any_marked-3.ensures
 
 pub action-returns-in_default : goal.action-returns-in_default
 action-returns-in_default t c =
-    is_now c.by_value-in_default.result _ _
-    (sym (at_value _ _ _ _ _ _ (record {
-      not_and = c.in_default.not-And;
-      not_or = c.in_default.not-Or;
-      not_if = c.in_default.not-If;
-      not_case = c.in_default.not-Case;
-      not_exists = c.in_default.not-Exists;
-      not_noted = c.in_default.not-Noted;
-    })))
-    c.by_value-in_default.ensures
+    is_now c.by_value.result _ _
+    (sym (elim c.in_default.branch [
+      | action-in_default-via-in-Or+else-any_marked w ↦
+          at_or_value _ _ _ _ _ _ w.in-Or.is (here (marks_of c.args.marks) _ _ _ c.as_slice-args.ensures w.if-any_marked.ensures)
+      | action-in_default-via-in-If+else-any_marked-2 w ↦
+          at_if_value _ _ _ _ _ _ w.in-If.is (here (marks_of c.args.marks) _ _ _ c.as_slice-args.ensures w.if-any_marked-2.ensures)
+      | action-in_default-via-in-Case+else-any_marked-3 w ↦
+          at_case_value _ _ _ _ _ _ _ w.in-Case.is (here (marks_of c.args.marks) _ _ _ c.as_slice-args.ensures w.if-any_marked-3.ensures)
+      | action-in_default-via-in_default w ↦ at_value _ _ _ _ _ _ (record {
+        not_and = w.in_default.not-And;
+        not_or = w.in_default.not-Or;
+        not_if = w.in_default.not-If;
+        not_case = w.in_default.not-Case;
+        not_exists = w.in_default.not-Exists;
+        not_noted = w.in_default.not-Noted;
+      })
+    ]))
+    c.by_value.ensures
