@@ -31,6 +31,7 @@ use Rattle.tla_evaluator.specs.Effects.{as_effect, behind, body_effect, either, 
 use Rattle.tla_evaluator.specs.Marks.{marked}
 use Rattle.tla_evaluator.specs.Trees.{effect_at, effects_at, lone, lone_node, outcomes_at, scope_at, stays, value_at}
 use Rattle.tla_evaluator.proofs.MarkLemmas.{holds_as}
+use Rattle.tla_evaluator.proofs.TreeSizes.{most-drop}
 
 -- ---- a tree, by its node
 
@@ -275,17 +276,12 @@ drop_end (suc n) [] le = refl
 drop_end (suc n) (x ∷ xs) le = drop_end n xs (omega arith)
 
 -- a tree behind the first ones is no deeper than all
-most_behind : {X : Type 0} (size : X → ℕ) (n : ℕ) (xs : List X) → most size (drop n xs) ≤ most size xs
-most_behind size zero xs = omega arith
-most_behind size (suc n) [] = omega arith
-most_behind size (suc n) (x ∷ xs) = omega (arith, most_behind size n xs)
-
 pub no_deeper : {X : Type 0} (size : X → ℕ) (n : ℕ) (xs rest : List X) (x : X) → rest ≡ drop n xs → 0 < length rest → x ≡ get_or rest 0 x →
     size x ≤ most size xs
 no_deeper size n xs rest x back some is =
     let here : size x ≡ size (get_or rest 0 x) = ap size is in
     let all : most size rest ≡ most size (drop n xs) = ap (most size) back in
-    omega (arith, at_most size rest 0 x some, most_behind size n xs)
+    omega (arith, at_most size rest 0 x some, most-drop size n xs)
 
 -- ---- guards
 

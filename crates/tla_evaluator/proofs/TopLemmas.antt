@@ -21,7 +21,7 @@ use Rattle.tla_evaluator.specs.Effects.{behind}
 use Rattle.tla_evaluator.specs.Marks.{marks_of}
 use Rattle.tla_evaluator.specs.Trees.{effect_at, is_expanded, stays, value_at}
 use Rattle.tla_evaluator.proofs.ActionNodes.{behind_twice, get_or-default}
-use Rattle.tla_evaluator.proofs.LoneLaw.{lone_is}
+use Rattle.tla_evaluator.proofs.LoneLaws.{lone_is}
 
 -- ---- one tree
 

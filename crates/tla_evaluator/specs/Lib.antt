@@ -1,4 +1,5 @@
 pub mod Effects
+pub mod Excepts
 pub mod Marks
 pub mod Results
 pub mod SetRules

@@ -1,9 +1,16 @@
 -- What a program's set form stands for.
 use Rattle.std.specs.Prelude.{List, [], ◌∷◌}
-use Rattle.tla_meaning.specs.Forms.{SetForm, SetForms, no_forms, more_forms, Plain, AllInts, AllNats, AllTexts, Sequences, Functions, Subsets, Records, Tuples}
+use Rattle.tla_meaning.specs.declared.place.Place.{Place}
+use Rattle.tla_meaning.specs.declared.outcome.Fault.{Fault}
+use Rattle.tla_meaning.specs.declared.outcome.Fault.TheVariants.{NoFault, IsWrong, IsBig}
+use Rattle.tla_meaning.specs.declared.outcome.Outcome.{Outcome}
+use Rattle.tla_meaning.specs.declared.outcome.Outcome.TheVariants.{Wrong, Big}
+use Rattle.tla_meaning.specs.Forms.{SetForm, SetForms, no_forms, more_forms, Plain, AllInts, AllNats, AllTexts, Sequences, Functions, Subsets, Records, Tuples, Formed, Made, Broken}
 use Rattle.tla_evaluator.specs.declared.forms.SetRule.{SetRule}
 use Rattle.tla_evaluator.specs.declared.forms.SetRule.TheOpen as rule
 use Rattle.tla_evaluator.specs.declared.forms.SetRule.TheFolds.{fold-SetRule}
+use Rattle.tla_evaluator.specs.declared.memberships.FormOutcome.{FormOutcome}
+use Rattle.tla_evaluator.specs.declared.memberships.FormOutcome.TheVariants as form_outcome
 
 abbrev pub forms_of : List SetForm → SetForms
 forms_of [] = no_forms
@@ -22,3 +29,20 @@ layer_form (rule.Tuples fs) = Tuples (forms_of fs)
 
 unfoldable pub form_of : SetRule → SetForm
 form_of = fold-SetRule SetForm layer_form
+
+-- what a form or its fault stands for
+abbrev pub formed_of : FormOutcome → Formed
+formed_of (form_outcome.Made r) = Made (form_of r)
+formed_of (form_outcome.Broken g) = Broken g
+
+-- the forms that were made
+abbrev pub forms_in : List Formed → List SetForm
+forms_in [] = []
+forms_in (Made f ∷ fs) = f ∷ forms_in fs
+forms_in (Broken g ∷ fs) = forms_in fs
+
+-- the outcome of a fault, and Wrong where there is none
+abbrev pub fault_or_wrong : Place → Fault → Outcome
+fault_or_wrong p NoFault = Wrong p
+fault_or_wrong p (IsWrong q) = Wrong q
+fault_or_wrong p (IsBig q) = Big q

@@ -11,8 +11,9 @@ ghost use Rattle.tla_evaluator.specs.Trees.{AreNormal, effect_at, effects_at, ou
 use crate::eval::{operands, value};
 use crate::marks::{Marks, any_marked};
 use crate::names::with_bound;
-use crate::outcomes::{both, truth};
+use crate::outcomes::{both, is_fault, truth};
 use crate::sets::choices_of;
+use crate::trees::{after, front};
 use std::alloc::{AllocError, Global};
 use tla_meaning::{Expr, Fault, Op, Outcome, Place, State};
 use tla_values::{List, Text, Value};
@@ -63,14 +64,6 @@ fn either(f: Effect, g: Effect) -> Effect
         holds: f.holds || g.holds,
         fault: both(f.fault, g.fault),
     }
-}
-
-// The trees before the n-th, and those from it on.
-fn split(es: &[Expr], n: usize) -> (&[Expr], &[Expr])
-    ensures front { result.0.now ≡ take n es.now }
-    ensures back { result.1.now ≡ drop n es.now }
-{
-    es.split_at(n.min(es.len()))
 }
 
 // By the outcome of a tree.
@@ -270,13 +263,12 @@ fn exists_effect(
     requires normal { AreNormal env.now s.now t.now }
     ensures { IfOk result (λ f. as_effect f ≡ exists_at width (marks_of marks) place names.now args.now env.now s.now t.now) }
 {
-    let (sets, rest) = split(args, names.len());
-    let domains = operands(alloc, sets, env, s, t, width)?;
-    if domains.fault != Fault::NoFault {
+    let domains = operands(alloc, front(args, names.len()), env, s, t, width)?;
+    if is_fault(domains.fault) {
         return Ok(fails_by(domains.fault));
     }
     match choices_of(alloc, domains.values.as_slice())? {
-        Some(choices) => match rest {
+        Some(choices) => match after(args, names.len()) {
             [body, ..] => {
                 let choices = choices.as_slice();
                 body_effects(alloc, body, names, choices, marks, env, s, t, width)

@@ -2,11 +2,14 @@
 #![tactic(auto)]
 
 mod actions;
+mod binders;
 mod eval;
+mod excepts;
 mod forms;
 mod functions;
 mod logic;
 mod marks;
+mod memberships;
 mod names;
 mod numbers;
 mod operands;
@@ -18,7 +21,9 @@ mod sets;
 #[cfg(test)]
 mod tests;
 mod tops;
+mod trees;
 
 pub use forms::{SetRule, all_belong, belongs, is_set_form};
 pub use operators::table;
 pub use tops::{act, invariant, next, start};
+pub use trees::is_expanded;

@@ -5,6 +5,7 @@ ghost use Rattle.tla_values.specs.Sets.{Normal};
 ghost use Rattle.tla_values.specs.declared.value.Value.{out-Value};
 ghost use Rattle.tla_values.specs.declared.value.Value.TheOpen as layer;
 ghost use Rattle.tla_meaning.specs.Forms.{results};
+ghost use Rattle.tla_meaning.specs.Meaning.{fold_over, folded};
 ghost use Rattle.tla_meaning.specs.Operators.{on_function, on_functions, on_number, on_numbers, on_sequence, on_sequences, on_set, on_sets, on_truth, on_truths};
 ghost use Rattle.tla_meaning.specs.Shapes.{items_of};
 
@@ -208,5 +209,28 @@ pub(crate) fn two_sequences(
             }
         }
         None => None,
+    }
+}
+
+// A value and a function, where the operands are just a value and a sequence.
+pub(crate) fn value_and_items(operands: Vec<Value>) -> Option<(Value, List<(Value, Value)>)>
+    ensures some { IfSome result (λ n. (p : Place) (f : Value → Value → Outcome) →
+        fold_over p f operands.items ≡ folded f (results n.1) n.0) }
+    ensures none { IfNone result ((p : Place) (f : Value → Value → Outcome) → fold_over p f operands.items ≡ Outcome.Wrong p) }
+    ensures normal { All Normal operands.items → IfSome result (λ n. Normal n.0 × Normal (Value.Fun n.1)) }
+{
+    if operands.len() != 2 {
+        return None;
+    }
+    let mut rest = operands;
+    match (rest.pop(), rest.pop()) {
+        (Some(Value::Fun(pairs)), Some(start)) => {
+            if is_sequence(pairs.as_slice()) {
+                Some((start, pairs))
+            } else {
+                None
+            }
+        }
+        _ => None,
     }
 }

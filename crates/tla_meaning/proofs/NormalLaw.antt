@@ -1,12 +1,12 @@
 -- Values are normal, for every tree.
-use Rattle.std.proofs.Common.{◌≡◌, ℕ, Bool, true, false, ◌&&◌, IsTrue, List, [], ◌∷◌, take, drop, map, zip, length, Option, Some, None, ◌∙◌, sym, subst, if◌then◌else◌}
-use Rattle.std.specs.List.{All, AllByRecursion, list_all}
+use Rattle.std.proofs.Common.{◌≡◌, ℕ, Bool, true, false, List, [], ◌∷◌, take, drop, map, zip, length, Option, Some, None, sym, subst, if◌then◌else◌}
+use Rattle.std.specs.List.{All, AllByRecursion}
 use Rattle.std.proofs.lemmas.List.Elements.{recursion_from_All}
 use Rattle.tla_values.specs.Sets.{Normal}
 use Rattle.tla_values.specs.declared.value.Value.{Value}
 use Rattle.tla_meaning.specs.declared.expr.Expr.{Expr, roll-Expr}
 use Rattle.tla_meaning.specs.declared.expr.Expr.TheOpen.{Expr-F}
-use Rattle.tla_meaning.specs.declared.expr.Expr.TheFolds.{fold-roll-Expr, map-Expr, ind-Expr}
+use Rattle.tla_meaning.specs.declared.expr.Expr.TheFolds.{fold-Expr, fold-roll-Expr, map-Expr, ind-Expr}
 use Rattle.tla_meaning.specs.declared.job.Env.{Env}
 use Rattle.tla_meaning.specs.declared.job.State.{State}
 use Rattle.tla_meaning.specs.declared.outcome.Outcome.TheVariants.{Val}
@@ -14,24 +14,21 @@ use Rattle.tla_meaning.specs.declared.place.Place.{Place}
 use Rattle.tla_meaning.specs.Numbers.{Width}
 use Rattle.tla_meaning.specs.Scopes.{Sense, Scope, bind, bound_to, define, pass, find_last, or_else, same_text, stands_for}
 use Rattle.tla_meaning.specs.Meaning.{Meaning, senses, Role, Named, Held, Lets, Plain_role, role, view, outer, inner, let_scope}
-use Rattle.tla_meaning.specs.Actions.{val, meaning}
+use Rattle.tla_meaning.specs.Actions.{node, val, meaning}
 use Rattle.tla_meaning.specs.Executions.{scope_of}
-use Rattle.tla_meaning.specs.Normals.{one_bound, filters_bind_one}
-use Rattle.tla_meaning.proofs.MeaningLemmas.{meaning-roll}
-use Rattle.tla_meaning.proofs.Views.{and_left, and_right}
 use Rattle.tla_meaning.proofs.NormalShapes.{Normals, IfSomes, truth_normal, all_plus}
 use Rattle.tla_meaning.proofs.NormalTable.{NormalOutcome}
 use Rattle.tla_meaning.proofs.NormalNodes.{NormalSense, NormalSenses, NormalView, nonsense_normal, kid_normal, sense_normal}
 
 -- ---- scopes
 
-abbrev NormalDef : (List Sense → Sense) → Type 0
+abbrev pub NormalDef : (List Sense → Sense) → Type 0
 NormalDef d = (as' : List Sense) → NormalSenses as' → NormalSense (d as')
 
-abbrev Entries : {X : Type 0} → (X → Type 0) → List (List ℕ × X) → Type 0
+abbrev pub Entries : {X : Type 0} → (X → Type 0) → List (List ℕ × X) → Type 0
 Entries P es = AllByRecursion (λ e. P e.1) es
 
-record NormalScope (a : Scope) : Type 0 where
+pub record NormalScope (a : Scope) : Type 0 where
   pub bound : Entries Normal a.bound
   pub named : Entries NormalDef a.named
 
@@ -72,10 +69,10 @@ stands_normal p (Some d) as' h k = h as' k
 
 -- ---- views
 
-abbrev NormalMeaning : Meaning → Type 0
+abbrev pub NormalMeaning : Meaning → Type 0
 NormalMeaning k = (a : Scope) → NormalScope a → NormalSense (k a)
 
-abbrev NormalMeanings : List Meaning → Type 0
+abbrev pub NormalMeanings : List Meaning → Type 0
 NormalMeanings ks = AllByRecursion NormalMeaning ks
 
 senses_normal : (ks : List Meaning) (a : Scope) → NormalMeanings ks → NormalScope a → NormalSenses (senses ks a)
@@ -130,33 +127,36 @@ view_normal p (Plain_role ms) xs ks a h r = record {
 
 -- ---- trees
 
-abbrev IsNormal : Width → Expr → Type 0
-IsNormal w e = IsTrue (filters_bind_one e) → NormalMeaning (meaning w e)
+-- one layer, by its children
+pub node_normal : (w : Width) (x : Expr-F Meaning) → NormalMeanings x.args → NormalMeaning (node w x)
+node_normal w x h a r =
+    let o : Role = role x.op (length x.binds) in
+    sense_normal w x.place x.op (length x.binds) (view x.place o x.binds x.args a) (view_normal x.place o x.binds x.args a h r)
 
-children_normal : (w : Width) (ys : List ((e : Expr) × IsNormal w e)) →
-    IsTrue (list_all (λ b. b) (map filters_bind_one (map (λ y. y.0) ys))) → NormalMeanings (map (meaning w) (map (λ y. y.0) ys))
-children_normal w [] h = tt
-children_normal w (y ∷ ys) h =
-    let one : Bool = filters_bind_one y.0 in
-    let rest : Bool = list_all (λ b. b) (map filters_bind_one (map (λ y. y.0) ys)) in
-    (y.1 (and_left one rest h), children_normal w ys (and_right one rest h))
+-- a fold is normal where each layer is, by its children
+pub fold_normal : (f : Expr-F Meaning → Meaning) → ((x : Expr-F Meaning) → NormalMeanings x.args → NormalMeaning (f x)) → (e : Expr) →
+    NormalMeaning (fold-Expr Meaning f e)
+fold_normal f r = ind-Expr IsNormal (λ x y is.
+    subst (λ (z : Expr-F Expr). IsNormal (roll-Expr z)) is
+    (let z : Expr-F Expr = map-Expr ((e : Expr) × IsNormal e) Expr (λ e. e.0) y in
+    subst NormalMeaning (sym (fold-roll-Expr Meaning f z)) (r (map-Expr Expr Meaning (fold-Expr Meaning f) z) (children y.args))))
+  where
+    IsNormal : Expr → Type 0
+    IsNormal e = NormalMeaning (fold-Expr Meaning f e)
 
-meaning_normal : (w : Width) (e : Expr) → IsNormal w e
-meaning_normal w = ind-Expr (IsNormal w) (λ x y is.
-    subst (λ (z : Expr-F Expr). IsNormal w (roll-Expr z)) is (λ h a r.
-    let z : Expr-F Expr = map-Expr ((e : Expr) × IsNormal w e) Expr (λ e. e.0) y in
-    let one : Bool = one_bound z.op (length z.binds) in
-    let rest : Bool = list_all (λ b. b) (map filters_bind_one z.args) in
-    let k : IsTrue (one && rest) = sym (fold-roll-Expr Bool (λ x. one_bound x.op (length x.binds) && list_all (λ b. b) x.args) z) ∙ h in
-    let o : Role = role z.op (length z.binds) in
-    let ks : List Meaning = map (meaning w) z.args in
-    subst (λ (m : Meaning). NormalSense (m a)) (sym (meaning-roll w z))
-    (sense_normal w z.place z.op (length z.binds) (view z.place o z.binds ks a) (and_left one rest k)
-    (view_normal z.place o z.binds ks a (children_normal w y.args (and_right one rest k)) r))))
+    children : (ys : List ((e : Expr) × IsNormal e)) → NormalMeanings (map (fold-Expr Meaning f) (map (λ y. y.0) ys))
+    children [] = tt
+    children (y ∷ ys) = (y.1, children ys)
 
-pub val_normal : (w : Width) (e : Expr) (env : Env) (s t : State) (v : Value) → IsTrue (filters_bind_one e) → All (λ b. Normal b.1) env.vals →
+pub meaning_normal : (w : Width) (e : Expr) → NormalMeaning (meaning w e)
+unfolding meaning
+meaning_normal w e = fold_normal (node w) (node_normal w) e
+
+pub scope_normal : (env : Env) → All (λ b. Normal b.1) env.vals → NormalScope (scope_of env)
+scope_normal env b = record { bound = recursion_from_All (λ b. Normal b.1) env.vals b; named = tt }
+
+pub val_normal : (w : Width) (e : Expr) (env : Env) (s t : State) (v : Value) → All (λ b. Normal b.1) env.vals →
     All Normal s.vals → All Normal t.vals → val w e (scope_of env) s t ≡ Val v → Normal v
-val_normal w e env s t v f b g h is =
-    let sc : NormalScope (scope_of env) = record { bound = recursion_from_All (λ b. Normal b.1) env.vals b; named = tt } in
+val_normal w e env s t v b g h is =
     subst NormalOutcome is
-    ((meaning_normal w e f (scope_of env) sc).value s t (recursion_from_All Normal s.vals g) (recursion_from_All Normal t.vals h))
+    ((meaning_normal w e (scope_of env) (scope_normal env b)).value s t (recursion_from_All Normal s.vals g) (recursion_from_All Normal t.vals h))

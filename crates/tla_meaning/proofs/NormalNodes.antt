@@ -1,6 +1,6 @@
 -- Each operator gives normal values, where its operands do.
-use Rattle.std.proofs.Common.{ℕ, zero, suc, Bool, true, false, not, IsTrue, List, [], ◌∷◌, take, drop, map, zip, Option, Some, None, if◌then◌else◌}
-use Rattle.std.specs.Prelude.{option_map, option_and_then, slice_get}
+use Rattle.std.proofs.Common.{ℕ, zero, suc, Bool, true, false, not, List, [], ◌∷◌, take, drop, map, zip, Option, Some, None, if◌then◌else◌}
+use Rattle.std.specs.Prelude.{slice_get}
 use Rattle.std.specs.List.{AllByRecursion, list_any, list_all}
 use Rattle.tla_values.specs.Order.{Layer}
 use Rattle.tla_values.specs.Sets.{Normal, apply, override_at}
@@ -18,15 +18,13 @@ use Rattle.tla_meaning.specs.declared.outcome.Outcome.{Outcome}
 use Rattle.tla_meaning.specs.declared.outcome.Outcome.TheVariants.{Val, Wrong, Big}
 use Rattle.tla_meaning.specs.Outcomes.{both, joined, values, unless, strict, with_value}
 use Rattle.tla_meaning.specs.Numbers.{Width}
-use Rattle.tla_meaning.specs.Shapes.{with_each, choices, items_of, set_items}
+use Rattle.tla_meaning.specs.Shapes.{the_set, choices, items_of, set_items}
 use Rattle.tla_meaning.specs.Operators.{table, yes_no, on_all_sets, on_items}
 use Rattle.tla_meaning.specs.Forms.{SetForm, Formed, Made, Broken, form_fault, is_set_form, belongs}
 use Rattle.tla_meaning.specs.Scopes.{Sense, nonsense, value_found}
 use Rattle.tla_meaning.specs.Meaning.{View, outcomes, kid, forms, choose, by_truth, conjoined, disjoined, implied, if_chosen, case_chosen, truths, on_all_truths, kept, argument, bound_table, over_members, Update, Reached, At, Outside, NoFunction, reached_at, step_into, go_on, at_path, put_at, set_path, updated, all_indexes, updates, first_updated, except, folded, fold_over, in_form, all_in, read, changed, value_of, kept_value, unchanged_of}
 use Rattle.tla_meaning.specs.Actions.{meant, sense_of}
-use Rattle.tla_meaning.specs.Normals.{one_bound}
-use Rattle.tla_meaning.proofs.Views.{false≢true}
-use Rattle.tla_meaning.proofs.NormalShapes.{Normals, NormalSet, NormalLists, NormalLayer, IfSomes, set_made, layer_normal, text_normal, the_set_normal, the_function_normal, all_plus, all_mapped, zip_pairs, Part, part_none, part_skip, part_keep, part_normal, sequence_normal, choices_normal, apply_normal, set_items_normal, lists_of}
+use Rattle.tla_meaning.proofs.NormalShapes.{Normals, NormalSet, NormalLists, NormalLayer, IfSomes, layer_normal, text_normal, the_set_normal, the_function_normal, all_plus, all_mapped, zip_pairs, sequence_normal, choices_normal, apply_normal, lists_of}
 use Rattle.tla_meaning.proofs.NormalTable.{NormalOutcome, yes_normal, number_normal, on_items_normal, items_of_normal, on_all_sets_normal, taken, dropped, table_normal}
 
 abbrev pub NormalOutcomes : List Outcome → Type 0
@@ -148,52 +146,13 @@ over_normal p o n v r s t g h k =
     (each_normal body (λ vs y. (kid_normal p n (v.under vs) (r.under vs y)).value s t g h) (choices xss) (choices_normal xss (lists_of xss x)))
     (k xss x)))
 
-none_kept : (xs : List Value) → Part xs []
-none_kept [] = part_none
-none_kept (x ∷ xs) = part_skip x (none_kept xs)
-
-kept_part : (xs : List Value) (bs : List Bool) → Part xs (kept (with_each xs ([] ∷ [])) bs)
-kept_part [] bs = part_none
-kept_part (x ∷ xs) [] = none_kept (x ∷ xs)
-kept_part (x ∷ xs) (true ∷ bs) = part_keep x (kept_part xs bs)
-kept_part (x ∷ xs) (false ∷ bs) = part_skip x (kept_part xs bs)
-
-filter_table : (p : Place) (xs : List Value) → NormalSet xs → (vs : List Value) → NormalOutcome (bound_table p op.Filter (choices (xs ∷ [])) vs)
-filter_table p xs h vs =
-    on_all_truths_normal p (λ bs. Val (value.Set (kept (with_each xs ([] ∷ [])) bs)))
-    (λ bs. set_made (kept (with_each xs ([] ∷ [])) bs) (part_normal (kept_part xs bs) h)) vs
-
-abbrev filter_of : Place → (List Value → Outcome) → List (List Value) → Outcome
-filter_of p body xss = strict (map body (choices xss)) (bound_table p op.Filter (choices xss))
-
-filter_one : (p : Place) (body : List Value → Outcome) → ((vs : List Value) → Normals vs → NormalOutcome (body vs)) → (o : Outcome) → NormalOutcome o →
-    NormalOutcome (strict (o ∷ []) (on_all_sets p (filter_of p body)))
-filter_one p body r (Wrong q) h = tt
-filter_one p body r (Big q) h = tt
-filter_one p body r (Val u) h = by_items (set_items (out-Value u)) (set_items_normal (out-Value u) (layer_normal u h))
-  where
-    by_items : (o : Option (List Value)) → IfSomes NormalSet o →
-        NormalOutcome (elim (option_and_then (λ xs. option_map (λ xss. xs ∷ xss) (Some [])) o) [ None ↦ Wrong p | Some xss ↦ filter_of p body xss ])
-    by_items None k = tt
-    by_items (Some xs) k =
-        strict_normal (map body (choices (xs ∷ []))) (bound_table p op.Filter (choices (xs ∷ [])))
-        (each_normal body r (choices (xs ∷ [])) (choices_normal (xs ∷ []) (k.1, tt))) (λ vs l. filter_table p xs k vs)
-
-filter_none : (p : Place) (body : List Value → Outcome) → ((vs : List Value) → Normals vs → NormalOutcome (body vs)) →
-    NormalOutcome (strict [] (on_all_sets p (filter_of p body)))
-filter_none p body r =
-    strict_normal (map body (choices [])) (bound_table p op.Filter (choices [])) (each_normal body r (choices []) (tt, tt))
-    (λ vs l. on_all_truths_normal p (λ bs. Val (value.Set (kept ([] ∷ []) bs))) empty vs)
-  where
-    empty : (bs : List Bool) → Normal (value.Set (kept ([] ∷ []) bs))
-    empty [] = set_made [] (tt, tt)
-    empty (true ∷ bs) = set_made [] (tt, tt)
-    empty (false ∷ bs) = set_made [] (tt, tt)
-
-filter_normal : (p : Place) (as' : List Sense) (body : List Value → Outcome) → NormalSenses as' → ((vs : List Value) → Normals vs → NormalOutcome (body vs)) →
-    (s t : State) → Good s → Good t → NormalOutcome (strict (outcomes (take 1 as') s t) (on_all_sets p (filter_of p body)))
-filter_normal p [] body h r s t g k = filter_none p body r
-filter_normal p (a ∷ as') body h r s t g k = filter_one p body r (a.value s t) (h.0.value s t g k)
+kept_members : (cs : List (List Value)) (bs : List Bool) → NormalLists cs → Normals (kept cs bs)
+kept_members [] bs h = tt
+kept_members ([] ∷ cs) [] h = tt
+kept_members ((v ∷ vs) ∷ cs) [] h = tt
+kept_members ([] ∷ cs) (b ∷ bs) h = kept_members cs bs h.1
+kept_members ((v ∷ vs) ∷ cs) (true ∷ bs) h = (h.0.0, kept_members cs bs h.1)
+kept_members ((v ∷ vs) ∷ cs) (false ∷ bs) h = kept_members cs bs h.1
 
 -- ---- EXCEPT
 
@@ -331,61 +290,60 @@ read_normal : (p : Place) (i : ℕ) (primed : Bool) (s t : State) → Good s →
 read_normal p i true s t g h = found_normal p (slice_get t.vals i) (got_normal t.vals i h)
 read_normal p i false s t g h = found_normal p (slice_get s.vals i) (got_normal s.vals i g)
 
-pub value_normal : (w : Width) (p : Place) (o : Op) (n : ℕ) (v : View) → IsTrue (one_bound o n) → NormalView v → (s t : State) → Good s → Good t →
+pub value_normal : (w : Width) (p : Place) (o : Op) (n : ℕ) (v : View) → NormalView v → (s t : State) → Good s → Good t →
     NormalOutcome (value_of w p o n v s t)
-value_normal w p (op.Bool b) n v c r s t g h = yes_normal b
-value_normal w p (op.Int i) n v c r s t g h = number_normal w p i
-value_normal w p (op.Str a) n v c r s t g h = text_normal a
-value_normal w p op.And n v c r s t g h = conjoined_normal p (outcomes v.here s t)
-value_normal w p op.Or n v c r s t g h = disjoined_normal p (outcomes v.here s t)
-value_normal w p op.Implies n v c r s t g h = implied_normal p (outcomes v.here s t)
-value_normal w p op.If n v c r s t g h = if_chosen_normal p (outcomes v.here s t) (outcomes_normal v.here r.here s t g h)
-value_normal w p (op.Case other) n v c r s t g h = case_chosen_normal p (outcomes v.here s t) (outcomes_normal v.here r.here s t g h)
-value_normal w p op.In n v c r s t g h =
+value_normal w p (op.Bool b) n v r s t g h = yes_normal b
+value_normal w p (op.Int i) n v r s t g h = number_normal w p i
+value_normal w p (op.Str a) n v r s t g h = text_normal a
+value_normal w p op.And n v r s t g h = conjoined_normal p (outcomes v.here s t)
+value_normal w p op.Or n v r s t g h = disjoined_normal p (outcomes v.here s t)
+value_normal w p op.Implies n v r s t g h = implied_normal p (outcomes v.here s t)
+value_normal w p op.If n v r s t g h = if_chosen_normal p (outcomes v.here s t) (outcomes_normal v.here r.here s t g h)
+value_normal w p (op.Case other) n v r s t g h = case_chosen_normal p (outcomes v.here s t) (outcomes_normal v.here r.here s t g h)
+value_normal w p op.In n v r s t g h =
     in_form_normal p (λ v f. yes_no (belongs f v)) (λ v f. yes_normal (belongs f v)) (outcomes v.here s t) (forms v.here s t)
-value_normal w p op.NotIn n v c r s t g h =
+value_normal w p op.NotIn n v r s t g h =
     in_form_normal p (λ v f. yes_no (not (belongs f v))) (λ v f. yes_normal (not (belongs f v))) (outcomes v.here s t) (forms v.here s t)
-value_normal w p op.SubsetEq n v c r s t g h = in_form_normal p (all_in p) (all_in_normal p) (outcomes v.here s t) (forms v.here s t)
-value_normal w p op.Exists n v c r s t g h =
+value_normal w p op.SubsetEq n v r s t g h = in_form_normal p (all_in p) (all_in_normal p) (outcomes v.here s t) (forms v.here s t)
+value_normal w p op.Exists n v r s t g h =
     over_normal p op.Exists n v r s t g h (λ xss x vs y. on_all_truths_normal p (λ bs. yes_no (list_any (λ b. b) bs)) (λ bs. yes_normal (list_any (λ b. b) bs)) vs)
-value_normal w p op.Forall n v c r s t g h =
+value_normal w p op.Forall n v r s t g h =
     over_normal p op.Forall n v r s t g h (λ xss x vs y. on_all_truths_normal p (λ bs. yes_no (list_all (λ b. b) bs)) (λ bs. yes_normal (list_all (λ b. b) bs)) vs)
-value_normal w p op.Filter zero v c r s t g h = absurd (false≢true c)
-value_normal w p op.Filter (suc zero) v c r s t g h =
-    filter_normal p v.here (λ vs. (kid p 1 (v.under vs)).value s t) r.here (λ vs y. (kid_normal p 1 (v.under vs) (r.under vs y)).value s t g h) s t g h
-value_normal w p op.Filter (suc (suc n)) v c r s t g h = absurd (false≢true c)
-value_normal w p op.MapTo n v c r s t g h = over_normal p op.MapTo n v r s t g h (λ xss x vs y. the_set_normal vs y)
-value_normal w p op.Lambda n v c r s t g h =
+value_normal w p op.Filter n v r s t g h =
+    over_normal p op.Filter n v r s t g h (λ xss x vs y. on_all_truths_normal p (λ bs. Val (the_set (kept (choices xss) bs)))
+    (λ bs. the_set_normal (kept (choices xss) bs) (kept_members (choices xss) bs (choices_normal xss (lists_of xss x)))) vs)
+value_normal w p op.MapTo n v r s t g h = over_normal p op.MapTo n v r s t g h (λ xss x vs y. the_set_normal vs y)
+value_normal w p op.Lambda n v r s t g h =
     over_normal p op.Lambda n v r s t g h (λ xss x vs y. the_function_normal (zip (map argument (choices xss)) vs)
     (zip_pairs (map argument (choices xss)) vs (all_mapped Normals Normal argument argument_normal (choices xss) (choices_normal xss (lists_of xss x))) y))
-value_normal w p (op.Except ns) n v c r s t g h = except_normal p ns v.here r.here v.under r.under s t g h
-value_normal w p op.Fold n v c r s t g h =
+value_normal w p (op.Except ns) n v r s t g h = except_normal p ns v.here r.here v.under r.under s t g h
+value_normal w p op.Fold n v r s t g h =
     let f : Value → Value → Outcome = λ a b. (kid p 0 (v.under (a ∷ b ∷ []))).value s t in
     strict_normal (outcomes (drop 1 v.here) s t) (fold_over p f) (outcomes_normal (drop 1 v.here) (dropped NormalSense 1 v.here r.here) s t g h)
     (fold_over_normal p f (λ a b x y. (kid_normal p 0 (v.under (a ∷ b ∷ [])) (r.under (a ∷ b ∷ []) (x, (y, tt)))).value s t g h))
-value_normal w p (op.Name i primed) n v c r s t g h = read_normal p i primed s t g h
-value_normal w p (op.Bound x) n v c r s t g h = found_normal p v.held r.held
-value_normal w p op.Prime n v c r s t g h = (kid_normal p 0 v.here r.here).value t t h h
-value_normal w p op.Unchanged n v c r s t g h = (kid_normal p 0 v.here r.here).unchanged s t g h
-value_normal w p op.Boxed n v c r s t g h = disjoined_normal p ((kid p 0 v.here).value s t ∷ (kid p 1 v.here).unchanged s t ∷ [])
-value_normal w p op.Angled n v c r s t g h = conjoined_normal p ((kid p 0 v.here).value s t ∷ changed p ((kid p 1 v.here).unchanged s t) ∷ [])
-value_normal w p (op.Noted x) n v c r s t g h = (kid_normal p 0 v.here r.here).value s t g h
-value_normal w p o n v c r s t g h = strict_normal (outcomes v.here s t) (table w p o) (outcomes_normal v.here r.here s t g h) (table_normal w p o)
+value_normal w p (op.Name i primed) n v r s t g h = read_normal p i primed s t g h
+value_normal w p (op.Bound x) n v r s t g h = found_normal p v.held r.held
+value_normal w p op.Prime n v r s t g h = (kid_normal p 0 v.here r.here).value t t h h
+value_normal w p op.Unchanged n v r s t g h = (kid_normal p 0 v.here r.here).unchanged s t g h
+value_normal w p op.Boxed n v r s t g h = disjoined_normal p ((kid p 0 v.here).value s t ∷ (kid p 1 v.here).unchanged s t ∷ [])
+value_normal w p op.Angled n v r s t g h = conjoined_normal p ((kid p 0 v.here).value s t ∷ changed p ((kid p 1 v.here).unchanged s t) ∷ [])
+value_normal w p (op.Noted x) n v r s t g h = (kid_normal p 0 v.here r.here).value s t g h
+value_normal w p o n v r s t g h = strict_normal (outcomes v.here s t) (table w p o) (outcomes_normal v.here r.here s t g h) (table_normal w p o)
 
 kept_normal : (p : Place) (a b : Outcome) → NormalOutcome a → NormalOutcome b → NormalOutcome (kept_value p a b)
 kept_normal p a b h k = strict_normal (b ∷ a ∷ []) (table None p op.Eq) (k, (h, tt)) (table_normal None p op.Eq)
 
-pub keeps_normal : (w : Width) (p : Place) (o : Op) (n : ℕ) (v : View) → IsTrue (one_bound o n) → NormalView v → (s t : State) → Good s → Good t →
+pub keeps_normal : (w : Width) (p : Place) (o : Op) (n : ℕ) (v : View) → NormalView v → (s t : State) → Good s → Good t →
     NormalOutcome (unchanged_of w p o n v s t)
-keeps_normal w p op.Tuple n v c r s t g h = conjoined_normal p (map (λ (a : Sense). a.unchanged s t) v.here)
-keeps_normal w p (op.Noted x) n v c r s t g h = (kid_normal p 0 v.here r.here).unchanged s t g h
-keeps_normal w p o n v c r s t g h =
-    kept_normal p (value_of w p o n v s t) (value_of w p o n v t t) (value_normal w p o n v c r s t g h) (value_normal w p o n v c r t t h h)
+keeps_normal w p op.Tuple n v r s t g h = conjoined_normal p (map (λ (a : Sense). a.unchanged s t) v.here)
+keeps_normal w p (op.Noted x) n v r s t g h = (kid_normal p 0 v.here r.here).unchanged s t g h
+keeps_normal w p o n v r s t g h =
+    kept_normal p (value_of w p o n v s t) (value_of w p o n v t t) (value_normal w p o n v r s t g h) (value_normal w p o n v r t t h h)
 
 meant_normal : (o : Option Sense) (a : Sense) → IfSomes NormalSense o → NormalSense a → NormalSense (meant o a)
 meant_normal None a h k = k
 meant_normal (Some b) a h k = h
 
-pub sense_normal : (w : Width) (p : Place) (o : Op) (n : ℕ) (v : View) → IsTrue (one_bound o n) → NormalView v → NormalSense (sense_of w p o n v)
-sense_normal w p o n v c r =
-    meant_normal v.whole _ r.whole (record { value = value_normal w p o n v c r; unchanged = keeps_normal w p o n v c r })
+pub sense_normal : (w : Width) (p : Place) (o : Op) (n : ℕ) (v : View) → NormalView v → NormalSense (sense_of w p o n v)
+sense_normal w p o n v r =
+    meant_normal v.whole _ r.whole (record { value = value_normal w p o n v r; unchanged = keeps_normal w p o n v r })

@@ -13,4 +13,3 @@ pub mod Form1
 pub mod Inductive
 pub mod Questions
 pub mod Widths
-pub mod Normals

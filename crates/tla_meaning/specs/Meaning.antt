@@ -93,7 +93,7 @@ truths (v ∷ vs) = option_and_then (λ b. option_map (λ bs. b ∷ bs) (truths 
 abbrev pub on_all_truths : Place → (List Bool → Outcome) → List Value → Outcome
 on_all_truths p f vs = elim (truths vs) [ None ↦ Wrong p | Some bs ↦ f bs ]
 
--- the choices that pass, of one bound name
+-- the first name's values at the choices that pass
 abbrev pub kept : List (List Value) → List Bool → List Value
 kept ((v ∷ vs) ∷ cs) (true ∷ bs) = v ∷ kept cs bs
 kept (vs ∷ cs) (b ∷ bs) = kept cs bs
@@ -108,7 +108,7 @@ argument vs = sequence vs
 abbrev pub bound_table : Place → Op → List (List Value) → List Value → Outcome
 bound_table p op.Exists cs vs = on_all_truths p (λ bs. yes_no (list_any (λ b. b) bs)) vs
 bound_table p op.Forall cs vs = on_all_truths p (λ bs. yes_no (list_all (λ b. b) bs)) vs
-bound_table p op.Filter cs vs = on_all_truths p (λ bs. Val (value.Set (kept cs bs))) vs
+bound_table p op.Filter cs vs = on_all_truths p (λ bs. Val (the_set (kept cs bs))) vs
 bound_table p op.MapTo cs vs = Val (the_set vs)
 bound_table p op.Lambda cs vs = Val (the_function (zip (map argument cs) vs))
 bound_table p o cs vs = Wrong p

@@ -1,8 +1,7 @@
 // Laws of the definitions, each as the contract of a function that does nothing.
-ghost use Rattle.std.specs.Prelude.{◌≡◌, ◌++◌, All, IsTrue, List, None, Some, ℕ};
+ghost use Rattle.std.specs.Prelude.{◌≡◌, ◌++◌, All, List, None, Some, ℕ};
 ghost use Rattle.tla_meaning.specs.Actions.{act, val};
 ghost use Rattle.tla_meaning.specs.Executions.{IsExecution, invariant, next, scope_of, start};
-ghost use Rattle.tla_meaning.specs.Normals.{filters_bind_one};
 ghost use Rattle.tla_meaning.specs.Numbers.{Width};
 ghost use Rattle.tla_meaning.specs.Scopes.{Marks};
 ghost use Rattle.tla_meaning.specs.Widths.{Narrow};
@@ -38,8 +37,7 @@ pub fn widths_agree()
     ensures executions { (w : ℕ) (job : Job) (ss : List State) → IsExecution (Some w) job ss → IsExecution None job ss }
 {}
 
-/// Every value of a tree over normal states and normal bound values is normal, where each `{x \in S : P}` binds one
-/// name, as the language has it.
+/// Every value of a tree over normal states and normal bound values is normal.
 pub fn values_are_normal()
-    ensures { (w : Width) (e : Expr) (env : Env) (s t : State) (v : Value) → IsTrue (filters_bind_one e) → All (λ b. Normal b.1) env.vals → All Normal s.vals → All Normal t.vals → val w e (scope_of env) s t ≡ Val v → Normal v }
+    ensures { (w : Width) (e : Expr) (env : Env) (s t : State) (v : Value) → All (λ b. Normal b.1) env.vals → All Normal s.vals → All Normal t.vals → val w e (scope_of env) s t ≡ Val v → Normal v }
 {}

@@ -53,7 +53,7 @@ if_effect-returns-in-Err t c =
 pub exists_effect-body_effects-requires : goal.exists_effect-body_effects-requires
 exists_effect-body_effects-requires t c =
     let deep : size-Expr c.body-item.result ≤ most size-Expr c.args.args.now =
-    no_deeper size-Expr (length c.args.names.now) c.args.args.now c.split.result.1.now c.body-item.result c.split.ensures.back c.in-len1-up.len_at_least c.body-item.is in
+    no_deeper size-Expr (length c.args.names.now) c.args.args.now c.after.result.now c.body-item.result c.after.ensures c.in-len1-up.len_at_least c.body-item.is in
     let sets : All Normal c.as_slice.result.now = All-same Normal _ _ c.as_slice.ensures.value c.in_ok-domains.ensures.normal in
     let chosen : All (λ d. All Normal d) c.in-Some.choices.items =
     choices_are_normal _ _ sets (c.in_ok-choices.ensures ∙ ap (option_map (λ v. v.items)) c.in-Some.is) in
@@ -62,10 +62,10 @@ exists_effect-body_effects-requires t c =
 
 pub exists_effect-returns-in-len1-up : goal.exists_effect-returns-in-len1-up
 exists_effect-returns-in-len1-up t c =
-    let none : c.in_ok-domains.domains.fault ≡ NoFault = search rules in
+    let none : c.in_ok-domains.domains.fault ≡ NoFault = c.is_fault.ensures.no c.if-is_fault.false in
     is_now c.body_effects.result _ _
     (exists_body _ _ c.args.place _ _ _ _ _ _ _ c.in_ok-domains.domains.fault c.in_ok-domains.domains.values.items c.as_slice.result.now c.in-Some.choices.items c.as_slice-choices.result.now _
-    c.split.ensures.front c.split.ensures.back c.in_ok-domains.ensures.fault none c.in_ok-domains.ensures.values c.as_slice.ensures.value
+    c.front.ensures c.after.ensures c.in_ok-domains.ensures.fault none c.in_ok-domains.ensures.values c.as_slice.ensures.value
     (c.in_ok-choices.ensures ∙ ap (option_map (λ v. v.items)) c.in-Some.is) c.as_slice-choices.ensures.value c.in-len1-up.len_at_least c.body-item.is)
     c.body_effects.ensures
 

@@ -1,0 +1,91 @@
+-- The form that an evaluation finds at each node.
+use Rattle.std.proofs.Common.{◌≡◌, ℕ, Bool, true, false, IsTrue, List, [], ◌∷◌, map, length, refl, ap, ap₂, ◌∙◌, sym, Some}
+use Rattle.tla_values.specs.declared.value.Value.{Value}
+use Rattle.tla_meaning.specs.declared.expr.Expr.{Expr, out-Expr}
+use Rattle.tla_meaning.specs.declared.job.State.{State}
+use Rattle.tla_meaning.specs.declared.op.Op.{Op}
+use Rattle.tla_meaning.specs.declared.op.Op.TheVariants as op
+use Rattle.tla_meaning.specs.declared.place.Place.{Place}
+use Rattle.tla_meaning.specs.Actions.{sense_of}
+use Rattle.tla_meaning.specs.Forms.{AllInts, AllNats, AllTexts, Formed, Made, Records, Sequences, Subsets, Tuples}
+use Rattle.tla_meaning.specs.Meaning.{Meaning, form_of_all, form_of_one, function_form, plain, role, view}
+use Rattle.tla_meaning.specs.Scopes.{Scope, Sense}
+use Rattle.tla_evaluator.specs.Trees.{first_form_at, form_at, forms_at, has_form, outcomes_at, scope_at, stays, value_at}
+use Rattle.tla_evaluator.proofs.TreeLemmas.{sense_at, sense_gone}
+use Rattle.tla_evaluator.proofs.NodeLemmas.{false≢true, here_first_form, here_forms, here_outcomes, kids}
+
+-- a node that is no set form is the set that its value is
+plain_form : (w : ℕ) (p : Place) (o : Op) (xs : List (List ℕ)) (ks : List Meaning) (sc : Scope) (s t : State) → IsTrue (stays o) → has_form o ≡ false →
+    plain ((sense_of (Some w) p o (length xs) (view p (role o (length xs)) xs ks sc)).value s t) ≡ (sense_of (Some w) p o (length xs) (view p (role o (length xs)) xs ks sc)).form s t
+plain_form w p op.IntSet xs ks sc s t g h = absurd (false≢true (sym h))
+plain_form w p op.NatSet xs ks sc s t g h = absurd (false≢true (sym h))
+plain_form w p op.StringSet xs ks sc s t g h = absurd (false≢true (sym h))
+plain_form w p op.SeqSet xs ks sc s t g h = absurd (false≢true (sym h))
+plain_form w p op.Powerset xs ks sc s t g h = absurd (false≢true (sym h))
+plain_form w p op.FunSet xs ks sc s t g h = absurd (false≢true (sym h))
+plain_form w p (op.RecSet ns) xs ks sc s t g h = absurd (false≢true (sym h))
+plain_form w p op.Product xs ks sc s t g h = absurd (false≢true (sym h))
+plain_form w p (op.Noted x) xs ks sc s t g h = absurd (false≢true (sym h))
+plain_form w p (op.Use x) xs ks sc s t g h = absurd (false≢true g)
+plain_form w p (op.Param x) xs ks sc s t g h = absurd (false≢true g)
+plain_form w p (op.Let ds) xs ks sc s t g h = absurd (false≢true g)
+plain_form w p op.Prime xs ks sc s t g h = absurd (false≢true g)
+plain_form w p op.Unchanged xs ks sc s t g h = absurd (false≢true g)
+plain_form w p op.Boxed xs ks sc s t g h = absurd (false≢true g)
+plain_form w p op.Angled xs ks sc s t g h = absurd (false≢true g)
+plain_form w p o xs ks sc s t g h = refl
+
+module _ (w : ℕ) (e : Expr) (vars : List (List ℕ × Value)) (s t : State) where
+  abbrev place : Place
+  place = (out-Expr e).place
+
+  abbrev trees : List Expr
+  trees = (out-Expr e).args
+
+  abbrev names : List (List ℕ)
+  names = (out-Expr e).binds
+
+  abbrev sense : Op → Sense
+  sense o = sense_of (Some w) place o (length names) (view place (role o (length names)) names (kids w place names vars s t trees) (scope_at vars))
+
+  form_is : (o : Op) → (out-Expr e).op ≡ o → IsTrue (stays o) → form_at w e vars s t ≡ (sense o).form s t
+  form_is o is h = ap (λ (a : Sense). a.form s t) (sense_at (Some w) e (scope_at vars) o is h)
+
+  pub ints_is : (out-Expr e).op ≡ op.IntSet → Made AllInts ≡ form_at w e vars s t
+  ints_is is = sym (form_is op.IntSet is refl)
+
+  pub nats_is : (out-Expr e).op ≡ op.NatSet → Made AllNats ≡ form_at w e vars s t
+  nats_is is = sym (form_is op.NatSet is refl)
+
+  pub texts_is : (out-Expr e).op ≡ op.StringSet → Made AllTexts ≡ form_at w e vars s t
+  texts_is is = sym (form_is op.StringSet is refl)
+
+  pub sequences_is : (out-Expr e).op ≡ op.SeqSet → form_of_one place Sequences (forms_at w trees vars s t) ≡ form_at w e vars s t
+  sequences_is is = sym (form_is op.SeqSet is refl ∙ ap (form_of_one place Sequences) (here_forms w place names vars s t trees))
+
+  pub subsets_is : (out-Expr e).op ≡ op.Powerset → form_of_one place Subsets (forms_at w trees vars s t) ≡ form_at w e vars s t
+  subsets_is is = sym (form_is op.Powerset is refl ∙ ap (form_of_one place Subsets) (here_forms w place names vars s t trees))
+
+  pub functions_is : (out-Expr e).op ≡ op.FunSet → function_form place (outcomes_at w trees vars s t) (forms_at w trees vars s t) ≡ form_at w e vars s t
+  functions_is is = sym (form_is op.FunSet is refl ∙ ap₂ (function_form place) (here_outcomes w place names vars s t trees) (here_forms w place names vars s t trees))
+
+  pub records_is : (ns : List (List ℕ)) → (out-Expr e).op ≡ op.RecSet ns → form_of_all place (Records ns) (forms_at w trees vars s t) ≡ form_at w e vars s t
+  records_is ns is = sym (form_is (op.RecSet ns) is refl ∙ ap (form_of_all place (Records ns)) (here_forms w place names vars s t trees))
+
+  pub tuples_is : (out-Expr e).op ≡ op.Product → form_of_all place Tuples (forms_at w trees vars s t) ≡ form_at w e vars s t
+  tuples_is is = sym (form_is op.Product is refl ∙ ap (form_of_all place Tuples) (here_forms w place names vars s t trees))
+
+  pub noted_form_is : (x : List ℕ) → (out-Expr e).op ≡ op.Noted x → first_form_at w place trees vars s t ≡ form_at w e vars s t
+  noted_form_is x is = sym (form_is (op.Noted x) is refl ∙ here_first_form w place names vars s t trees)
+
+  by_stays : (b : Bool) → stays (out-Expr e).op ≡ b → has_form (out-Expr e).op ≡ false → plain (value_at w e vars s t) ≡ form_at w e vars s t
+  by_stays true k h =
+      ap (λ (a : Sense). plain (a.value s t)) (sense_at (Some w) e (scope_at vars) (out-Expr e).op refl k)
+      ∙ plain_form w place (out-Expr e).op names (kids w place names vars s t trees) (scope_at vars) s t k h
+      ∙ sym (form_is (out-Expr e).op refl k)
+  by_stays false k h =
+      ap (λ (a : Sense). plain (a.value s t)) (sense_gone (Some w) e (scope_at vars) k)
+      ∙ sym (ap (λ (a : Sense). a.form s t) (sense_gone (Some w) e (scope_at vars) k))
+
+  pub plain_is : has_form (out-Expr e).op ≡ false → plain (value_at w e vars s t) ≡ form_at w e vars s t
+  plain_is h = by_stays (stays (out-Expr e).op) refl h

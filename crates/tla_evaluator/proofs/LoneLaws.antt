@@ -1,0 +1,71 @@
+-- On expanded trees an evaluation computes their meaning, and its values are normal.
+use Rattle.std.proofs.Common.{◌≡◌, ℕ, Bool, true, false, IsTrue, List, [], ◌∷◌, ◌++◌, map, length, refl, ap, ap₂, ◌∙◌, sym, subst, Some}
+use Rattle.std.specs.List.{All}
+use Rattle.std.proofs.lemmas.List.Elements.{recursion_from_All}
+use Rattle.tla_values.specs.Sets.{Normal}
+use Rattle.tla_values.specs.declared.value.Value.{Value}
+use Rattle.tla_meaning.specs.declared.expr.Expr.{Expr, roll-Expr}
+use Rattle.tla_meaning.specs.declared.expr.Expr.TheOpen.{Expr-F}
+use Rattle.tla_meaning.specs.declared.expr.Expr.TheFolds.{fold-roll-Expr, map-Expr}
+use Rattle.tla_meaning.specs.declared.job.Env.{Env}
+use Rattle.tla_meaning.specs.declared.job.State.{State}
+use Rattle.tla_meaning.specs.declared.outcome.Outcome.{Outcome}
+use Rattle.tla_meaning.specs.declared.outcome.Outcome.TheVariants.{Val}
+use Rattle.tla_meaning.specs.Actions.{meaning, node}
+use Rattle.tla_meaning.specs.Meaning.{Meaning}
+use Rattle.tla_meaning.specs.Numbers.{Width}
+use Rattle.tla_meaning.specs.Scopes.{Scope, Sense, nonsense}
+use Rattle.tla_meaning.proofs.Laws.{Test, simulate}
+use Rattle.tla_meaning.proofs.Views.{AllAgree}
+use Rattle.tla_meaning.proofs.NormalTable.{NormalOutcome}
+use Rattle.tla_meaning.proofs.NormalNodes.{NormalSense, nonsense_normal}
+use Rattle.tla_meaning.proofs.NormalLaw.{NormalMeaning, NormalMeanings, NormalScope, fold_normal, node_normal}
+use Rattle.tla_evaluator.specs.Trees.{AreNormal, is_expanded, lone, lone_node, scope_at, stays, value_at}
+
+-- ---- the meaning of the language
+
+lone-roll : (w : Width) (x : Expr-F Expr) → lone w (roll-Expr x) ≡ lone_node w (map-Expr Expr Meaning (lone w) x)
+unfolding lone
+lone-roll w x = fold-roll-Expr Meaning (lone_node w) x
+
+abbrev Same : Scope → Scope → Type 0
+Same a b = a ≡ b
+
+abbrev left_over : Test
+left_over o xs = stays o
+
+all_same : (ks ls : List Meaning) → AllAgree Same ks ls → ks ≡ ls
+all_same [] [] h = refl
+all_same [] (l ∷ ls) h = absurd h
+all_same (k ∷ ks) [] h = absurd h
+all_same (k ∷ ks) (l ∷ ls) h = ap₂ (λ (m : Meaning) (ms : List Meaning). m ∷ ms) (λ i. λ a. h.0 a a refl i) (all_same ks ls h.1)
+
+layer_same : (w : Width) (x : Expr-F Expr) → IsTrue (stays x.op) → AllAgree Same (map (lone w) x.args) (map (meaning w) x.args) →
+    (a b : Scope) → Same a b → lone w (roll-Expr x) a ≡ node w (map-Expr Expr Meaning (meaning w) x) b
+layer_same w x h k a b r =
+    let y : Expr-F Meaning = map-Expr Expr Meaning (lone w) x in
+    ap (λ (m : Meaning). m a) (lone-roll w x)
+    ∙ ap (λ (b : Bool). elim b as (λ _. Sense) [ true ↦ node w y a | false ↦ nonsense y.place ]) h
+    ∙ ap (λ (ks : List Meaning). node w (record y { args = ks }) a) (all_same (map (lone w) x.args) (map (meaning w) x.args) k)
+    ∙ ap (node w (map-Expr Expr Meaning (meaning w) x)) r
+
+pub lone_is : (w : Width) (e : Expr) → IsTrue (is_expanded e) → (sc : Scope) → lone w e sc ≡ meaning w e sc
+lone_is w e h sc = simulate w Same left_over (lone w) (layer_same w) e h sc sc refl
+
+-- ---- normal values
+
+lone_layer : (w : Width) (x : Expr-F Meaning) → NormalMeanings x.args → NormalMeaning (lone_node w x)
+lone_layer w x h a r = by_kind (stays x.op)
+  where
+    by_kind : (b : Bool) → NormalSense (elim b [ true ↦ node w x a | false ↦ nonsense x.place ])
+    by_kind true = node_normal w x h a r
+    by_kind false = nonsense_normal x.place
+
+lone_normal : (w : Width) (e : Expr) → NormalMeaning (lone w e)
+unfolding lone
+lone_normal w e = fold_normal (lone_node w) (lone_layer w) e
+
+pub value_normal : (w : ℕ) (e : Expr) (vars : List (List ℕ × Value)) (s t : State) → AreNormal vars s t → NormalOutcome (value_at w e vars s t)
+value_normal w e vars s t h =
+    let sc : NormalScope (scope_at vars) = record { bound = recursion_from_All (λ b. Normal b.1) vars h.bound; named = tt } in
+    (lone_normal (Some w) e (scope_at vars) sc).value s t (recursion_from_All Normal s.vals h.now) (recursion_from_All Normal t.vals h.next)

@@ -1,0 +1,161 @@
+// What a binder gives of its choices and of the body's value at each.
+ghost use Rattle.std.specs.Prelude.{◌≡◌, ◌+◌, ◌++◌, ◌∷◌, [], Bool as Truth, IfOk, List as Items, OnOk, drop, map, option_map, zip};
+ghost use Rattle.tla_meaning.specs.Meaning.{argument, bound_table, kept, truths};
+ghost use Rattle.tla_meaning.specs.Shapes.{the_function};
+
+use crate::functions::function_of;
+use crate::records::paired;
+use crate::sequences::sequence;
+use crate::sets::copy_onto;
+use std::alloc::{AllocError, Global};
+use tla_meaning::{Op, Outcome, Place};
+use tla_values::{List, Value, copy_value, set_of};
+
+pub(crate) use crate::sets::choices_of;
+
+// The row of a binder: its choices with the body's value at each.
+pub(crate) fn bound_table(
+    alloc: Global,
+    op: &Op,
+    place: Place,
+    choices: &[List<Value>],
+    values: Vec<Value>,
+) -> Result<Outcome, AllocError>
+    ensures { IfOk result (λ o. o ≡ bound_table place op.now choices.now values.items) }
+{
+    match op {
+        Op::Exists => Ok(some_true(&values, place)),
+        Op::Forall => Ok(all_true(&values, place)),
+        Op::Filter => kept_members(alloc, choices, &values, place),
+        Op::MapTo => {
+            let set = set_of(alloc, List::from_vec(values))?;
+            Ok(Outcome::Val(set))
+        }
+        Op::Lambda => function_at(alloc, choices, values),
+        _ => Ok(Outcome::Wrong(place)),
+    }
+}
+
+// Whether a value is TRUE, where all are truth values.
+fn some_true(values: &[Value], place: Place) -> Outcome
+    ensures { result ≡ bound_table place Op.Exists [] values.now }
+{
+    let mut found = false;
+    for v in values {
+        match v {
+            Value::Bool(b) => found = found || *b,
+            _ => return Outcome::Wrong(place),
+        }
+    }
+    Outcome::Val(Value::Bool(found))
+}
+
+// Whether all values are TRUE, where all are truth values.
+fn all_true(values: &[Value], place: Place) -> Outcome
+    ensures { result ≡ bound_table place Op.Forall [] values.now }
+{
+    let mut holds = true;
+    for v in values {
+        match v {
+            Value::Bool(b) => holds = holds && *b,
+            _ => return Outcome::Wrong(place),
+        }
+    }
+    Outcome::Val(Value::Bool(holds))
+}
+
+// The set of the choices at which the value is TRUE, where all are truth values.
+fn kept_members(
+    alloc: Global,
+    choices: &[List<Value>],
+    values: &[Value],
+    place: Place,
+) -> Result<Outcome, AllocError>
+    ensures { IfOk result (λ o. o ≡ bound_table place Op.Filter choices.now values.now) }
+{
+    match kept_of(alloc, choices, values)? {
+        Some(members) => {
+            let set = set_of(alloc, List::from_vec(members))?;
+            Ok(Outcome::Val(set))
+        }
+        None => Ok(Outcome::Wrong(place)),
+    }
+}
+
+fn kept_of(
+    alloc: Global,
+    choices: &[List<Value>],
+    values: &[Value],
+) -> Result<Option<Vec<Value>>, AllocError>
+    ensures { IfOk result (λ o. option_map (kept choices.now) (truths values.now) ≡ option_map (λ m. m.items) o) }
+{
+    let mut members = Vec::new(alloc);
+    for (i, v) in values.iter().enumerate() {
+        match v {
+            Value::Bool(b) => keep_first(alloc, *b, choices, i, &mut members)?,
+            _ => return Ok(None),
+        }
+    }
+    Ok(Some(members))
+}
+
+// Adds the first member of the i-th choice, where it passes and there is one.
+fn keep_first(
+    alloc: Global,
+    passes: bool,
+    choices: &[List<Value>],
+    i: usize,
+    out: &mut Vec<Value>,
+) -> Result<(), AllocError>
+    ensures { OnOk result ((bs : Items Truth) →
+        out.new.items ++ kept (drop (i + 1) choices.now) bs ≡ out.old.items ++ kept (drop i choices.now) (passes ∷ bs)) }
+{
+    if i < choices.len() {
+        if let [first, ..] = choices[i].as_slice() {
+            if passes {
+                let copy = copy_value(alloc, first)?;
+                out.push(copy)?;
+            }
+        }
+    }
+    Ok(())
+}
+
+// The function of the choices, each with its value.
+fn function_at(
+    alloc: Global,
+    choices: &[List<Value>],
+    values: Vec<Value>,
+) -> Result<Outcome, AllocError>
+    ensures { IfOk result (λ o. o ≡ Outcome.Val (the_function (zip (map argument choices.now) values.items))) }
+{
+    let arguments = arguments_of(alloc, choices)?;
+    let pairs = paired(alloc, arguments.as_slice(), values)?;
+    let function = function_of(alloc, pairs)?;
+    Ok(Outcome::Val(function))
+}
+
+fn arguments_of(alloc: Global, choices: &[List<Value>]) -> Result<Vec<Value>, AllocError>
+    ensures { IfOk result (λ v. v.items ≡ map argument choices.now) }
+{
+    let mut arguments = Vec::new(alloc);
+    for choice in choices {
+        let value = argument(alloc, choice.as_slice())?;
+        arguments.push(value)?;
+    }
+    Ok(arguments)
+}
+
+// One argument, or the tuple of several.
+fn argument(alloc: Global, choice: &[Value]) -> Result<Value, AllocError>
+    ensures { IfOk result (λ v. v ≡ argument choice.now) }
+{
+    match choice {
+        [only] => copy_value(alloc, only),
+        _ => {
+            let mut items = Vec::new(alloc);
+            copy_onto(alloc, choice, &mut items)?;
+            sequence(alloc, items)
+        }
+    }
+}
