@@ -21,7 +21,7 @@ use Rattle.tla_meaning.specs.declared.outcome.Outcome.TheVariants.{Val, Wrong, B
 use Rattle.tla_meaning.specs.Actions.{any_holds, case_effect, effect_of, effects, effects_and, effects_or, exists_effect, fails_by, guard, guarded, if_effect, sense_of}
 use Rattle.tla_meaning.specs.Meaning.{Meaning, by_truth, choose, inner, kid, outcomes, outer, role, view}
 use Rattle.tla_meaning.specs.Operators.{yes_no}
-use Rattle.tla_meaning.specs.Outcomes.{both, joined, values}
+use Rattle.tla_meaning.specs.Outcomes.{both, joined, unless, values}
 use Rattle.tla_meaning.specs.Scopes.{Marks, Sense, bound_to, nonsense}
 use Rattle.tla_meaning.specs.Scopes as scopes
 use Rattle.tla_meaning.specs.Shapes.{all_set_items, choices}
@@ -372,14 +372,26 @@ module _ (q : Place) (at_choice : List Value → scopes.Effect) where
   members : Option (List (List Value)) → scopes.Effect
   members o = elim o [ None ↦ fails_by (IsWrong q) | Some xss ↦ effects_or (map at_choice (choices xss)) ]
 
+  -- by the fault of the domains
+  abbrev by : List Outcome → Fault → scopes.Effect
+  by os f = elim f as (λ _. scopes.Effect) [
+    | NoFault ↦ members (all_set_items (values os))
+    | IsWrong r ↦ fails_by (IsWrong r)
+    | IsBig r ↦ fails_by (IsBig r)
+  ]
+
+  by_fault : (os : List Outcome) (f : Fault) → joined os ≡ f → exists_effect q os at_choice ≡ by os f
+  unfolding members
+  by_fault os f h = ap (by os) h
+
   without_fault : (os : List Outcome) → joined os ≡ NoFault → exists_effect q os at_choice ≡ members (all_set_items (values os))
   unfolding members
-  without_fault os h =
-      ap (λ (f : Fault). elim f as (λ _. scopes.Effect) [
-        | NoFault ↦ members (all_set_items (values os))
-        | IsWrong r ↦ fails_by (IsWrong r)
-        | IsBig r ↦ fails_by (IsBig r)
-      ]) h
+  without_fault os h = by_fault os NoFault h
+
+  with_fault : (os : List Outcome) (f : Fault) → joined os ≡ f → ((a b : Outcome) → unless f a ≡ unless f b) → fails_by f ≡ exists_effect q os at_choice
+  with_fault os NoFault h k = let same : Wrong q ≡ Big q = k (Wrong q) (Big q) in absurd (cc)
+  with_fault os (IsWrong r) h k = sym (by_fault os (IsWrong r) h)
+  with_fault os (IsBig r) h k = sym (by_fault os (IsBig r) h)
 
   at_choices : (o : Option (List (List Value))) (cs : List (List Value)) → option_map choices o ≡ Some cs → members o ≡ effects_or (map at_choice cs)
   unfolding members
@@ -387,6 +399,12 @@ module _ (q : Place) (at_choice : List Value → scopes.Effect) where
   at_choices (Some xss) cs e = let same : choices xss ≡ cs = cc in ap (λ yss. effects_or (map at_choice yss)) same
 
 module _ (w : ℕ) (m : Marks) (q : Place) (names : List (List ℕ)) (args : List Expr) (vars : List (List ℕ × Value)) (s t : State) where
+  pub exists_fault : (sets : List Expr) (f : Fault) → sets ≡ take (length names) args → f ≡ joined (outcomes_at w sets vars s t) →
+      ((a b : Outcome) → unless f a ≡ unless f b) → fails_by f ≡ exists_at w m q names args vars s t
+  exists_fault sets f front fault is =
+      with_fault q (λ c. first_effect w m q (drop (length names) args) (vars ++ bound_to names c) s t) (outcomes_at w (take (length names) args) vars s t) f
+      (ap (λ es. joined (outcomes_at w es vars s t)) (sym front) ∙ sym fault) is
+
   pub exists_body : (sets rest : List Expr) (f : Fault) (vs vs' : List Value) (cs cs' : List (List Value)) (body : Expr) →
       sets ≡ take (length names) args → rest ≡ drop (length names) args →
       f ≡ joined (outcomes_at w sets vars s t) → f ≡ NoFault → vs ≡ values (outcomes_at w sets vars s t) → vs' ≡ vs →

@@ -1,4 +1,4 @@
-use Rattle.std.proofs.Common.{arith, rules, ◌≡◌, ℕ, Bool, false, ◌<◌, ◌≤◌, List, get_or, length, option_map, ap, ap₂, subst, sym, ◌∙◌}
+use Rattle.std.proofs.Common.{arith, ◌≡◌, ℕ, Bool, false, ◌<◌, ◌≤◌, List, get_or, length, option_map, ap, ap₂, subst, sym, ◌∙◌}
 use Rattle.std.specs.List.{All, list_any}
 use Rattle.std.proofs.lemmas.List.Elements.{All-same}
 use Rattle.tla_values.specs.Sets.{Normal}
@@ -11,7 +11,7 @@ use Rattle.tla_meaning.specs.Scopes.{Marks}
 use Rattle.tla_evaluator.specs.Effects.{as_effect, exists_at, first_effect}
 use Rattle.tla_evaluator.specs.Marks.{marked, marks_of}
 use Rattle.tla_evaluator.specs.Trees.{AreNormal, effects_at, outcomes_at}
-use Rattle.tla_evaluator.proofs.ActionNodes.{is_now, at_value, at_and, at_or, at_or_value, at_if, at_if_value, at_case, at_case_value, at_exists, at_noted, and_next, or_next, bodies_next, case_false, case_fault, if_fault, exists_body, first_some, first_none, no_deeper}
+use Rattle.tla_evaluator.proofs.ActionNodes.{is_now, at_value, at_and, at_or, at_or_value, at_if, at_if_value, at_case, at_case_value, at_exists, at_noted, and_next, or_next, bodies_next, case_false, case_fault, if_fault, exists_body, exists_fault, first_some, first_none, no_deeper}
 use Rattle.tla_evaluator.proofs.NormalBinds.{longer_normal, choices_are_normal}
 use Rattle.tla_evaluator.proofs.actions.+action.Goals as goal
 use Rattle.tla_evaluator.proofs.actions.+action.Goals.{action-in_default-via-in-Or+else-any_marked, action-in_default-via-in-If+else-any_marked-2, action-in_default-via-in-Case+else-any_marked-3, action-in_default-via-in_default}
@@ -49,6 +49,11 @@ if_effect-returns-in-Err t c =
     c.effect_of.ensures
     ∙ if_fault _ _ c.args.place _ _ _ c.args.args.now _ _ _ c.in-len3.len_at_least c.in-len3.len_below c.guard-item.is
     c.in_ok-outcome-in-len3.ensures c.in-Err.ensures
+
+pub exists_effect-returns-then-is_fault : goal.exists_effect-returns-then-is_fault
+exists_effect-returns-then-is_fault t c =
+    c.fails_by.ensures
+    ∙ exists_fault _ _ c.args.place c.args.names.now c.args.args.now _ _ _ _ _ c.front.ensures c.in_ok-domains.ensures.fault (c.is_fault.ensures.yes c.if-is_fault.true)
 
 pub exists_effect-body_effects-requires : goal.exists_effect-body_effects-requires
 exists_effect-body_effects-requires t c =
