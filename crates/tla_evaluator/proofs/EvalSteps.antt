@@ -1,18 +1,17 @@
 -- Steps of the loops of an evaluation.
 use Rattle.std.specs.Prelude.{IfOk}
-use Rattle.std.proofs.Common.{Result, ◌≡◌, ℕ, zero, suc, ◌+◌, ◌*◌, ◌<◌, ◌≤◌, Bool, true, false, not, IsTrue, List, [], ◌∷◌, ◌++◌, map, take, drop, get_or, length, refl, ap, ap₂, ◌∙◌, sym, subst, Some, arith, drop-cons, add-one, append-nil, if◌then◌else◌}
+use Rattle.std.proofs.Common.{Result, ◌≡◌, ℕ, zero, suc, ◌+◌, ◌*◌, ◌<◌, ◌≤◌, Bool, true, false, not, List, [], ◌∷◌, ◌++◌, map, drop, get_or, length, refl, ap, ◌∙◌, sym, subst, arith, drop-cons, add-one, append-nil, if◌then◌else◌}
 use Rattle.tla_values.specs.declared.value.Value.{Value}
 use Rattle.tla_values.specs.declared.value.Value.TheVariants.{outs-Bool}
 use Rattle.tla_values.specs.declared.value.Value.TheOpen as layer
 use Rattle.tla_meaning.specs.declared.outcome.Fault.{Fault}
 use Rattle.tla_meaning.specs.declared.outcome.Fault.TheVariants.{NoFault}
 use Rattle.tla_meaning.specs.declared.outcome.Outcome.{Outcome}
-use Rattle.tla_meaning.specs.declared.outcome.Outcome.TheVariants.{Val, Wrong, Big}
 use Rattle.tla_meaning.specs.declared.place.Place.{Place}
-use Rattle.tla_meaning.specs.Meaning.{by_truth, case_chosen, choose, conjoined, disjoined, if_chosen}
+use Rattle.tla_meaning.specs.Meaning.{by_truth, case_chosen, choose, conjoined, disjoined}
 use Rattle.tla_meaning.specs.Operators.{yes_no}
-use Rattle.tla_meaning.specs.Outcomes.{both, fault_of, joined, strict, unless, values, with_value}
-use Rattle.tla_meaning.proofs.Joins.{both_unit, joined_append}
+use Rattle.tla_meaning.specs.Outcomes.{both, fault_of, joined, strict, unless, values}
+use Rattle.tla_meaning.proofs.Joins.{both_unit}
 use Rattle.tla_evaluator.specs.Trees.{junction}
 use Rattle.tla_evaluator.proofs.OutcomeLemmas.{fault_step, values_step}
 
@@ -118,7 +117,7 @@ strict_fault f os g o same e = same o (g (values os)) ∙ ap (λ h. unless h (g 
 
 -- ---- CASE and IF
 
-same_item : {X : Type 0} (xs : List X) (i : ℕ) (x : X) → i < length xs → get_or xs i x ≡ get_or xs i (get_or xs i x)
+pub same_item : {X : Type 0} (xs : List X) (i : ℕ) (x : X) → i < length xs → get_or xs i x ≡ get_or xs i (get_or xs i x)
 same_item [] i x lt = absurd (omega (arith, lt))
 same_item (y ∷ ys) zero x lt = refl
 same_item (y ∷ ys) (suc i) x lt = ap (λ z. z) (other ys i x (get_or ys i x) (omega (arith, lt)))

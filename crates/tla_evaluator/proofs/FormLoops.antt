@@ -1,6 +1,6 @@
 -- Steps of the loops over forms, and the first of several trees.
 use Rattle.std.specs.Prelude.{IfOk}
-use Rattle.std.proofs.Common.{◌≡◌, ℕ, zero, suc, ◌+◌, ◌<◌, ◌≤◌, List, [], ◌∷◌, ◌++◌, map, drop, get_or, length, refl, ap, ap₂, ◌∙◌, sym, subst, Result, Ok, Err, Some, arith}
+use Rattle.std.proofs.Common.{◌≡◌, ℕ, suc, ◌+◌, ◌<◌, ◌≤◌, List, [], ◌∷◌, ◌++◌, map, drop, get_or, length, refl, ap, ◌∙◌, sym, subst, Result, Ok, Err, arith}
 use Rattle.tla_values.specs.declared.value.Value.{Value}
 use Rattle.tla_meaning.specs.declared.expr.Expr.{Expr}
 use Rattle.tla_meaning.specs.declared.job.State.{State}
@@ -64,6 +64,10 @@ module _ (w : ℕ) (vars : List (List ℕ × Value)) (s t : State) (p : Place) (
       split : (es : List Expr) (x : Expr) → 1 ≤ length es → x ≡ get_or es 0 x → x ∷ drop 1 es ≡ es
       split [] x le is = absurd (omega (arith, le))
       split (e ∷ es) x le is = ap (λ z. z ∷ es) is
+
+pub forms_count : (w : ℕ) (es : List Expr) (vars : List (List ℕ × Value)) (s t : State) → length es ≡ length (forms_at w es vars s t)
+forms_count w [] vars s t = refl
+forms_count w (e ∷ es) vars s t = ap suc (forms_count w es vars s t)
 
 -- IF is a CASE of three trees
 pub if_case : (w : ℕ) (p : Place) (es : List Expr) (vars : List (List ℕ × Value)) (s t : State) → length es ≡ 3 →

@@ -1,5 +1,5 @@
 -- The form that an evaluation finds at each node.
-use Rattle.std.proofs.Common.{◌≡◌, ℕ, Bool, true, false, IsTrue, List, [], ◌∷◌, map, length, refl, ap, ap₂, ◌∙◌, sym, Some}
+use Rattle.std.proofs.Common.{◌≡◌, ℕ, Bool, true, false, IsTrue, List, length, refl, ap, ap₂, ◌∙◌, sym, Some}
 use Rattle.tla_values.specs.declared.value.Value.{Value}
 use Rattle.tla_meaning.specs.declared.expr.Expr.{Expr, out-Expr}
 use Rattle.tla_meaning.specs.declared.job.State.{State}
@@ -7,7 +7,7 @@ use Rattle.tla_meaning.specs.declared.op.Op.{Op}
 use Rattle.tla_meaning.specs.declared.op.Op.TheVariants as op
 use Rattle.tla_meaning.specs.declared.place.Place.{Place}
 use Rattle.tla_meaning.specs.Actions.{sense_of}
-use Rattle.tla_meaning.specs.Forms.{AllInts, AllNats, AllTexts, Formed, Made, Records, Sequences, Subsets, Tuples}
+use Rattle.tla_meaning.specs.Forms.{AllInts, AllNats, AllTexts, Made, Records, Sequences, Subsets, Tuples}
 use Rattle.tla_meaning.specs.Meaning.{Meaning, form_of_all, form_of_one, function_form, plain, role, view}
 use Rattle.tla_meaning.specs.Scopes.{Scope, Sense}
 use Rattle.tla_evaluator.specs.Trees.{first_form_at, form_at, forms_at, has_form, outcomes_at, scope_at, stays, value_at}

@@ -1,7 +1,7 @@
 -- Steps of the loops over indexes, updates and folds.
-use Rattle.std.proofs.Common.{◌≡◌, ℕ, zero, suc, ◌+◌, ◌<◌, ◌≤◌, List, [], ◌∷◌, ◌++◌, map, take, drop, get_or, length, refl, ap, ap₂, ◌∙◌, sym, subst, Some, arith, drop-cons, add-one, append_assoc, option_map}
+use Rattle.std.proofs.Common.{◌≡◌, ℕ, zero, suc, ◌+◌, ◌<◌, ◌≤◌, List, [], ◌∷◌, ◌++◌, take, drop, get_or, length, refl, ap, ◌∙◌, sym, subst, Some, arith, drop-cons, add-one, append_assoc, option_map}
 use Rattle.std.specs.List.{All, AllByRecursion}
-use Rattle.std.proofs.lemmas.List.Elements.{All-from_recursion}
+use Rattle.std.proofs.lemmas.List.Elements.{All-from_recursion, recursion_from_All}
 use denote.Param.Weighed.{most}
 use Rattle.tla_values.specs.Sets.{Normal}
 use Rattle.tla_values.specs.declared.value.Value.{Value}
@@ -15,14 +15,16 @@ use Rattle.tla_meaning.specs.declared.outcome.Outcome.TheVariants.{Val, Wrong, B
 use Rattle.tla_meaning.specs.declared.place.Place.{Place}
 use Rattle.tla_meaning.specs.Forms.{results}
 use Rattle.tla_meaning.specs.Meaning.{At, NoFunction, Outside, Reached, Update, at_path, folded, set_path, updated}
+use Rattle.tla_meaning.specs.Scopes.{bound_to}
 use Rattle.tla_meaning.specs.Shapes.{all_set_items, choices}
-use Rattle.tla_meaning.specs.Outcomes.{both, fault_of, joined, values, with_value}
+use Rattle.tla_meaning.specs.Outcomes.{both, joined, values, with_value}
 use Rattle.tla_meaning.proofs.Joins.{both_assoc, joined_append}
 use Rattle.tla_meaning.proofs.NormalTable.{NormalOutcome}
 use Rattle.tla_meaning.proofs.NormalNodes.{NormalOutcomes, NormalReached, at_path_normal, values_normal}
-use Rattle.tla_evaluator.specs.Trees.{AreNormal, first_at, index_trees, outcomes_at, paths_at, updates_at, value_at}
+use Rattle.tla_evaluator.specs.Trees.{AreNormal, first_at, index_trees, outcomes_at, paths_at, update_at, updates_at, value_at}
 use Rattle.tla_evaluator.proofs.LoneLaws.{value_normal}
 use Rattle.tla_evaluator.proofs.NormalBinds.{choices_are_normal}
+use Rattle.tla_evaluator.proofs.TreeSizes.{most-drop}
 
 -- ---- normal values
 
@@ -131,15 +133,62 @@ module _ (p : Place) (u : Update) (us : List Update) (f : Value) where
   updated_fault old (Wrong q) at is never = ap (λ o. with_value o (λ new. updated p us (set_path u.0 new f))) is ∙ ap by at
   updated_fault old (Big q) at is never = ap (λ o. with_value o (λ new. updated p us (set_path u.0 new f))) is ∙ ap by at
 
+module _ {X : Type 0} (f : X → ℕ) where
+  -- what stands behind the first ones is no deeper
+  pub behind_no_deeper : (n : ℕ) (xs ys zs : List X) → zs ≡ drop n ys → ys ≡ xs → most f zs ≤ most f xs
+  behind_no_deeper n xs ys zs e same = subst (λ l. most f l ≤ most f xs) (sym (e ∙ ap (drop n) same)) (most-drop f n xs)
+
+  pub further_no_deeper : (n : ℕ) (m : ℕ) (ys zs : List X) → zs ≡ drop n ys → most f ys ≤ m → most f zs ≤ m
+  further_no_deeper n m ys zs e le =
+      let here : most f zs ≤ most f ys = subst (λ l. most f l ≤ most f ys) (sym e) (most-drop f n ys) in
+      omega (arith, here, le)
+
+-- a body under more names, by the parts that a program has
+pub under_same : (w : ℕ) (p : Place) (vars : List (List ℕ × Value)) (s t : State) (es fs : List Expr) (xs ys : List (List ℕ)) (vs us : List Value) →
+    es ≡ fs → xs ≡ ys → vs ≡ us → first_at w p es (vars ++ bound_to xs vs) s t ≡ first_at w p fs (vars ++ bound_to ys us) s t
+under_same w p vars s t es fs xs ys vs us a b c =
+    ap (λ z. first_at w p z (vars ++ bound_to xs vs) s t) a ∙ ap (λ z. first_at w p fs (vars ++ bound_to z vs) s t) b ∙ ap (λ z. first_at w p fs (vars ++ bound_to ys z) s t) c
+
+pub one_is_normal : (vs us : List Value) (a : Value) → vs ≡ us → us ≡ a ∷ [] → Normal a → All Normal vs
+one_is_normal vs us a e d h = subst (λ l. All Normal l) (sym (e ∙ d)) (All-from_recursion Normal (a ∷ []) (h, tt))
+
+pub two_are_normal : (vs us : List Value) (a b : Value) → vs ≡ us → us ≡ a ∷ b ∷ [] → Normal a → Normal b → All Normal vs
+two_are_normal vs us a b e d h k = subst (λ l. All Normal l) (sym (e ∙ d)) (All-from_recursion Normal (a ∷ b ∷ []) (h, (k, tt)))
+
+pub item_normal : (items : List (Value × Value)) (i : ℕ) (x : Value × Value) → All Normal (results items) → i < length items → x ≡ get_or items i x → Normal x.1
+item_normal items i x h lt is = go items i x (recursion_from_All Normal (results items) h) lt is
+  where
+    go : (items : List (Value × Value)) (i : ℕ) (x : Value × Value) → AllByRecursion Normal (results items) → i < length items → x ≡ get_or items i x → Normal x.1
+    go [] i x h lt is = absurd (omega (arith, lt))
+    go (y ∷ ys) zero x h lt is = subst (λ z. Normal z.1) (sym is) h.0
+    go (y ∷ ys) (suc i) x h lt is = go ys i x h.1 (omega (arith, lt)) is
+
 -- the updates from the i-th path on
 module _ (w : ℕ) (p : Place) (xs : List (List ℕ)) (vars : List (List ℕ × Value)) (s t : State) (paths : List (ℕ × List Value)) (i : ℕ) (u : ℕ × List Value) (rest : List Expr) where
-  pub updates_next : i < length paths → u ≡ get_or paths i u →
-      updates_at w p xs (u ∷ []) rest vars s t ++ updates_at w p xs (drop (i + 1) paths) (drop 1 (drop u.0 rest)) vars s t ≡ updates_at w p xs (drop i paths) rest vars s t
-  updates_next lt is =
-      ap (λ m. updates_at w p xs (u ∷ []) rest vars s t ++ updates_at w p xs (drop m paths) (drop 1 (drop u.0 rest)) vars s t) (add-one i)
-      ∙ ap (λ b. updates_at w p xs (u ∷ []) rest vars s t ++ updates_at w p xs (drop (suc i) paths) b vars s t) (drop_again u.0 rest)
+  updates_next : (path : List Value) (sides next : List Expr) → i < length paths → u ≡ get_or paths i u → path ≡ u.1 → sides ≡ drop u.0 rest → next ≡ drop 1 sides →
+      update_at w p xs path sides vars s t ∷ updates_at w p xs (drop (i + 1) paths) next vars s t ≡ updates_at w p xs (drop i paths) rest vars s t
+  updates_next path sides next lt is pa sa na =
+      ap (λ z. update_at w p xs z sides vars s t ∷ updates_at w p xs (drop (i + 1) paths) next vars s t) pa
+      ∙ ap (λ z. update_at w p xs u.1 sides vars s t ∷ updates_at w p xs (drop (i + 1) paths) z vars s t) na
+      ∙ ap (λ z. update_at w p xs u.1 z vars s t ∷ updates_at w p xs (drop (i + 1) paths) (drop 1 z) vars s t) sa
+      ∙ ap (λ m. update_at w p xs u.1 (drop u.0 rest) vars s t ∷ updates_at w p xs (drop m paths) (drop 1 (drop u.0 rest)) vars s t) (add-one i)
+      ∙ ap (λ b. update_at w p xs u.1 (drop u.0 rest) vars s t ∷ updates_at w p xs (drop (suc i) paths) b vars s t) (drop_again u.0 rest)
       ∙ ap (λ x. updates_at w p xs (x ∷ drop (suc i) paths) rest vars s t) is
       ∙ ap (λ ps. updates_at w p xs ps rest vars s t) (sym (drop-cons paths i u lt))
+
+  pub updated_next : (path : List Value) (sides next : List Expr) (f g : Value) (all : Outcome) → i < length paths → u ≡ get_or paths i u → path ≡ u.1 → sides ≡ drop u.0 rest → next ≡ drop 1 sides →
+      ((us : List Update) → updated p us g ≡ updated p (update_at w p xs path sides vars s t ∷ us) f) →
+      updated p (updates_at w p xs (drop i paths) rest vars s t) f ≡ all → updated p (updates_at w p xs (drop (i + 1) paths) next vars s t) g ≡ all
+  updated_next path sides next f g all lt is pa sa na step k =
+      step (updates_at w p xs (drop (i + 1) paths) next vars s t)
+      ∙ ap (λ us. updated p us f) (updates_next path sides next lt is pa sa na) ∙ k
+
+  pub updated_ends : (path : List Value) (sides : List Expr) (f : Value) (o all : Outcome) → i < length paths → u ≡ get_or paths i u → path ≡ u.1 → sides ≡ drop u.0 rest →
+      ((us : List Update) → o ≡ updated p (update_at w p xs path sides vars s t ∷ us) f) →
+      updated p (updates_at w p xs (drop i paths) rest vars s t) f ≡ all → o ≡ all
+  updated_ends path sides f o all lt is pa sa step k =
+      step (updates_at w p xs (drop (i + 1) paths) (drop 1 sides) vars s t)
+      ∙ ap (λ us. updated p us f) (updates_next path sides (drop 1 sides) lt is pa sa refl) ∙ k
 
 -- ---- the next item of a fold
 

@@ -1,5 +1,5 @@
 -- What an evaluation computes at each node, by the outcomes of its children.
-use Rattle.std.proofs.Common.{◌≡◌, ℕ, zero, suc, Bool, true, false, IsTrue, List, [], ◌∷◌, ◌++◌, map, take, drop, replicate, length, refl, ap, ap₂, ◌∙◌, sym, Some, ℤ, if◌then◌else◌}
+use Rattle.std.proofs.Common.{◌≡◌, ℕ, suc, Bool, true, false, IsTrue, List, [], ◌∷◌, ◌++◌, map, take, drop, replicate, length, refl, ap, ap₂, ◌∙◌, sym, Some, ℤ, if◌then◌else◌}
 use Rattle.tla_values.specs.declared.value.Value.{Value}
 use Rattle.tla_values.specs.declared.value.Value.TheVariants as value
 use Rattle.tla_meaning.specs.declared.expr.Expr.{Expr, out-Expr}
@@ -7,19 +7,18 @@ use Rattle.tla_meaning.specs.declared.job.State.{State}
 use Rattle.tla_meaning.specs.declared.op.Op.{Op}
 use Rattle.tla_meaning.specs.declared.op.Op.TheVariants as op
 use Rattle.tla_meaning.specs.declared.outcome.Outcome.{Outcome}
-use Rattle.tla_meaning.specs.declared.outcome.Outcome.TheVariants.{Val, Wrong, Big}
+use Rattle.tla_meaning.specs.declared.outcome.Outcome.TheVariants.{Val, Wrong}
 use Rattle.tla_meaning.specs.declared.place.Place.{Place}
 use Rattle.tla_meaning.specs.Actions.{sense_of}
-use Rattle.tla_meaning.specs.Forms.{AllInts, AllNats, AllTexts, Formed, Made, Records, Sequences, SetForm, Subsets, Tuples}
-use Rattle.tla_meaning.specs.Meaning.{Meaning, Update, all_indexes, bound_table, case_chosen, conjoined, disjoined, except, except_marks, first_updated, fold_over, form_of, form_of_all, form_of_one, forms, function_form, if_chosen, implied, in_form, inner, kid, outcomes, outer, over_members, plain, read, role, senses, updates, value_of, View, view}
+use Rattle.tla_meaning.specs.Meaning.{Meaning, Update, all_indexes, bound_table, case_chosen, conjoined, disjoined, except, except_marks, first_updated, fold_over, forms, if_chosen, implied, in_form, inner, kid, outcomes, outer, over_members, read, role, senses, updates, view}
 use Rattle.tla_meaning.specs.Numbers.{number}
 use Rattle.tla_meaning.specs.Operators.{on_all_sets, table}
 use Rattle.tla_meaning.specs.Outcomes.{strict, values}
 use Rattle.tla_meaning.specs.Scopes.{Scope, Sense, bind, bound_to, find_last, value_found}
 use Rattle.tla_meaning.specs.Shapes.{choices}
 use Rattle.tla_meaning.specs.Strict.{is_strict}
-use Rattle.tla_evaluator.specs.Trees.{bodies_at, bound_at, except_at, first_at, first_form_at, fold_at, form_at, forms_at, index_trees, is_binder, is_membership, junction, lone, membership_test, outcomes_at, paths_at, scope_at, stays, updates_at, value_at}
-use Rattle.tla_evaluator.proofs.TreeLemmas.{given, first_given, forms_given, here_given, inner_back, inner_kid, outcomes_given, outer_back, outer_front, sense_at, sense_gone, take_map, drop_map}
+use Rattle.tla_evaluator.specs.Trees.{bound_at, except_at, first_at, first_form_at, fold_at, forms_at, index_trees, is_binder, is_membership, junction, lone, membership_test, outcomes_at, paths_at, scope_at, stays, updates_at, value_at}
+use Rattle.tla_evaluator.proofs.TreeLemmas.{first_given, forms_given, here_given, inner_back, inner_kid, outcomes_given, outer_back, outer_front, sense_at, sense_gone, take_map, drop_map}
 
 pub false≢true : false ≡ true → ⊥
 false≢true e = cc

@@ -3,27 +3,29 @@ use Rattle.std.specs.Prelude.{IfOk, option_map}
 use Rattle.tla_values.specs.declared.value.Value.{Value}
 use Rattle.tla_meaning.specs.declared.expr.Expr.TheFolds.{the_lemmas}
 use Rattle.tla_meaning.specs.declared.outcome.Outcome.{Outcome}
+use Rattle.tla_meaning.specs.declared.outcome.Outcome.TheVariants.{Val}
+use denote.Param.Weighed.{most}
 use Rattle.tla_meaning.specs.Numbers.{number}
-use Rattle.std.proofs.Common.{◌≡◌, ℕ, ◌∙◌, ◌++◌, ◌∷◌, [], ap, arith, cond, drop, refl, rules, sym, Some}
+use Rattle.std.proofs.Common.{◌≡◌, ℕ, ◌+◌, ◌≤◌, ◌∙◌, ◌++◌, ◌∷◌, [], ap, arith, cond, drop, get_or, refl, rules, subst, sym, Some}
 use Rattle.tla_meaning.specs.declared.op.Op.TheVariants as op
-use Rattle.tla_meaning.specs.declared.expr.Expr.{out-Expr}
+use Rattle.tla_meaning.specs.declared.expr.Expr.{Expr, out-Expr, size-Expr}
 use Rattle.tla_meaning.specs.Forms.{Made, Records, form_faults, results}
-use Rattle.tla_meaning.specs.Meaning.{fold_over, folded, form_of_all, function_form, plain}
+use Rattle.tla_meaning.specs.Meaning.{fold_over, folded, form_of_all, function_form, plain, updated}
 use Rattle.tla_meaning.specs.Operators.{table, yes_no}
-use Rattle.tla_meaning.specs.Outcomes.{joined, values}
+use Rattle.tla_meaning.specs.Outcomes.{both, joined, values}
 use Rattle.tla_meaning.specs.Scopes.{bound_to}
 use Rattle.tla_evaluator.specs.SetRules.{forms_in}
-use Rattle.tla_evaluator.specs.Trees.{first_at, form_at, forms_at, outcomes_at, value_at}
+use Rattle.tla_evaluator.specs.Trees.{first_at, form_at, forms_at, index_trees, outcomes_at, paths_at, update_at, value_at}
 use Rattle.tla_evaluator.proofs.FormLemmas.{at_ints, at_nats, at_texts}
-use Rattle.tla_evaluator.proofs.FormLoops.{form_fault_next, form_via, forms_next, function_ok, function_parts, if_case, no_first_form, one_first_form}
-use Rattle.tla_evaluator.proofs.ListSteps.{members_normal, one_normal, operands_normal, results_normal}
-use Rattle.tla_evaluator.proofs.EvalSteps.{case_fault, case_goes, chosen, fault_next, values_next, junction_fault, junction_goes, junction_stop, strict_done, strict_fault, values_done, via}
+use Rattle.tla_evaluator.proofs.FormLoops.{form_fault_next, form_via, forms_count, forms_next, function_ok, function_parts, if_case, no_first_form, one_first_form}
+use Rattle.tla_evaluator.proofs.ListSteps.{behind_no_deeper, first_normal, folded_next, further_no_deeper, index_fault_next, item_normal, members_normal, one_normal, operands_normal, paths_next, reached_normal, results_normal, two_are_normal, under_same, one_is_normal, updated_at, updated_next}
+use Rattle.tla_evaluator.proofs.EvalSteps.{case_fault, case_goes, fault_next, values_next, same_item, strict_done, strict_fault, values_done, via}
 use Rattle.tla_evaluator.proofs.NodeLemmas.{and_is, binder_is, bool_is, bound_is, case_is, except_is, fold_is, gone_is, if_is, implies_is, int_is, membership_is, name_is, noted_is, or_is, rest_is_strict, strict_is, text_is}
 use Rattle.tla_evaluator.proofs.FormNodes.{functions_is, has_no_form, ints_is, nats_is, noted_form_is, plain_is, records_is, sequences_is, subsets_is, texts_is, tuples_is}
-use Rattle.tla_evaluator.proofs.NormalBinds.{choices_are_normal, longer_normal}
+use Rattle.tla_evaluator.proofs.NormalBinds.{bound_are_normal, longer_normal}
 use Rattle.tla_evaluator.proofs.TreeSizes.{most-drop, most-take}
-use Rattle.tla_evaluator.proofs.eval.+eval.Goals as goal
-use Rattle.tla_evaluator.proofs.eval.+eval.Goals.{value-then-primed, value-else-primed}
+use Rattle.tla_evaluator.proofs.expressions.+eval.Goals as goal
+use Rattle.tla_evaluator.proofs.expressions.+eval.Goals.{value-then-primed, value-else-primed}
 
 pub value-returns-in-Bool : goal.value-returns-in-Bool
 value-returns-in-Bool t c =
@@ -53,11 +55,11 @@ value-returns-in-Bound t c =
 
 pub value-returns-in-And : goal.value-returns-in-And
 value-returns-in-And t c =
-    via _ (and_is c.args.width c.args.e.now c.args.env.now c.args.s.now c.args.t.now _ c.as_slice-args.ensures c.in-And.is) c.evaluate_junction.ensures
+    via _ (and_is c.args.width c.args.e.now c.args.env.now c.args.s.now c.args.t.now _ c.as_slice-args.ensures c.in-And.is) c.junction.ensures
 
 pub value-returns-in-Or : goal.value-returns-in-Or
 value-returns-in-Or t c =
-    via _ (or_is c.args.width c.args.e.now c.args.env.now c.args.s.now c.args.t.now _ c.as_slice-args.ensures c.in-Or.is) c.evaluate_junction-in-Or.ensures
+    via _ (or_is c.args.width c.args.e.now c.args.env.now c.args.s.now c.args.t.now _ c.as_slice-args.ensures c.in-Or.is) c.junction-in-Or.ensures
 
 pub value-returns-in-Implies : goal.value-returns-in-Implies
 value-returns-in-Implies t c =
@@ -207,7 +209,8 @@ pub binder-bodies-requires : goal.binder-bodies-requires
 binder-bodies-requires t c =
     let some = members_normal _ _ _ _ c.as_slice.ensures.value c.as_slice-in-Some.ensures.value c.in_ok-domains.ensures.normal
     (c.in_ok-choices.ensures ∙ ap (option_map (λ v. v.items)) c.in-Some.is) in
-    (grind (arith, most-drop, the_lemmas), (c.requires.narrow, (c.requires.wide, (c.requires.normal, some))))
+    let deep : most size-Expr c.after.result.now ≤ most size-Expr (out-Expr c.args.e.now).args = behind_no_deeper size-Expr _ _ _ _ c.after.ensures c.as_slice-args.ensures in
+    (grind (arith, deep, the_lemmas), (c.requires.narrow, (c.requires.wide, (c.requires.normal, some))))
 
 pub joined_operands-returns-then-is_fault : goal.joined_operands-returns-then-is_fault
 joined_operands-returns-then-is_fault t c =
@@ -233,11 +236,14 @@ form-returns-in-len1-up t c =
 
 pub function_set-returns-in_ok-all-in-len1-up : goal.function_set-returns-in_ok-all-in-len1-up
 function_set-returns-in_ok-all-in-len1-up t c =
-    let rest = drop 1 c.as_slice.result.now in
-    let all = forms_at c.args.width rest c.args.env.now c.args.s.now c.args.t.now in
-    form_via _ (ap (λ o. function_form (out-Expr c.args.e.now).place (o ∷ outcomes_at c.args.width rest c.args.env.now c.args.s.now c.args.t.now) (form_at c.args.width c.domain-item.result c.args.env.now c.args.s.now c.args.t.now ∷ all)) c.in_ok-outcome-in-len1-up.ensures
+    let rest : c.after-results.result.now ≡ drop 1 c.as_slice.result.now = c.after-results.ensures ∙ ap (drop 1) (c.as_slice-in-len1-up.ensures ∙ sym c.as_slice.ensures) in
+    let os = outcomes_at c.args.width (drop 1 c.as_slice.result.now) c.args.env.now c.args.s.now c.args.t.now in
+    let d = form_at c.args.width c.domain-item.result c.args.env.now c.args.s.now c.args.t.now in
+    form_via _ (ap (λ z. function_form (out-Expr c.args.e.now).place (c.in_ok-outcome-in-len1-up.outcome ∷ os) (d ∷ forms_at c.args.width z c.args.env.now c.args.s.now c.args.t.now)) rest
+    ∙ ap (λ o. function_form (out-Expr c.args.e.now).place (o ∷ os) (d ∷ forms_at c.args.width (drop 1 c.as_slice.result.now) c.args.env.now c.args.s.now c.args.t.now)) c.in_ok-outcome-in-len1-up.ensures
     ∙ function_parts c.args.width c.args.env.now c.args.s.now c.args.t.now (out-Expr c.args.e.now).place _ _ c.as_slice.ensures _ c.in-len1-up.len_at_least c.domain-item.is)
-    (function_ok _ _ _ _ _ _ c.function_form.ensures _ _ all c.in_ok-all-in-len1-up.ensures.fault c.in_ok-all-in-len1-up.ensures.forms ?)
+    (function_ok c.function_form.result (out-Expr c.args.e.now).place _ _ _ _ c.function_form.ensures os d (forms_at c.args.width c.after-results.result.now c.args.env.now c.args.s.now c.args.t.now)
+    c.in_ok-all-in-len1-up.ensures.fault c.in_ok-all-in-len1-up.ensures.forms (forms_count c.args.width c.after-results.result.now c.args.env.now c.args.s.now c.args.t.now))
 
 pub except-updated-requires : goal.except-updated-requires
 except-updated-requires t c =
@@ -282,11 +288,20 @@ cases-first-requires t c =
 
 pub folded-under-requires : goal.folded-under-requires
 folded-under-requires t c =
-    ?
+    let some = two_are_normal _ _ _ _ c.as_slice-in-loop-item-2.ensures.value c.in_ok-pair.ensures c.loop-item.invariant.normal
+    (item_normal _ _ _ c.requires.items c.loop-item-test.true c.loop-item-item.is) in
+    (grind (arith, the_lemmas, common_steps), (c.requires.narrow, (c.requires.wide, (c.requires.normal, some))))
 
 pub folded-loop-item-preserved : goal.folded-loop-item-preserved
 folded-loop-item-preserved t c =
-    ?
+    let body : Value → Value → Outcome = λ a b. first_at c.args.width (out-Expr c.args.e.now).place (out-Expr c.args.e.now).args (c.args.env.now ++ bound_to (out-Expr c.args.e.now).binds (a ∷ b ∷ [])) c.args.s.now c.args.t.now in
+    let is : Val c.in-Val.v ≡ body c.loop-item.so_far c.loop-item-item.result.1 = sym c.in-Val.is ∙ c.in_ok-fault.ensures
+    ∙ under_same c.args.width (out-Expr c.args.e.now).place c.args.env.now c.args.s.now c.args.t.now _ _ _ _ _ _ c.as_slice.ensures c.as_slice-in-loop-item.ensures (c.as_slice-in-loop-item-2.ensures.value ∙ c.in_ok-pair.ensures) in
+    let some = two_are_normal _ _ _ _ refl refl c.loop-item.invariant.normal (item_normal _ _ _ c.requires.items c.loop-item-test.true c.loop-item-item.is) in
+    record {
+      same = folded_next body c.args.items.now _ c.loop-item-item.result _ c.in-Val.v _ c.loop-item-test.true c.loop-item-item.is is c.loop-item.invariant.same;
+      normal = first_normal c.args.width _ c.args.s.now c.args.t.now (bound_are_normal _ _ _ _ _ c.requires.normal some) (out-Expr c.args.e.now).place (out-Expr c.args.e.now).args c.in-Val.v is;
+    }
 
 pub forms-loop-e-preserved : goal.forms-loop-e-preserved
 forms-loop-e-preserved t c =
@@ -302,7 +317,19 @@ indexes-operands-requires t c =
 
 pub indexes-loop-n-preserved : goal.indexes-loop-n-preserved
 indexes-loop-n-preserved t c =
-    ?
+    let lt = c.loop-n-test.true in
+    let n = (get_or c.args.counts.now c.loop-n.n-index 0) in
+    let is : n ≡ get_or c.args.counts.now c.loop-n.n-index n = same_item c.args.counts.now c.loop-n.n-index 0 lt in
+    let back : c.after-rest.result.now ≡ drop 1 (drop n c.loop-n.rest.now) = c.after-rest.ensures ∙ ap (drop 1) c.after.ensures in
+    record {
+      fault = subst (λ b. both c.both-fault.result (joined (outcomes_at c.args.width (index_trees (drop (c.loop-n.n-index + 1) c.args.counts.now) b) c.args.env.now c.args.s.now c.args.t.now)) ≡ joined (outcomes_at c.args.width (index_trees c.args.counts.now c.args.trees.now) c.args.env.now c.args.s.now c.args.t.now)) (sym back)
+          (index_fault_next c.args.width c.args.env.now c.args.s.now c.args.t.now c.args.counts.now c.loop-n.n-index n c.loop-n.rest.now _ _ _ _ lt is
+          (c.in_ok-part.ensures.fault ∙ ap (λ z. joined (outcomes_at c.args.width z c.args.env.now c.args.s.now c.args.t.now)) c.front.ensures) c.both-fault.ensures c.loop-n.invariant.fault);
+      paths = subst (λ b. c.push.new.self.items ++ paths_at c.args.width (drop (c.loop-n.n-index + 1) c.args.counts.now) b c.args.env.now c.args.s.now c.args.t.now ≡ paths_at c.args.width c.args.counts.now c.args.trees.now c.args.env.now c.args.s.now c.args.t.now) (sym back)
+          (paths_next c.args.width c.args.env.now c.args.s.now c.args.t.now c.args.counts.now c.loop-n.n-index n c.loop-n.rest.now _ _ _ _ lt is
+          (c.from_vec.ensures ∙ c.in_ok-part.ensures.values ∙ ap (λ z. values (outcomes_at c.args.width z c.args.env.now c.args.s.now c.args.t.now)) c.front.ensures) c.in_ok-push.ensures.items c.loop-n.invariant.paths);
+      small = λ f. further_no_deeper f 1 _ _ _ c.after-rest.ensures (further_no_deeper f n _ _ _ c.after.ensures (c.loop-n.invariant.small f));
+    }
 
 pub operands-loop-e-preserved : goal.operands-loop-e-preserved
 operands-loop-e-preserved t c =
@@ -315,14 +342,36 @@ pub operands-returns-clause-normal : goal.operands-returns-clause-normal
 operands-returns-clause-normal t c =
     operands_normal c.args.width c.args.env.now c.args.s.now c.args.t.now c.requires.normal c.args.trees.now _ (values_done (λ e. value_at c.args.width e c.args.env.now c.args.s.now c.args.t.now) _ _ _ (omega (arith, c.loop-e-test.false)) c.loop-e.invariant.values)
 
-pub updated-under-requires : goal.updated-under-requires
-updated-under-requires t c =
-    ?
-
-pub updated-returns-in_default : goal.updated-returns-in_default
-updated-returns-in_default t c =
-    ?
-
 pub updated-loop-n-preserved : goal.updated-loop-n-preserved
 updated-loop-n-preserved t c =
-    ?
+    let step = rw c.in-Ok.is at c.in_ok-changed.ensures in
+    record {
+      same = updated_next c.args.width (out-Expr c.args.e.now).place (out-Expr c.args.e.now).binds c.args.env.now c.args.s.now c.args.t.now c.args.paths.now c.loop-n.n-index c.loop-n-item.result c.loop-n.rest.now _ _ _ _ c.in-Ok.changed _ c.loop-n-test.true c.loop-n-item.is c.as_slice-in-loop-n.ensures c.after-sides.ensures c.after-rest-in-loop-n.ensures
+          step.1 c.loop-n.invariant.same;
+      normal = step.0;
+      small = λ f. further_no_deeper f 1 _ _ _ c.after-rest-in-loop-n.ensures (further_no_deeper f _ _ _ _ c.after-sides.ensures (c.loop-n.invariant.small f));
+    }
+
+pub updated-update-requires : goal.updated-update-requires
+updated-update-requires t c =
+    let small : (f : Expr → ℕ) → most f c.after-sides.result.now ≤ most f (out-Expr c.args.e.now).args = λ f. further_no_deeper f _ _ _ _ c.after-sides.ensures (c.loop-n.invariant.small f) in
+    (grind (arith, common_steps), (c.requires.narrow, (c.requires.wide, (c.requires.normal, (c.loop-n.invariant.normal, small)))))
+
+pub update-under-requires : goal.update-under-requires
+update-under-requires t c =
+    let old = reached_normal _ _ _ c.requires.function c.in-At.ensures in
+    let some = one_is_normal _ _ _ c.as_slice-in-At.ensures.value c.in_ok-olds-in-At.ensures old in
+    let deep : most size-Expr c.args.sides.now ≤ most size-Expr (out-Expr c.args.e.now).args = c.requires.sides size-Expr in
+    (grind (arith, deep, the_lemmas, common_steps), (c.requires.narrow, (c.requires.wide, (c.requires.normal, some))))
+
+pub update-returns-in-Val : goal.update-returns-in-Val
+update-returns-in-Val t c =
+    let old = reached_normal _ _ _ c.requires.function c.in-At.ensures in
+    let some = one_is_normal _ _ _ refl refl old in
+    let is : Val c.in-Val.new ≡ first_at c.args.width (out-Expr c.args.e.now).place c.args.sides.now (c.args.env.now ++ bound_to (out-Expr c.args.e.now).binds (c.in-At.old.now ∷ [])) c.args.s.now c.args.t.now =
+    sym c.in-Val.is ∙ c.in_ok-fault-in-At.ensures ∙ under_same c.args.width (out-Expr c.args.e.now).place c.args.env.now c.args.s.now c.args.t.now _ _ _ _ _ _ refl c.as_slice.ensures (c.as_slice-in-At.ensures.value ∙ c.in_ok-olds-in-At.ensures) in
+    let new = first_normal c.args.width _ c.args.s.now c.args.t.now (bound_are_normal _ _ _ _ _ c.requires.normal some) (out-Expr c.args.e.now).place c.args.sides.now c.in-Val.new is in (
+      c.in_ok-changed-in-Val.ensures.normal c.requires.function new,
+      λ us. ap (updated (out-Expr c.args.e.now).place us) c.in_ok-changed-in-Val.ensures.value
+          ∙ updated_at (out-Expr c.args.e.now).place (update_at c.args.width (out-Expr c.args.e.now).place (out-Expr c.args.e.now).binds c.args.path.now c.args.sides.now c.args.env.now c.args.s.now c.args.t.now) us c.args.function.now c.in-At.old.now c.in-Val.new c.in-At.ensures is,
+    )

@@ -1,4 +1,4 @@
-use Rattle.std.proofs.Common.{◌≡◌, ℕ, ◌++◌, ◌∷◌, [], ◌*◌, ◌≤◌, drop, map, Some}
+use Rattle.std.proofs.Common.{◌≡◌, ℕ, ◌++◌, ◌∷◌, [], ◌*◌, ◌≤◌, drop, map}
 use denote.Param.Weighed.{most}
 use Rattle.tla_values.specs.Sets.{Normal}
 use Rattle.tla_meaning.specs.declared.expr.Expr.{Expr, out-Expr}
@@ -8,7 +8,7 @@ use Rattle.tla_meaning.specs.Outcomes.{both, joined, values}
 use Rattle.tla_meaning.specs.Scopes.{bound_to}
 use Rattle.tla_evaluator.specs.SetRules.{form_of, forms_in}
 use Rattle.tla_evaluator.specs.Trees.{bodies_at, first_at, forms_at, index_trees, junction, outcomes_at, paths_at, updates_at}
-use Rattle.tla_evaluator.proofs.eval.+eval.Given as goal
+use Rattle.tla_evaluator.proofs.expressions.+eval.Given as goal
 
 abbrev pub invariant-operands-loop-e : goal.invariant-operands-loop-e
 invariant-operands-loop-e l = record {
@@ -16,8 +16,8 @@ invariant-operands-loop-e l = record {
   values : l.all.values.items ++ values (outcomes_at l.width (drop l.e-index l.trees) l.env l.s l.t) ≡ values (outcomes_at l.width l.trees l.env l.s l.t);
 }
 
-abbrev pub invariant-evaluate_junction-loop-e : goal.invariant-evaluate_junction-loop-e
-invariant-evaluate_junction-loop-e l =
+abbrev pub invariant-junction-loop-e : goal.invariant-junction-loop-e
+invariant-junction-loop-e l =
     junction l.decides l.place (outcomes_at l.width (drop l.e-index l.trees) l.env l.s l.t)
     ≡ junction l.decides l.place (outcomes_at l.width l.trees l.env l.s l.t)
 
