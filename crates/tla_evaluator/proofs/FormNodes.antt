@@ -10,7 +10,8 @@ use Rattle.tla_meaning.specs.Actions.{sense_of}
 use Rattle.tla_meaning.specs.Forms.{AllInts, AllNats, AllTexts, Made, Records, Sequences, Subsets, Tuples}
 use Rattle.tla_meaning.specs.Meaning.{Meaning, form_of_all, form_of_one, function_form, plain, role, view}
 use Rattle.tla_meaning.specs.Scopes.{Scope, Sense}
-use Rattle.tla_evaluator.specs.Trees.{first_form_at, form_at, forms_at, has_form, outcomes_at, scope_at, stays, value_at}
+use Rattle.tla_evaluator.specs.Nodes.{has_form}
+use Rattle.tla_evaluator.specs.Trees.{first_form_at, form_at, forms_at, outcomes_at, scope_at, stays, value_at}
 use Rattle.tla_evaluator.proofs.TreeLemmas.{sense_at, sense_gone}
 use Rattle.tla_evaluator.proofs.NodeLemmas.{false≢true, here_first_form, here_forms, here_outcomes, kids}
 

@@ -21,7 +21,8 @@ use Rattle.tla_meaning.specs.Outcomes.{both, joined, values, with_value}
 use Rattle.tla_meaning.proofs.Joins.{both_assoc, joined_append}
 use Rattle.tla_meaning.proofs.NormalTable.{NormalOutcome}
 use Rattle.tla_meaning.proofs.NormalNodes.{NormalOutcomes, NormalReached, at_path_normal, values_normal}
-use Rattle.tla_evaluator.specs.Trees.{AreNormal, first_at, index_trees, outcomes_at, paths_at, update_at, updates_at, value_at}
+use Rattle.tla_evaluator.specs.Nodes.{index_trees, paths_at, update_at, updates_at}
+use Rattle.tla_evaluator.specs.Trees.{AreNormal, first_at, outcomes_at, value_at}
 use Rattle.tla_evaluator.proofs.LoneLaws.{value_normal}
 use Rattle.tla_evaluator.proofs.NormalBinds.{choices_are_normal}
 use Rattle.tla_evaluator.proofs.TreeSizes.{most-drop}

@@ -17,7 +17,8 @@ use Rattle.tla_meaning.specs.Outcomes.{strict, values}
 use Rattle.tla_meaning.specs.Scopes.{Scope, Sense, bind, bound_to, find_last, value_found}
 use Rattle.tla_meaning.specs.Shapes.{choices}
 use Rattle.tla_meaning.specs.Strict.{is_strict}
-use Rattle.tla_evaluator.specs.Trees.{bound_at, except_at, first_at, first_form_at, fold_at, forms_at, index_trees, is_binder, is_membership, junction, lone, membership_test, outcomes_at, paths_at, scope_at, stays, updates_at, value_at}
+use Rattle.tla_evaluator.specs.Nodes.{bound_at, except_at, fold_at, index_trees, is_binder, is_membership, junction, membership_test, paths_at, updates_at}
+use Rattle.tla_evaluator.specs.Trees.{first_at, first_form_at, forms_at, lone, outcomes_at, scope_at, stays, value_at}
 use Rattle.tla_evaluator.proofs.TreeLemmas.{first_given, forms_given, here_given, inner_back, inner_kid, outcomes_given, outer_back, outer_front, sense_at, sense_gone, take_map, drop_map}
 
 pub false≢true : false ≡ true → ⊥

@@ -1,6 +1,7 @@
 pub mod Effects
 pub mod Excepts
 pub mod Marks
+pub mod Nodes
 pub mod Results
 pub mod SetRules
 pub mod Trees

@@ -11,7 +11,8 @@ ghost use Rattle.tla_meaning.specs.Operators.{table, yes_no};
 ghost use Rattle.tla_meaning.specs.Outcomes.{joined, strict, values};
 ghost use Rattle.tla_meaning.specs.Scopes.{bound_to};
 ghost use Rattle.tla_evaluator.specs.SetRules.{form_of, formed_of, forms_in};
-ghost use Rattle.tla_evaluator.specs.Trees.{AreNormal, bodies_at, bound_at, except_at, first_at, fold_at, form_at, forms_at, index_trees, junction, membership_test, outcomes_at, paths_at, update_at, updates_at, value_at};
+ghost use Rattle.tla_evaluator.specs.Nodes.{bodies_at, bound_at, except_at, fold_at, index_trees, junction, membership_test, paths_at, update_at, updates_at};
+ghost use Rattle.tla_evaluator.specs.Trees.{AreNormal, first_at, form_at, forms_at, outcomes_at, value_at};
 
 use crate::binders::{bound_table, choices_of};
 use crate::excepts::{Reached, at_path, set_path};

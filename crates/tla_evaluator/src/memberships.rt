@@ -5,7 +5,7 @@ ghost use Rattle.tla_meaning.specs.Forms.{Broken, Formed, Made, Functions, Recor
 ghost use Rattle.tla_meaning.specs.Meaning.{all_in, form_of_all, form_of_one, function_form, in_form, layer_of, plain};
 ghost use Rattle.tla_meaning.specs.Outcomes.{both, fault_of};
 ghost use Rattle.tla_meaning.specs.Shapes.{set_items};
-ghost use Rattle.tla_evaluator.specs.Trees.{membership_test};
+ghost use Rattle.tla_evaluator.specs.Nodes.{membership_test};
 ghost use Rattle.tla_evaluator.specs.SetRules.{fault_or_wrong, form_of, formed_of, forms_in, forms_of};
 
 use crate::forms::{SetRule, all_belong, belongs, is_set_form};

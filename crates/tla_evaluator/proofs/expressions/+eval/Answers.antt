@@ -15,7 +15,8 @@ use Rattle.tla_meaning.specs.Operators.{table, yes_no}
 use Rattle.tla_meaning.specs.Outcomes.{both, joined, values}
 use Rattle.tla_meaning.specs.Scopes.{bound_to}
 use Rattle.tla_evaluator.specs.SetRules.{forms_in}
-use Rattle.tla_evaluator.specs.Trees.{first_at, form_at, forms_at, index_trees, outcomes_at, paths_at, update_at, value_at}
+use Rattle.tla_evaluator.specs.Nodes.{index_trees, paths_at, update_at}
+use Rattle.tla_evaluator.specs.Trees.{first_at, form_at, forms_at, outcomes_at, value_at}
 use Rattle.tla_evaluator.proofs.FormLemmas.{at_ints, at_nats, at_texts}
 use Rattle.tla_evaluator.proofs.FormLoops.{form_fault_next, form_via, forms_count, forms_next, function_ok, function_parts, if_case, no_first_form, one_first_form}
 use Rattle.tla_evaluator.proofs.ListSteps.{behind_no_deeper, first_normal, folded_next, further_no_deeper, index_fault_next, item_normal, members_normal, one_normal, operands_normal, paths_next, reached_normal, results_normal, two_are_normal, under_same, one_is_normal, updated_at, updated_next}

@@ -7,7 +7,8 @@ use Rattle.tla_meaning.specs.Meaning.{case_chosen, folded, updated}
 use Rattle.tla_meaning.specs.Outcomes.{both, joined, values}
 use Rattle.tla_meaning.specs.Scopes.{bound_to}
 use Rattle.tla_evaluator.specs.SetRules.{form_of, forms_in}
-use Rattle.tla_evaluator.specs.Trees.{bodies_at, first_at, forms_at, index_trees, junction, outcomes_at, paths_at, updates_at}
+use Rattle.tla_evaluator.specs.Nodes.{bodies_at, index_trees, junction, paths_at, updates_at}
+use Rattle.tla_evaluator.specs.Trees.{first_at, forms_at, outcomes_at}
 use Rattle.tla_evaluator.proofs.expressions.+eval.Given as goal
 
 abbrev pub invariant-operands-loop-e : goal.invariant-operands-loop-e
