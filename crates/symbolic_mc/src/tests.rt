@@ -275,7 +275,14 @@ fn refusals_have_their_status_and_their_bytes(rt: HostRuntime) -> Result<(), Fai
 fn faults_have_their_status_and_their_bytes(rt: HostRuntime) -> Result<(), Fail> {
     let toggle = &["check", "Toggle.tla", "1"];
     let half = "error at level 1: invariant Inv is FALSE\nstate 0\n";
-    agrees(&rt, toggle, TOGGLE, (0, NEVER), 40, "read fault: Toggle.tla\n")?;
+    agrees(
+        &rt,
+        toggle,
+        TOGGLE,
+        (0, NEVER),
+        40,
+        "read fault: Toggle.tla\n",
+    )?;
     agrees(&rt, toggle, TOGGLE, (NEVER, 2), 41, half)?;
     agrees(&rt, toggle, TOGGLE, (0, 0), 41, "")
 }
