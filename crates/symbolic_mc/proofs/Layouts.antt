@@ -2,7 +2,7 @@
 use Rattle.std.proofs.Common.{◌≡◌, ◌≢◌, ℕ, zero, suc, ◌+◌, ◌<◌, inl, inr, Bool, true, false, true≢false, List, [], ◌∷◌, ◌++◌, length, get_or, All, Option, refl, sym, ◌∙◌, ap, subst, arith, append_assoc, codes}
 use Rattle.std.specs.Prelude.{◌||◌, not, nat_eq, bytes_eq, unwrap_or}
 use Rattle.std.specs.List.{list_all}
-use Rattle.std.proofs.lemmas.Bool.{and_parts, cases_lt, eqb-true}
+use Rattle.std.proofs.lemmas.Bool.{and_parts, cases_lt, eqb-true, or_right}
 use Rattle.std.proofs.lemmas.List.{append_cancel_left, append-nil, get_or_default}
 use Rattle.std.proofs.lemmas.List.Elements.{All-nil, All-cons}
 use Rattle.std.proofs.lemmas.Option.{slice_get_read}
@@ -39,10 +39,6 @@ among_at : (x : List ℕ) (xs : List (List ℕ)) (i : ℕ) → i < length xs →
 among_at x [] i lt e = absurd (omega arith)
 among_at x (y ∷ ys) zero lt e = ap (λ b. b || is_among x ys) ((bytes_eq-Decides x y).1 e)
 among_at x (y ∷ ys) (suc i) lt e = or_right (bytes_eq x y) (is_among x ys) (among_at x ys i (omega arith) e)
-  where
-    or_right : (a b : Bool) → b ≡ true → (a || b) ≡ true
-    or_right true b h = refl
-    or_right false b h = h
 
 not_false : (b : Bool) → not b ≡ true → b ≡ true → ⊥
 not_false b h k = true≢false (sym h ∙ ap not k)

@@ -1,5 +1,5 @@
 // Pieces of a text: what stands at its beginning, and what is behind it.
-ghost use Rattle.std.specs.Prelude.{◌≡◌, ◌≢◌, ◌++◌, ◌<◌, ℕ, List, true, length, alloc_error, IfOk, IfSome, IfNone, OnErr, IsErrOf};
+ghost use Rattle.std.specs.Prelude.{◌≡◌, ◌≢◌, ◌++◌, ◌<◌, ℕ, List, true, length, alloc_error, IfErr, IfOk, IfSome, IfNone, OnErr, IsErrOf};
 ghost use Rattle.std.specs.List.{join_by, list_all};
 ghost use Rattle.tla_values.specs.Names.{is_letter};
 ghost use Rattle.symbolic_mc.specs.Reading.{BeginsNot, no_letter_first, IsOnly, IsNone, SomeFit, EndsList};
@@ -89,6 +89,7 @@ pub(crate) fn after<'a>(bytes: &'a [u8], text: &[u8]) -> Option<&'a [u8]>
 pub(crate) fn expect<'a>(bytes: &'a [u8], text: &[u8]) -> Result<&'a [u8], Early>
     ensures some { IfOk result (λ rest. bytes.now ≡ text.now ++ rest.now) }
     ensures none { OnErr result (BeginsNot bytes.now text.now) }
+    ensures cause { IfErr result (λ cause. cause ≡ not_built) }
 {
     match after(bytes, text) {
         Some(rest) => Ok(rest),

@@ -212,6 +212,8 @@ const TOGGLE_REPORT: &str =
 // The call of the files and that of the sink that fail; no call has this number.
 const NEVER: u64 = 1_000_000;
 
+const CALM: (u64, u64) = (NEVER, NEVER);
+
 // The status, and what the program writes for these words, where `Toggle.tla` has these bytes.
 fn answers(
     alloc: Global,
@@ -246,87 +248,36 @@ fn agrees(
 }
 
 #[test]
-fn each_answer_has_its_status_and_its_bytes(rt: HostRuntime) -> Result<(), Fail> {
-    let calm = (NEVER, NEVER);
-    let found = (12, TOGGLE_REPORT);
+fn verdicts_have_their_status_and_their_bytes(rt: HostRuntime) -> Result<(), Fail> {
+    let toggle = &["check", "Toggle.tla", "1"];
+    let start = &["check", "Toggle.tla", "0"];
     let free = "error at level 0: invariant Inv is FALSE\nstate 0\n/\\ x = TRUE\n";
+    agrees(&rt, toggle, TOGGLE, CALM, 12, TOGGLE_REPORT)?;
+    agrees(&rt, start, FREE_TOGGLE, CALM, 12, free)?;
+    agrees(&rt, start, TOGGLE, CALM, 0, "no error to 0\n")
+}
+
+#[test]
+fn refusals_have_their_status_and_their_bytes(rt: HostRuntime) -> Result<(), Fail> {
+    let toggle = &["check", "Toggle.tla", "1"];
     let no_form = "refused: form is not built\n";
     let no_module = "refused: module Gone is missing\n";
-    agrees(
-        &rt,
-        &["check", "Toggle.tla", "1"],
-        TOGGLE,
-        calm,
-        found.0,
-        found.1,
-    )?;
-    agrees(
-        &rt,
-        &["check", "Toggle.tla", "0"],
-        FREE_TOGGLE,
-        calm,
-        12,
-        free,
-    )?;
-    agrees(
-        &rt,
-        &["check", "Toggle.tla", "0"],
-        TOGGLE,
-        calm,
-        0,
-        "no error to 0\n",
-    )?;
-    agrees(
-        &rt,
-        &["check", "Toggle.tla", "1"],
-        UNEQUAL_TOGGLE,
-        calm,
-        30,
-        no_form,
-    )?;
-    agrees(
-        &rt,
-        &["check", "Toggle.tla", "1"],
-        NO_START,
-        calm,
-        30,
-        no_form,
-    )?;
-    agrees(&rt, &["check", "Toggle.tla", "1"], "", calm, 30, no_form)?;
-    agrees(
-        &rt,
-        &["check", "Gone.tla", "1"],
-        TOGGLE,
-        calm,
-        30,
-        no_module,
-    )?;
-    agrees(
-        &rt,
-        &["check", "far/Gone.tla", "1"],
-        TOGGLE,
-        calm,
-        30,
-        no_module,
-    )?;
-    agrees(&rt, &["check", "Gone", "1"], TOGGLE, calm, 30, no_module)?;
-    agrees(
-        &rt,
-        &["check", "Toggle.tla", "1"],
-        TOGGLE,
-        (0, NEVER),
-        40,
-        "read fault: Toggle.tla\n",
-    )?;
-    agrees(
-        &rt,
-        &["check", "Toggle.tla", "1"],
-        TOGGLE,
-        (NEVER, 2),
-        41,
-        "error at level 1: invariant Inv is FALSE\nstate 0\n",
-    )?;
-    agrees(&rt, &["check", "Toggle.tla", "1"], TOGGLE, (0, 0), 41, "")
+    agrees(&rt, toggle, UNEQUAL_TOGGLE, CALM, 30, no_form)?;
+    agrees(&rt, toggle, NO_START, CALM, 30, no_form)?;
+    agrees(&rt, toggle, "", CALM, 30, no_form)?;
+    for file in ["Gone.tla", "far/Gone.tla", "Gone"] {
+        agrees(&rt, &["check", file, "1"], TOGGLE, CALM, 30, no_module)?;
+    }
+    Ok(())
+}
+
+#[test]
+fn faults_have_their_status_and_their_bytes(rt: HostRuntime) -> Result<(), Fail> {
+    let toggle = &["check", "Toggle.tla", "1"];
+    let half = "error at level 1: invariant Inv is FALSE\nstate 0\n";
+    agrees(&rt, toggle, TOGGLE, (0, NEVER), 40, "read fault: Toggle.tla\n")?;
+    agrees(&rt, toggle, TOGGLE, (NEVER, 2), 41, half)?;
+    agrees(&rt, toggle, TOGGLE, (0, 0), 41, "")
 }
 
 #[test]
@@ -342,7 +293,7 @@ fn words_of_another_form_give_the_usage(rt: HostRuntime) -> Result<(), Fail> {
         &["check", "Toggle.tla", "1", "1"],
     ];
     for words in commands {
-        agrees(&rt, words, TOGGLE, (NEVER, NEVER), 31, USAGE)?;
+        agrees(&rt, words, TOGGLE, CALM, 31, USAGE)?;
     }
     agrees(
         &rt,
@@ -360,7 +311,7 @@ fn a_module_that_never_steps_and_one_of_sixteen_variables(rt: HostRuntime) -> Re
         &rt,
         &["check", "Toggle.tla", "6"],
         STUCK,
-        (NEVER, NEVER),
+        CALM,
         0,
         "no error to 6\n",
     )?;
@@ -368,7 +319,7 @@ fn a_module_that_never_steps_and_one_of_sixteen_variables(rt: HostRuntime) -> Re
         &rt,
         &["check", "Toggle.tla", "1"],
         SIXTEEN,
-        (NEVER, NEVER),
+        CALM,
         12,
         SIXTEEN_REPORT,
     )
@@ -408,7 +359,7 @@ fn an_error_is_found_at_each_least_level_to_twelve(rt: HostRuntime) -> Result<()
             &rt,
             &["check", "Toggle.tla", "12"],
             &text,
-            (NEVER, NEVER),
+            CALM,
             12,
             &report,
         )?;
@@ -420,7 +371,7 @@ fn an_error_is_found_at_each_least_level_to_twelve(rt: HostRuntime) -> Result<()
         &rt,
         &["check", "Toggle.tla", "11"],
         &text,
-        (NEVER, NEVER),
+        CALM,
         0,
         "no error to 11\n",
     )

@@ -1,12 +1,11 @@
 -- What a filter keeps of its choices.
-use Rattle.std.proofs.Common.{◌≡◌, ℕ, suc, ◌+◌, ◌<◌, ◌≤◌, Bool, true, false, List, [], ◌∷◌, ◌++◌, drop, get_or, length, refl, ap, ◌∙◌, sym, Some, None, Option, option_map, option_and_then, arith, drop-cons, add-one, append-nil}
+use Rattle.std.proofs.Common.{◌≡◌, ℕ, suc, ◌+◌, ◌<◌, ◌≤◌, Bool, List, [], ◌∷◌, ◌++◌, drop, get_or, length, refl, ap, ◌∙◌, sym, Some, None, Option, option_map, option_and_then, drop-cons, add-one, append-nil}
 use Rattle.std.proofs.Math.ListN.{drop_of_length-le}
 use Rattle.tla_values.specs.Sets.{set_of}
 use Rattle.tla_values.specs.declared.value.Value.{Value}
 use Rattle.tla_values.specs.declared.value.Value.TheVariants as value
 use Rattle.tla_values.specs.declared.value.Value.TheVariants.{outs-Bool}
 use Rattle.tla_meaning.specs.declared.place.Place.{Place}
-use Rattle.tla_meaning.specs.declared.outcome.Outcome.{Outcome}
 use Rattle.tla_meaning.specs.declared.outcome.Outcome.TheVariants.{Val, Wrong}
 use Rattle.tla_meaning.specs.Shapes.{the_set}
 use Rattle.tla_meaning.specs.Meaning.{kept, on_all_truths, truth_of, truths}

@@ -1,5 +1,5 @@
 -- The form that an evaluation finds at each node.
-use Rattle.std.proofs.Common.{◌≡◌, ℕ, Bool, true, false, IsTrue, List, [], ◌∷◌, map, length, refl, ap, ap₂, ◌∙◌, sym, Some}
+use Rattle.std.proofs.Common.{◌≡◌, ℕ, Bool, true, false, IsTrue, List, length, refl, ap, ap₂, ◌∙◌, sym, Some}
 use Rattle.tla_values.specs.declared.value.Value.{Value}
 use Rattle.tla_meaning.specs.declared.expr.Expr.{Expr, out-Expr}
 use Rattle.tla_meaning.specs.declared.job.State.{State}
@@ -7,7 +7,7 @@ use Rattle.tla_meaning.specs.declared.op.Op.{Op}
 use Rattle.tla_meaning.specs.declared.op.Op.TheVariants as op
 use Rattle.tla_meaning.specs.declared.place.Place.{Place}
 use Rattle.tla_meaning.specs.Actions.{sense_of}
-use Rattle.tla_meaning.specs.Forms.{AllInts, AllNats, AllTexts, Formed, Made, Records, Sequences, Subsets, Tuples}
+use Rattle.tla_meaning.specs.Forms.{AllInts, AllNats, AllTexts, Made, Records, Sequences, Subsets, Tuples}
 use Rattle.tla_meaning.specs.Meaning.{Meaning, form_of_all, form_of_one, function_form, plain, role, view}
 use Rattle.tla_meaning.specs.Scopes.{Scope, Sense}
 use Rattle.tla_evaluator.specs.Trees.{first_form_at, form_at, forms_at, has_form, outcomes_at, scope_at, stays, value_at}
@@ -89,3 +89,27 @@ module _ (w : ℕ) (e : Expr) (vars : List (List ℕ × Value)) (s t : State) wh
 
   pub plain_is : has_form (out-Expr e).op ≡ false → plain (value_at w e vars s t) ≡ form_at w e vars s t
   plain_is h = by_stays (stays (out-Expr e).op) refl h
+
+-- an operator that describes no set
+pub record IsNoForm (o : Op) : Type 0 where
+  pub not_ints : o ≡ op.IntSet → ⊥
+  pub not_nats : o ≡ op.NatSet → ⊥
+  pub not_texts : o ≡ op.StringSet → ⊥
+  pub not_sequences : o ≡ op.SeqSet → ⊥
+  pub not_subsets : o ≡ op.Powerset → ⊥
+  pub not_functions : o ≡ op.FunSet → ⊥
+  pub not_records : (ns : List (List ℕ)) → o ≡ op.RecSet ns → ⊥
+  pub not_tuples : o ≡ op.Product → ⊥
+  pub not_noted : (x : List ℕ) → o ≡ op.Noted x → ⊥
+
+pub has_no_form : (o : Op) → IsNoForm o → has_form o ≡ false
+has_no_form op.IntSet h = absurd (h.not_ints refl)
+has_no_form op.NatSet h = absurd (h.not_nats refl)
+has_no_form op.StringSet h = absurd (h.not_texts refl)
+has_no_form op.SeqSet h = absurd (h.not_sequences refl)
+has_no_form op.Powerset h = absurd (h.not_subsets refl)
+has_no_form op.FunSet h = absurd (h.not_functions refl)
+has_no_form (op.RecSet ns) h = absurd (h.not_records ns refl)
+has_no_form op.Product h = absurd (h.not_tuples refl)
+has_no_form (op.Noted x) h = absurd (h.not_noted x refl)
+has_no_form o h = refl

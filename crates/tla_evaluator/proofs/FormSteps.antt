@@ -1,9 +1,9 @@
 -- One more form at the front of several, and forms made of forms.
-use Rattle.std.proofs.Common.{◌≡◌, ℕ, Bool, true, false, cond, List, [], ◌∷◌, ◌++◌, map, refl, ap, ◌∙◌, sym, append_assoc, Box, Global}
+use Rattle.std.proofs.Common.{◌≡◌, ℕ, Bool, cond, List, [], ◌∷◌, ◌++◌, map, refl, ap, ◌∙◌, sym, append_assoc, Box, Global}
 use Rattle.tla_values.specs.declared.value.Value.{Value}
 use Rattle.tla_meaning.specs.declared.place.Place.{Place}
 use Rattle.tla_meaning.specs.declared.outcome.Fault.{Fault}
-use Rattle.tla_meaning.specs.declared.outcome.Fault.TheVariants.{NoFault, IsWrong, IsBig}
+use Rattle.tla_meaning.specs.declared.outcome.Fault.TheVariants.{NoFault, IsWrong}
 use Rattle.tla_meaning.specs.Outcomes.{both}
 use Rattle.tla_meaning.specs.Forms.{SetForm, SetForms, Sequences, Subsets, Functions, Records, Tuples, Formed, Made, Broken, all_set_forms, form_fault, form_faults, form_unless, made, more_forms}
 use Rattle.tla_meaning.specs.Meaning.{form_of_all, form_of_one}

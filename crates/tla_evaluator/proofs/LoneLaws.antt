@@ -1,16 +1,12 @@
 -- On expanded trees an evaluation computes their meaning, and its values are normal.
-use Rattle.std.proofs.Common.{◌≡◌, ℕ, Bool, true, false, IsTrue, List, [], ◌∷◌, ◌++◌, map, length, refl, ap, ap₂, ◌∙◌, sym, subst, Some}
-use Rattle.std.specs.List.{All}
+use Rattle.std.proofs.Common.{◌≡◌, ℕ, Bool, true, false, IsTrue, List, [], ◌∷◌, map, refl, ap, ap₂, ◌∙◌, Some}
 use Rattle.std.proofs.lemmas.List.Elements.{recursion_from_All}
 use Rattle.tla_values.specs.Sets.{Normal}
 use Rattle.tla_values.specs.declared.value.Value.{Value}
 use Rattle.tla_meaning.specs.declared.expr.Expr.{Expr, roll-Expr}
 use Rattle.tla_meaning.specs.declared.expr.Expr.TheOpen.{Expr-F}
 use Rattle.tla_meaning.specs.declared.expr.Expr.TheFolds.{fold-roll-Expr, map-Expr}
-use Rattle.tla_meaning.specs.declared.job.Env.{Env}
 use Rattle.tla_meaning.specs.declared.job.State.{State}
-use Rattle.tla_meaning.specs.declared.outcome.Outcome.{Outcome}
-use Rattle.tla_meaning.specs.declared.outcome.Outcome.TheVariants.{Val}
 use Rattle.tla_meaning.specs.Actions.{meaning, node}
 use Rattle.tla_meaning.specs.Meaning.{Meaning}
 use Rattle.tla_meaning.specs.Numbers.{Width}

@@ -1,5 +1,5 @@
 -- What an evaluation computes at each node, by the outcomes of its children.
-use Rattle.std.proofs.Common.{◌≡◌, ℕ, zero, suc, Bool, true, false, IsTrue, List, [], ◌∷◌, ◌++◌, map, take, drop, replicate, length, refl, ap, ap₂, ◌∙◌, sym, Some, ℤ, if◌then◌else◌}
+use Rattle.std.proofs.Common.{◌≡◌, ℕ, suc, Bool, true, false, IsTrue, List, [], ◌∷◌, ◌++◌, map, take, drop, replicate, length, refl, ap, ap₂, ◌∙◌, sym, Some, ℤ, if◌then◌else◌}
 use Rattle.tla_values.specs.declared.value.Value.{Value}
 use Rattle.tla_values.specs.declared.value.Value.TheVariants as value
 use Rattle.tla_meaning.specs.declared.expr.Expr.{Expr, out-Expr}
@@ -7,19 +7,18 @@ use Rattle.tla_meaning.specs.declared.job.State.{State}
 use Rattle.tla_meaning.specs.declared.op.Op.{Op}
 use Rattle.tla_meaning.specs.declared.op.Op.TheVariants as op
 use Rattle.tla_meaning.specs.declared.outcome.Outcome.{Outcome}
-use Rattle.tla_meaning.specs.declared.outcome.Outcome.TheVariants.{Val, Wrong, Big}
+use Rattle.tla_meaning.specs.declared.outcome.Outcome.TheVariants.{Val, Wrong}
 use Rattle.tla_meaning.specs.declared.place.Place.{Place}
 use Rattle.tla_meaning.specs.Actions.{sense_of}
-use Rattle.tla_meaning.specs.Forms.{AllInts, AllNats, AllTexts, Formed, Made, Records, Sequences, SetForm, Subsets, Tuples}
-use Rattle.tla_meaning.specs.Meaning.{Meaning, Update, all_indexes, bound_table, case_chosen, conjoined, disjoined, except, except_marks, first_updated, fold_over, form_of, form_of_all, form_of_one, forms, function_form, if_chosen, implied, in_form, inner, kid, outcomes, outer, over_members, plain, read, role, senses, updates, value_of, View, view}
+use Rattle.tla_meaning.specs.Meaning.{Meaning, Update, all_indexes, bound_table, case_chosen, conjoined, disjoined, except, except_marks, first_updated, fold_over, forms, if_chosen, implied, in_form, inner, kid, outcomes, outer, over_members, read, role, senses, updates, view}
 use Rattle.tla_meaning.specs.Numbers.{number}
 use Rattle.tla_meaning.specs.Operators.{on_all_sets, table}
 use Rattle.tla_meaning.specs.Outcomes.{strict, values}
 use Rattle.tla_meaning.specs.Scopes.{Scope, Sense, bind, bound_to, find_last, value_found}
 use Rattle.tla_meaning.specs.Shapes.{choices}
 use Rattle.tla_meaning.specs.Strict.{is_strict}
-use Rattle.tla_evaluator.specs.Trees.{bodies_at, bound_at, except_at, first_at, first_form_at, fold_at, form_at, forms_at, index_trees, is_binder, is_membership, junction, lone, membership_test, outcomes_at, paths_at, scope_at, stays, updates_at, value_at}
-use Rattle.tla_evaluator.proofs.TreeLemmas.{given, first_given, forms_given, here_given, inner_back, inner_kid, outcomes_given, outer_back, outer_front, sense_at, sense_gone, take_map, drop_map}
+use Rattle.tla_evaluator.specs.Trees.{bound_at, except_at, first_at, first_form_at, fold_at, forms_at, index_trees, is_binder, is_membership, junction, lone, membership_test, outcomes_at, paths_at, scope_at, stays, updates_at, value_at}
+use Rattle.tla_evaluator.proofs.TreeLemmas.{first_given, forms_given, here_given, inner_back, inner_kid, outcomes_given, outer_back, outer_front, sense_at, sense_gone, take_map, drop_map}
 
 pub false≢true : false ≡ true → ⊥
 false≢true e = cc
@@ -229,20 +228,20 @@ module _ (w : ℕ) (e : Expr) (vars : List (List ℕ × Value)) (s t : State) wh
   pub bound_is : (x : List ℕ) → (out-Expr e).op ≡ op.Bound x → value_found place (find_last x vars) ≡ value_at w e vars s t
   bound_is x is = sym (value_is (op.Bound x) is refl)
 
-  pub and_is : (out-Expr e).op ≡ op.And → junction false place (outcomes_at w trees vars s t) ≡ value_at w e vars s t
-  and_is is = sym (value_is op.And is refl ∙ ap (conjoined place) (here_outcomes w place names vars s t trees))
+  pub and_is : (es : List Expr) → es ≡ trees → (out-Expr e).op ≡ op.And → junction false place (outcomes_at w es vars s t) ≡ value_at w e vars s t
+  and_is es same is = ap (λ z. junction false place (outcomes_at w z vars s t)) same ∙ sym (value_is op.And is refl ∙ ap (conjoined place) (here_outcomes w place names vars s t trees))
 
-  pub or_is : (out-Expr e).op ≡ op.Or → junction true place (outcomes_at w trees vars s t) ≡ value_at w e vars s t
-  or_is is = sym (value_is op.Or is refl ∙ ap (disjoined place) (here_outcomes w place names vars s t trees))
+  pub or_is : (es : List Expr) → es ≡ trees → (out-Expr e).op ≡ op.Or → junction true place (outcomes_at w es vars s t) ≡ value_at w e vars s t
+  or_is es same is = ap (λ z. junction true place (outcomes_at w z vars s t)) same ∙ sym (value_is op.Or is refl ∙ ap (disjoined place) (here_outcomes w place names vars s t trees))
 
-  pub implies_is : (out-Expr e).op ≡ op.Implies → implied place (outcomes_at w trees vars s t) ≡ value_at w e vars s t
-  implies_is is = sym (value_is op.Implies is refl ∙ ap (implied place) (here_outcomes w place names vars s t trees))
+  pub implies_is : (es : List Expr) → es ≡ trees → (out-Expr e).op ≡ op.Implies → implied place (outcomes_at w es vars s t) ≡ value_at w e vars s t
+  implies_is es same is = ap (λ z. implied place (outcomes_at w z vars s t)) same ∙ sym (value_is op.Implies is refl ∙ ap (implied place) (here_outcomes w place names vars s t trees))
 
-  pub if_is : (out-Expr e).op ≡ op.If → if_chosen place (outcomes_at w trees vars s t) ≡ value_at w e vars s t
-  if_is is = sym (value_is op.If is refl ∙ ap (if_chosen place) (here_outcomes w place names vars s t trees))
+  pub if_is : (es : List Expr) → es ≡ trees → (out-Expr e).op ≡ op.If → if_chosen place (outcomes_at w es vars s t) ≡ value_at w e vars s t
+  if_is es same is = ap (λ z. if_chosen place (outcomes_at w z vars s t)) same ∙ sym (value_is op.If is refl ∙ ap (if_chosen place) (here_outcomes w place names vars s t trees))
 
-  pub case_is : (b : Bool) → (out-Expr e).op ≡ op.Case b → case_chosen place (outcomes_at w trees vars s t) ≡ value_at w e vars s t
-  case_is b is = sym (value_is (op.Case b) is refl ∙ ap (case_chosen place) (here_outcomes w place names vars s t trees))
+  pub case_is : (es : List Expr) → es ≡ trees → (b : Bool) → (out-Expr e).op ≡ op.Case b → case_chosen place (outcomes_at w es vars s t) ≡ value_at w e vars s t
+  case_is es same b is = ap (λ z. case_chosen place (outcomes_at w z vars s t)) same ∙ sym (value_is (op.Case b) is refl ∙ ap (case_chosen place) (here_outcomes w place names vars s t trees))
 
   pub membership_is : (o : Op) → (out-Expr e).op ≡ o → IsTrue (is_membership o) →
       in_form place (membership_test (out-Expr e).op place) (outcomes_at w trees vars s t) (forms_at w trees vars s t) ≡ value_at w e vars s t
@@ -260,14 +259,14 @@ module _ (w : ℕ) (e : Expr) (vars : List (List ℕ × Value)) (s t : State) wh
       ∙ binder_value w place o names (kids w place names vars s t trees) (scope_at vars) s t h
       ∙ sym (value_is o is (binder_stays o h))
 
-  pub except_is : (ns : List ℕ) → (out-Expr e).op ≡ op.Except ns → except_at w place ns names trees vars s t ≡ value_at w e vars s t
-  except_is ns is = except_given w place names vars s t ns trees ∙ sym (value_is (op.Except ns) is refl)
+  pub except_is : (ns ms : List ℕ) → ms ≡ ns → (out-Expr e).op ≡ op.Except ns → except_at w place ms names trees vars s t ≡ value_at w e vars s t
+  except_is ns ms same is = ap (λ z. except_at w place z names trees vars s t) same ∙ except_given w place names vars s t ns trees ∙ sym (value_is (op.Except ns) is refl)
 
   pub fold_is : (out-Expr e).op ≡ op.Fold → fold_at w place names trees vars s t ≡ value_at w e vars s t
   fold_is is = fold_given w place names vars s t trees ∙ sym (value_is op.Fold is refl)
 
-  pub noted_is : (x : List ℕ) → (out-Expr e).op ≡ op.Noted x → first_at w place trees vars s t ≡ value_at w e vars s t
-  noted_is x is = sym (value_is (op.Noted x) is refl ∙ here_first w place names vars s t trees)
+  pub noted_is : (es : List Expr) → es ≡ trees → (x : List ℕ) → (out-Expr e).op ≡ op.Noted x → first_at w place es vars s t ≡ value_at w e vars s t
+  noted_is es same x is = ap (λ z. first_at w place z vars s t) same ∙ sym (value_is (op.Noted x) is refl ∙ here_first w place names vars s t trees)
 
   pub strict_is : IsTrue (is_strict (out-Expr e).op) →
       strict (outcomes_at w trees vars s t) (table (Some w) place (out-Expr e).op) ≡ value_at w e vars s t
@@ -275,3 +274,59 @@ module _ (w : ℕ) (e : Expr) (vars : List (List ℕ × Value)) (s t : State) wh
       sym (ap (λ (os : List Outcome). strict os (table (Some w) place (out-Expr e).op)) (here_outcomes w place names vars s t trees))
       ∙ strict_value w place (out-Expr e).op names (kids w place names vars s t trees) (scope_at vars) s t h
       ∙ sym (value_is (out-Expr e).op refl (strict_stays (out-Expr e).op h))
+
+-- an operator that is none of those that are read in a way of their own
+pub record IsRest (o : Op) : Type 0 where
+  pub stays : IsTrue (stays o)
+  pub not_bool : (b : Bool) → o ≡ op.Bool b → ⊥
+  pub not_int : (n : ℤ) → o ≡ op.Int n → ⊥
+  pub not_str : (a : List ℕ) → o ≡ op.Str a → ⊥
+  pub not_and : o ≡ op.And → ⊥
+  pub not_or : o ≡ op.Or → ⊥
+  pub not_implies : o ≡ op.Implies → ⊥
+  pub not_if : o ≡ op.If → ⊥
+  pub not_case : (b : Bool) → o ≡ op.Case b → ⊥
+  pub not_in : o ≡ op.In → ⊥
+  pub not_notin : o ≡ op.NotIn → ⊥
+  pub not_subseteq : o ≡ op.SubsetEq → ⊥
+  pub not_exists : o ≡ op.Exists → ⊥
+  pub not_forall : o ≡ op.Forall → ⊥
+  pub not_filter : o ≡ op.Filter → ⊥
+  pub not_mapto : o ≡ op.MapTo → ⊥
+  pub not_lambda : o ≡ op.Lambda → ⊥
+  pub not_except : (ns : List ℕ) → o ≡ op.Except ns → ⊥
+  pub not_fold : o ≡ op.Fold → ⊥
+  pub not_noted : (x : List ℕ) → o ≡ op.Noted x → ⊥
+  pub not_name : (i : ℕ) (primed : Bool) → o ≡ op.Name i primed → ⊥
+  pub not_bound : (x : List ℕ) → o ≡ op.Bound x → ⊥
+
+pub rest_is_strict : (o : Op) → IsRest o → IsTrue (is_strict o)
+rest_is_strict (op.Bool b) h = absurd (h.not_bool b refl)
+rest_is_strict (op.Int n) h = absurd (h.not_int n refl)
+rest_is_strict (op.Str a) h = absurd (h.not_str a refl)
+rest_is_strict op.And h = absurd (h.not_and refl)
+rest_is_strict op.Or h = absurd (h.not_or refl)
+rest_is_strict op.Implies h = absurd (h.not_implies refl)
+rest_is_strict op.If h = absurd (h.not_if refl)
+rest_is_strict (op.Case b) h = absurd (h.not_case b refl)
+rest_is_strict op.In h = absurd (h.not_in refl)
+rest_is_strict op.NotIn h = absurd (h.not_notin refl)
+rest_is_strict op.SubsetEq h = absurd (h.not_subseteq refl)
+rest_is_strict op.Exists h = absurd (h.not_exists refl)
+rest_is_strict op.Forall h = absurd (h.not_forall refl)
+rest_is_strict op.Filter h = absurd (h.not_filter refl)
+rest_is_strict op.MapTo h = absurd (h.not_mapto refl)
+rest_is_strict op.Lambda h = absurd (h.not_lambda refl)
+rest_is_strict (op.Except ns) h = absurd (h.not_except ns refl)
+rest_is_strict op.Fold h = absurd (h.not_fold refl)
+rest_is_strict (op.Use x) h = absurd (false≢true h.stays)
+rest_is_strict (op.Param x) h = absurd (false≢true h.stays)
+rest_is_strict (op.Let ds) h = absurd (false≢true h.stays)
+rest_is_strict op.Prime h = absurd (false≢true h.stays)
+rest_is_strict op.Unchanged h = absurd (false≢true h.stays)
+rest_is_strict op.Boxed h = absurd (false≢true h.stays)
+rest_is_strict op.Angled h = absurd (false≢true h.stays)
+rest_is_strict (op.Noted x) h = absurd (h.not_noted x refl)
+rest_is_strict (op.Name i primed) h = absurd (h.not_name i primed refl)
+rest_is_strict (op.Bound x) h = absurd (h.not_bound x refl)
+rest_is_strict o h = refl

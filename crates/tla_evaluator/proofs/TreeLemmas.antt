@@ -1,12 +1,12 @@
 -- What an evaluation computes at a node, by the outcomes of its children.
-use Rattle.std.proofs.Common.{◌≡◌, ℕ, zero, suc, Bool, true, false, IsTrue, List, [], ◌∷◌, ◌++◌, map, take, drop, replicate, length, refl, ap, ap₂, ◌∙◌, sym, Some}
+use Rattle.std.specs.List.{list_all}
+use Rattle.std.proofs.Common.{◌&&◌, ◌≡◌, ℕ, zero, suc, Bool, true, false, IsTrue, List, [], ◌∷◌, ◌++◌, map, take, drop, replicate, length, refl, ap, ◌∙◌, sym, Some}
 use Rattle.tla_values.specs.declared.value.Value.{Value}
 use Rattle.tla_meaning.specs.declared.expr.Expr.{Expr, out-Expr}
 use Rattle.tla_meaning.specs.declared.expr.Expr.TheOpen.{Expr-F}
 use Rattle.tla_meaning.specs.declared.expr.Expr.TheFolds.{fold_out-Expr, map-Expr}
 use Rattle.tla_meaning.specs.declared.job.State.{State}
 use Rattle.tla_meaning.specs.declared.op.Op.{Op}
-use Rattle.tla_meaning.specs.declared.op.Op.TheVariants as op
 use Rattle.tla_meaning.specs.declared.outcome.Outcome.{Outcome}
 use Rattle.tla_meaning.specs.declared.place.Place.{Place}
 use Rattle.tla_meaning.specs.Actions.{node, sense_of}
@@ -14,7 +14,7 @@ use Rattle.tla_meaning.specs.Forms.{Formed}
 use Rattle.tla_meaning.specs.Meaning.{Meaning, forms, inner, kid, outcomes, outer, role, senses, view}
 use Rattle.tla_meaning.specs.Numbers.{Width}
 use Rattle.tla_meaning.specs.Scopes.{Scope, Sense, nonsense}
-use Rattle.tla_evaluator.specs.Trees.{first_at, forms_at, form_at, lone, lone_node, outcomes_at, scope_at, stays, value_at}
+use Rattle.tla_evaluator.specs.Trees.{first_at, forms_at, form_at, is_expanded, lone, lone_node, outcomes_at, scope_at, stays, value_at}
 
 pub lone-out : (w : Width) (e : Expr) → lone w e ≡ lone_node w (map-Expr Expr Meaning (lone w) (out-Expr e))
 unfolding lone
@@ -36,6 +36,20 @@ sense_gone w e sc h =
     let x : Expr-F Meaning = map-Expr Expr Meaning (lone w) (out-Expr e) in
     ap (λ (m : Meaning). m sc) (lone-out w e)
     ∙ ap (λ (b : Bool). elim b as (λ _. Sense) [ true ↦ node w x sc | false ↦ nonsense x.place ]) h
+
+-- ---- expanded trees
+
+all_mapped : {X : Type 0} (f : X → Bool) (xs : List X) → list_all (λ b. b) (map f xs) ≡ list_all f xs
+all_mapped f [] = refl
+all_mapped f (x ∷ xs) = ap (λ b. f x && b) (all_mapped f xs)
+
+-- a node that stays is expanded where its children are
+pub expanded_then : (e : Expr) (es : List Expr) → es ≡ (out-Expr e).args → IsTrue (stays (out-Expr e).op) → list_all is_expanded es ≡ is_expanded e
+expanded_then e es same h =
+    ap (list_all is_expanded) same
+    ∙ sym (fold_out-Expr Bool (λ x. stays x.op && list_all (λ b. b) x.args) e
+    ∙ ap (λ b. b && list_all (λ b. b) (map is_expanded (out-Expr e).args)) h
+    ∙ all_mapped is_expanded (out-Expr e).args)
 
 -- ---- the children of a node
 

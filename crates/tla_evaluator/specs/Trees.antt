@@ -102,12 +102,14 @@ abbrev pub paths_at : ℕ → List ℕ → List Expr → List (List ℕ × Value
 paths_at w [] es vars s t = []
 paths_at w (n ∷ ns) es vars s t = (n, values (outcomes_at w (take n es) vars s t)) ∷ paths_at w ns (drop (suc n) es) vars s t
 
--- the updates by these paths: each right side stands behind its indexes, and reads the old value
+-- an update by a path: the right side stands behind the indexes, and reads the old value
+abbrev pub update_at : ℕ → Place → List (List ℕ) → List Value → List Expr → List (List ℕ × Value) → State → State → Update
+update_at w p xs path es vars s t = (path, λ old. first_at w p es (vars ++ bound_to xs (old ∷ [])) s t)
+
 abbrev pub updates_at : ℕ → Place → List (List ℕ) → List (ℕ × List Value) → List Expr → List (List ℕ × Value) → State → State → List Update
 updates_at w p xs [] es vars s t = []
 updates_at w p xs (u ∷ us) es vars s t =
-    (u.1, λ old. first_at w p (drop u.0 es) (vars ++ bound_to xs (old ∷ [])) s t)
-    ∷ updates_at w p xs us (drop (suc u.0) es) vars s t
+    update_at w p xs u.1 (drop u.0 es) vars s t ∷ updates_at w p xs us (drop (suc u.0) es) vars s t
 
 abbrev pub except_at : ℕ → Place → List ℕ → List (List ℕ) → List Expr → List (List ℕ × Value) → State → State → Outcome
 except_at w p ns xs [] vars s t = Wrong p

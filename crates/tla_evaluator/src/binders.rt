@@ -6,12 +6,11 @@ ghost use Rattle.tla_meaning.specs.Shapes.{the_function};
 use crate::functions::function_of;
 use crate::records::paired;
 use crate::sequences::sequence;
+pub(crate) use crate::sets::choices_of;
 use crate::sets::copy_onto;
 use std::alloc::{AllocError, Global};
 use tla_meaning::{Op, Outcome, Place};
 use tla_values::{List, Value, copy_value, set_of};
-
-pub(crate) use crate::sets::choices_of;
 
 // The row of a binder: its choices with the body's value at each.
 pub(crate) fn bound_table(

@@ -1,12 +1,14 @@
 //! Evaluates expressions as their meaning says.
 #![tactic(auto)]
 
+mod actions;
 mod binders;
-mod eval;
 mod excepts;
+mod expressions;
 mod forms;
 mod functions;
 mod logic;
+mod marks;
 mod memberships;
 mod names;
 mod numbers;
@@ -18,8 +20,10 @@ mod sequences;
 mod sets;
 #[cfg(test)]
 mod tests;
+mod tops;
 mod trees;
 
 pub use forms::{SetRule, all_belong, belongs, is_set_form};
 pub use operators::table;
+pub use tops::{act, eval, invariant, next, start};
 pub use trees::is_expanded;

@@ -98,9 +98,9 @@ pub(crate) fn sides(
 ) -> Result<(Value, SetRule), Outcome>
     ensures { MatchResult result
         (λ s. (test : Member → SetForm → Outcome) (os : Items Outcome) (d : Formed) →
-            in_form place test (outcome ∷ os) (d ∷ formed_of form ∷ []) ≡ test s.0 (form_of s.1))
+        in_form place test (outcome ∷ os) (d ∷ formed_of form ∷ []) ≡ test s.0 (form_of s.1))
         (λ o. (test : Member → SetForm → Outcome) (os : Items Outcome) (d : Formed) →
-            in_form place test (outcome ∷ os) (d ∷ formed_of form ∷ []) ≡ o) }
+        in_form place test (outcome ∷ os) (d ∷ formed_of form ∷ []) ≡ o) }
 {
     let fault = both(fault_of(&outcome), form_fault(&form));
     match outcome {
@@ -237,11 +237,11 @@ fn all_set_rules(rules: &[SetRule]) -> bool
 fn set_rules(joined: JoinedForms, place: Place) -> Result<Vec<SetRule>, Fault>
     ensures { MatchResult result
         (λ rs. (fs : Items Formed) (make : SetForms → SetForm) →
-            joined.fault ≡ form_faults fs → map form_of joined.forms.items ≡ forms_in fs →
-            form_of_all place make fs ≡ Made (make (forms_of (map form_of rs.items))))
+        joined.fault ≡ form_faults fs → map form_of joined.forms.items ≡ forms_in fs →
+        form_of_all place make fs ≡ Made (make (forms_of (map form_of rs.items))))
         (λ g. (fs : Items Formed) (make : SetForms → SetForm) →
-            joined.fault ≡ form_faults fs → map form_of joined.forms.items ≡ forms_in fs →
-            form_of_all place make fs ≡ Broken g) }
+        joined.fault ≡ form_faults fs → map form_of joined.forms.items ≡ forms_in fs →
+        form_of_all place make fs ≡ Broken g) }
 {
     match joined.fault {
         Fault::NoFault => {

@@ -60,7 +60,7 @@ outcomes_normal (a ∷ as') h s t g k = (h.0.value s t g k, outcomes_normal as' 
 
 -- ---- joins
 
-values_normal : (os : List Outcome) → NormalOutcomes os → Normals (values os)
+pub values_normal : (os : List Outcome) → NormalOutcomes os → Normals (values os)
 values_normal [] h = tt
 values_normal (Val v ∷ os) h = (h.0, values_normal os h.1)
 values_normal (Wrong p ∷ os) h = values_normal os h.1
@@ -159,7 +159,7 @@ kept_members ((v ∷ vs) ∷ cs) (false ∷ bs) h = kept_members cs bs h.1
 abbrev NormalUpdate : Update → Type 0
 NormalUpdate u = (v : Value) → Normal v → NormalOutcome (u.1 v)
 
-abbrev NormalReached : Reached → Type 0
+abbrev pub NormalReached : Reached → Type 0
 NormalReached (At v) = Normal v
 NormalReached Outside = Unit {0}
 NormalReached NoFunction = Unit {0}
@@ -177,7 +177,7 @@ go_normal (At v) f h r = r v h
 go_normal Outside f h r = tt
 go_normal NoFunction f h r = tt
 
-at_path_normal : (is : List Value) (f : Value) → Normal f → NormalReached (at_path f is)
+pub at_path_normal : (is : List Value) (f : Value) → Normal f → NormalReached (at_path f is)
 at_path_normal [] f h = h
 at_path_normal (i ∷ is) f h =
     go_normal (step_into (out-Value f) i) (λ v. at_path v is) (step_normal (out-Value f) i (layer_normal f h)) (λ v k. at_path_normal is v k)

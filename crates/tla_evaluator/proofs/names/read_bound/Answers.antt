@@ -1,6 +1,6 @@
-use Rattle.std.proofs.Common.{rules, arith, ◌≡◌, ◌+◌, ◌-◌, ◌<◌, length, sym, ap, ◌∙◌}
+use Rattle.std.proofs.Common.{arith, ◌≡◌, ◌+◌, ◌-◌, ◌<◌, length, sym, ap, ◌∙◌}
 use Rattle.tla_meaning.specs.declared.outcome.Outcome.TheVariants.{Val}
-use Rattle.tla_meaning.specs.Scopes.{value_found, same_text}
+use Rattle.tla_meaning.specs.Scopes.{value_found}
 use Rattle.tla_evaluator.proofs.NameLemmas.{find_last-hit, find_last-miss}
 use Rattle.tla_evaluator.proofs.names.read_bound.Goals as goal
 

@@ -1,16 +1,17 @@
 // Expressions, as their meaning says. An operator that is named here does not just join its operands; every other
 // one joins them and then has its row of the table.
-ghost use Rattle.std.specs.Prelude.{◌≡◌, ◌≤◌, ◌++◌, ◌∷◌, [], IfOk, Some, drop, false, map, true};
+ghost use Rattle.std.specs.Prelude.{◌≡◌, ◌≤◌, ◌++◌, ◌∷◌, [], IfOk, List as Items, MatchResult, Some, drop, false, map, true, ℕ};
+ghost use denote.Param.Weighed.{most};
 ghost use Rattle.std.specs.List.{All};
 ghost use Rattle.tla_values.specs.Sets.{Normal};
-ghost use Rattle.tla_meaning.specs.declared.expr.Expr.{out-Expr};
+ghost use Rattle.tla_meaning.specs.declared.expr.Expr.{Expr as Tree, out-Expr};
 ghost use Rattle.tla_meaning.specs.Forms.{Sequences, Subsets, form_faults, results};
-ghost use Rattle.tla_meaning.specs.Meaning.{case_chosen, choose, folded, form_of_one, function_form, if_chosen, implied, in_form, updated};
+ghost use Rattle.tla_meaning.specs.Meaning.{Update, case_chosen, choose, folded, form_of_one, function_form, if_chosen, implied, in_form, updated};
 ghost use Rattle.tla_meaning.specs.Operators.{table, yes_no};
 ghost use Rattle.tla_meaning.specs.Outcomes.{joined, strict, values};
 ghost use Rattle.tla_meaning.specs.Scopes.{bound_to};
 ghost use Rattle.tla_evaluator.specs.SetRules.{form_of, formed_of, forms_in};
-ghost use Rattle.tla_evaluator.specs.Trees.{AreNormal, bodies_at, bound_at, except_at, first_at, fold_at, form_at, forms_at, index_trees, junction, membership_test, outcomes_at, paths_at, updates_at, value_at};
+ghost use Rattle.tla_evaluator.specs.Trees.{AreNormal, bodies_at, bound_at, except_at, first_at, fold_at, form_at, forms_at, index_trees, junction, membership_test, outcomes_at, paths_at, update_at, updates_at, value_at};
 
 use crate::binders::{bound_table, choices_of};
 use crate::excepts::{Reached, at_path, set_path};
@@ -49,8 +50,8 @@ pub(crate) fn value(
         Op::Str(text) => read_text(alloc, text),
         Op::Name(i, primed) => read_name(alloc, *i, if *primed { t } else { s }, e.place),
         Op::Bound(name) => read_bound(alloc, name, env, e.place),
-        Op::And => evaluate_junction(alloc, args, false, e.place, env, s, t, width),
-        Op::Or => evaluate_junction(alloc, args, true, e.place, env, s, t, width),
+        Op::And => junction(alloc, args, false, e.place, env, s, t, width),
+        Op::Or => junction(alloc, args, true, e.place, env, s, t, width),
         Op::Implies => implication(alloc, args, e.place, env, s, t, width),
         Op::If => conditional(alloc, args, e.place, env, s, t, width),
         Op::Case(_) => cases(alloc, args, e.place, env, s, t, width),
@@ -176,7 +177,7 @@ fn joined_operands(
 
 // From the left, up to the first operand that has this truth value.
 #[cycle(eval)]
-fn evaluate_junction(
+fn junction(
     alloc: Global,
     trees: &[Expr],
     decides: bool,
@@ -294,7 +295,7 @@ fn cases(
             Err(fault) => return Ok(fault),
         }
     }
-    first(alloc, &trees[2 * arms..], place, env, s, t, width)
+    first(alloc, after(trees, 2 * arms), place, env, s, t, width)
 }
 
 // `\in`, `\notin` and `\subseteq`: a value and a set form.
@@ -346,7 +347,17 @@ fn binder(
     }
     match choices_of(alloc, domains.values.as_slice())? {
         Some(choices) => {
-            let all = bodies(alloc, after(args, names.len()), e.place, names, choices.as_slice(), env, s, t, width)?;
+            let all = bodies(
+                alloc,
+                after(args, names.len()),
+                e.place,
+                names,
+                choices.as_slice(),
+                env,
+                s,
+                t,
+                width,
+            )?;
             let outcome = bound_table(alloc, &e.op, e.place, choices.as_slice(), all.values)?;
             Ok(unless(all.fault, outcome))
         }
@@ -376,7 +387,17 @@ fn bodies(
 {
     let mut all = nothing(alloc);
     for choice in choices {
-        let outcome = under(alloc, trees, place, names, choice.as_slice(), env, s, t, width)?;
+        let outcome = under(
+            alloc,
+            trees,
+            place,
+            names,
+            choice.as_slice(),
+            env,
+            s,
+            t,
+            width,
+        )?;
         join(&mut all, outcome)?;
     }
     Ok(all)
@@ -403,9 +424,12 @@ fn except(
             let outcome = value(alloc, function, env, s, t, width)?;
             let found = indexes(alloc, rest, counts, env, s, t, width)?;
             let fault = both(fault_of(&outcome), found.fault);
+            if is_fault(fault) {
+                return Ok(unless(fault, Outcome::Wrong(e.place)));
+            }
             match outcome {
-                Outcome::Val(v) if !is_fault(fault) => updated(alloc, e, found.paths.as_slice(), v, env, s, t, width),
-                _ => Ok(unless(fault, Outcome::Wrong(e.place))),
+                Outcome::Val(v) => updated(alloc, e, found.paths.as_slice(), v, env, s, t, width),
+                _ => Ok(Outcome::Wrong(e.place)),
             }
         }
         [] => Ok(Outcome::Wrong(e.place)),
@@ -448,8 +472,7 @@ fn indexes(
     Ok(JoinedPaths { fault, paths })
 }
 
-// Each update to the result so far. One whose path leaves the domain changes nothing, and its right side is not
-// evaluated.
+// Each update to the result so far.
 #[cycle(eval)]
 fn updated(
     alloc: Global,
@@ -472,20 +495,67 @@ fn updated(
     let mut rest = after(e.args.as_slice(), 1);
     for (n, path) in paths {
         let sides = after(rest, *n);
-        match at_path(&result, path.as_slice()) {
-            Reached::At(old) => {
-                let olds = [copy_value(alloc, old)?];
-                match under(alloc, sides, e.place, e.binds.as_slice(), &olds, env, s, t, width)? {
-                    Outcome::Val(new) => result = set_path(alloc, &result, path.as_slice(), &new)?,
-                    fault => return Ok(fault),
-                }
-            }
-            Reached::Outside => {}
-            Reached::NoFunction => return Ok(Outcome::Wrong(e.place)),
+        match update(alloc, e, sides, &result, path.as_slice(), env, s, t, width)? {
+            Ok(changed) => result = changed,
+            Err(outcome) => return Ok(outcome),
         }
         rest = after(sides, 1);
     }
     Ok(Outcome::Val(result))
+}
+
+// One update: the function with it, or the outcome that ends the EXCEPT. Where the path leaves the domain nothing
+// changes, and the right side is not evaluated.
+#[cycle(eval)]
+fn update(
+    alloc: Global,
+    e: &Expr,
+    sides: &[Expr],
+    function: &Value,
+    path: &[Value],
+    env: &[(Text, Value)],
+    s: &State,
+    t: &State,
+    width: u32,
+) -> Result<Result<Value, Outcome>, AllocError>
+    requires narrow { width ≤ 64 }
+    requires wide { 4 ≤ width }
+    requires normal { AreNormal env.now s.now t.now }
+    requires function { Normal function.now }
+    requires sides { (f : Tree → ℕ) → most f sides.now ≤ most f (out-Expr e.now).args }
+    ensures { IfOk result (λ r. MatchResult r
+        (λ v. Normal v × ((us : Items Update) → updated (out-Expr e.now).place us v ≡ updated (out-Expr e.now).place
+        (update_at width (out-Expr e.now).place (out-Expr e.now).binds path.now sides.now env.now s.now t.now ∷ us) function.now))
+        (λ o. (us : Items Update) → o ≡ updated (out-Expr e.now).place
+        (update_at width (out-Expr e.now).place (out-Expr e.now).binds path.now sides.now env.now s.now t.now ∷ us) function.now)) }
+{
+    match at_path(function, path) {
+        Reached::At(old) => {
+            let olds = one_value(alloc, old)?;
+            match under(
+                alloc,
+                sides,
+                e.place,
+                e.binds.as_slice(),
+                olds.as_slice(),
+                env,
+                s,
+                t,
+                width,
+            )? {
+                Outcome::Val(new) => {
+                    let changed = set_path(alloc, function, path, &new)?;
+                    Ok(Ok(changed))
+                }
+                fault => Ok(Err(fault)),
+            }
+        }
+        Reached::Outside => {
+            let same = copy_value(alloc, function)?;
+            Ok(Ok(same))
+        }
+        Reached::NoFunction => Ok(Err(Outcome::Wrong(e.place))),
+    }
 }
 
 // A fold over a sequence: the body of the value so far and each item, in order.
@@ -513,6 +583,23 @@ fn fold(
     }
 }
 
+fn one_value(alloc: Global, v: &Value) -> Result<Vec<Value>, AllocError>
+    ensures { IfOk result (λ l. l.items ≡ v.now ∷ []) }
+{
+    let mut values = Vec::new(alloc);
+    values.push(copy_value(alloc, v)?)?;
+    Ok(values)
+}
+
+fn two_values(alloc: Global, a: Value, b: &Value) -> Result<Vec<Value>, AllocError>
+    ensures { IfOk result (λ l. l.items ≡ a ∷ b.now ∷ []) }
+{
+    let mut values = Vec::new(alloc);
+    values.push(a)?;
+    values.push(copy_value(alloc, b)?)?;
+    Ok(values)
+}
+
 #[cycle(eval)]
 fn folded(
     alloc: Global,
@@ -535,8 +622,18 @@ fn folded(
 {
     let mut so_far = start;
     for (_, item) in items {
-        let pair = [so_far, copy_value(alloc, item)?];
-        match under(alloc, e.args.as_slice(), e.place, e.binds.as_slice(), &pair, env, s, t, width)? {
+        let pair = two_values(alloc, so_far, item)?;
+        match under(
+            alloc,
+            e.args.as_slice(),
+            e.place,
+            e.binds.as_slice(),
+            pair.as_slice(),
+            env,
+            s,
+            t,
+            width,
+        )? {
             Outcome::Val(v) => so_far = v,
             fault => return Ok(fault),
         }
@@ -631,8 +728,9 @@ fn function_set(
         (outcomes_at width (out-Expr e.now).args env.now s.now t.now) (forms_at width (out-Expr e.now).args env.now s.now t.now)) }
 {
     match e.args.as_slice() {
-        [domain, results @ ..] => {
+        [domain, ..] => {
             let outcome = value(alloc, domain, env, s, t, width)?;
+            let results = after(e.args.as_slice(), 1);
             let all = forms(alloc, results, env, s, t, width)?;
             memberships::function_form(alloc, e.place, outcome, all, results.len())
         }

@@ -1,0 +1,161 @@
+use Rattle.std.proofs.Common.{arith, ◌≡◌, ℕ, Bool, false, ◌<◌, ◌≤◌, List, get_or, length, option_map, ap, ap₂, subst, sym, ◌∙◌}
+use Rattle.std.specs.List.{All, list_any}
+use Rattle.std.proofs.lemmas.List.Elements.{All-same}
+use Rattle.tla_values.specs.Sets.{Normal}
+use Rattle.tla_values.specs.declared.value.Value.{Value}
+use Rattle.tla_meaning.specs.declared.outcome.Fault.TheVariants.{NoFault}
+use denote.Param.Weighed.{most}
+use Rattle.tla_meaning.specs.declared.expr.Expr.{Expr, out-Expr, size-Expr}
+use Rattle.tla_meaning.specs.Actions.{case_effect, effects_and, effects_or, if_effect}
+use Rattle.tla_meaning.specs.Scopes.{Marks}
+use Rattle.tla_evaluator.specs.Effects.{as_effect, exists_at, first_effect}
+use Rattle.tla_evaluator.specs.Marks.{marked, marks_of}
+use Rattle.tla_evaluator.specs.Trees.{AreNormal, effects_at, outcomes_at}
+use Rattle.tla_evaluator.proofs.ActionNodes.{is_now, at_value, at_and, at_or, at_or_value, at_if, at_if_value, at_case, at_case_value, at_exists, at_noted, and_next, or_next, bodies_next, case_false, case_fault, if_fault, exists_body, exists_fault, first_some, first_none, no_deeper}
+use Rattle.tla_evaluator.proofs.NormalBinds.{longer_normal, choices_are_normal}
+use Rattle.tla_evaluator.proofs.actions.+action.Goals as goal
+use Rattle.tla_evaluator.proofs.actions.+action.Goals.{action-in_default-via-in-Or+else-any_marked, action-in_default-via-in-If+else-any_marked-2, action-in_default-via-in-Case+else-any_marked-3, action-in_default-via-in_default}
+
+-- whether a child is marked, as the call says
+here : (m : Marks) (es args : List Expr) (b : Bool) → es ≡ args → b ≡ list_any (marked m false) es → list_any (marked m false) args ≡ b
+here m es args b same is = ap (list_any (marked m false)) (sym same) ∙ sym is
+
+pub all_effects-loop-e-preserved : goal.all_effects-loop-e-preserved
+all_effects-loop-e-preserved t c =
+    and_next _ _ _ _ _ c.args.args.now _ _ (as_effect c.in_ok-one.one) _ _ _ c.loop-e-test.true c.e-item.is c.in_ok-one.ensures
+    c.if-not-one.false c.both-fault.ensures c.loop-e.invariant
+
+pub some_effect-loop-e-preserved : goal.some_effect-loop-e-preserved
+some_effect-loop-e-preserved t c =
+    or_next _ _ _ _ _ c.args.args.now _ _ (as_effect c.in_ok-one.one) _ _ _ c.loop-e-test.true c.e-item.is c.in_ok-one.ensures
+    c.either-all.ensures c.loop-e.invariant
+
+pub case_effect-loop-i-preserved : goal.case_effect-loop-i-preserved
+case_effect-loop-i-preserved t c = record {
+  within = omega arith;
+  same =
+      case_false _ _ c.args.place _ _ _ c.args.args.now _ _ _ _ _ c.loop-i-test.true c.index-args-i.is c.in_ok-outcome.ensures
+      c.in-Ok-false.ensures c.in-Ok-false.field-0-test c.loop-i.invariant.same;
+}
+
+pub case_effect-returns-in-Err : goal.case_effect-returns-in-Err
+case_effect-returns-in-Err t c =
+    c.effect_of.ensures
+    ∙ case_fault _ _ c.args.place _ _ _ c.args.args.now _ _ _ _ _ c.loop-i-test.true c.index-args-i.is c.in_ok-outcome.ensures
+    c.in-Err.ensures c.loop-i.invariant.same
+
+pub if_effect-returns-in-Err : goal.if_effect-returns-in-Err
+if_effect-returns-in-Err t c =
+    c.effect_of.ensures
+    ∙ if_fault _ _ c.args.place _ _ _ c.args.args.now _ _ _ c.in-len3.len_at_least c.in-len3.len_below c.guard-item.is
+    c.in_ok-outcome-in-len3.ensures c.in-Err.ensures
+
+pub exists_effect-returns-then-is_fault : goal.exists_effect-returns-then-is_fault
+exists_effect-returns-then-is_fault t c =
+    c.fails_by.ensures
+    ∙ exists_fault _ _ c.args.place c.args.names.now c.args.args.now _ _ _ _ _ c.front.ensures c.in_ok-domains.ensures.fault (c.is_fault.ensures.yes c.if-is_fault.true)
+
+pub exists_effect-body_effects-requires : goal.exists_effect-body_effects-requires
+exists_effect-body_effects-requires t c =
+    let deep : size-Expr c.body-item.result ≤ most size-Expr c.args.args.now =
+    no_deeper size-Expr (length c.args.names.now) c.args.args.now c.after.result.now c.body-item.result c.after.ensures c.in-len1-up.len_at_least c.body-item.is in
+    let sets : All Normal c.as_slice.result.now = All-same Normal _ _ c.as_slice.ensures.value c.in_ok-domains.ensures.normal in
+    let chosen : All (λ d. All Normal d) c.in-Some.choices.items =
+    choices_are_normal _ _ sets (c.in_ok-choices.ensures ∙ ap (option_map (λ v. v.items)) c.in-Some.is) in
+    let normal : All (λ d. All Normal d) c.as_slice-choices.result.now = All-same (λ d. All Normal d) _ _ c.as_slice-choices.ensures.value chosen in
+    (omega arith, (c.requires.narrow, (c.requires.wide, (c.requires.normal, normal))))
+
+pub exists_effect-returns-in-len1-up : goal.exists_effect-returns-in-len1-up
+exists_effect-returns-in-len1-up t c =
+    let none : c.in_ok-domains.domains.fault ≡ NoFault = c.is_fault.ensures.no c.if-is_fault.false in
+    is_now c.body_effects.result _ _
+    (exists_body _ _ c.args.place _ _ _ _ _ _ _ c.in_ok-domains.domains.fault c.in_ok-domains.domains.values.items c.as_slice.result.now c.in-Some.choices.items c.as_slice-choices.result.now _
+    c.front.ensures c.after.ensures c.in_ok-domains.ensures.fault none c.in_ok-domains.ensures.values c.as_slice.ensures.value
+    (c.in_ok-choices.ensures ∙ ap (option_map (λ v. v.items)) c.in-Some.is) c.as_slice-choices.ensures.value c.in-len1-up.len_at_least c.body-item.is)
+    c.body_effects.ensures
+
+pub body_effects-loop-choice-preserved : goal.body_effects-loop-choice-preserved
+body_effects-loop-choice-preserved t c =
+    bodies_next _ _ _ _ _ _ _ c.args.choices.now _ _ c.as_slice.result.now c.as_slice-in-loop-choice.result.now (as_effect c.in_ok-one.one) _ _ _
+    c.loop-choice-test.true c.choice-item.is c.as_slice.ensures (c.as_slice-in-loop-choice.ensures.value ∙ c.in_ok-bound.ensures) c.in_ok-one.ensures
+    c.either-all.ensures c.loop-choice.invariant
+
+this_choice : (P : List Value → Type 0) (xs : List (List Value)) (i : ℕ) (x : List Value) → i < length xs → x ≡ get_or xs i x → All P xs → P x
+this_choice P xs i x lt is h = subst P (sym is) (h i x lt)
+
+pub body_effects-action-requires : goal.body_effects-action-requires
+body_effects-action-requires t c =
+    let normal : AreNormal c.as_slice-in-loop-choice.result.now c.args.s.now c.args.t.now =
+    longer_normal _ _ _ _ _ _ (c.as_slice-in-loop-choice.ensures.value ∙ c.in_ok-bound.ensures) c.requires.normal
+    (All-same Normal _ _ c.as_slice.ensures (this_choice (λ d. All Normal d) _ _ _ c.loop-choice-test.true c.choice-item.is c.requires.choices)) in
+    (omega arith, (c.requires.narrow, (c.requires.wide, normal)))
+
+pub action-returns-in-And : goal.action-returns-in-And
+action-returns-in-And t c =
+    is_now c.all_effects.result _ _
+    (ap (λ es. effects_and (effects_at c.args.width (marks_of c.args.marks) es c.args.env.now c.args.s.now c.args.t.now)) c.as_slice-args.ensures
+    ∙ sym (at_and _ _ _ _ _ _ c.in-And.is))
+    c.all_effects.ensures
+
+pub action-returns-in-Exists : goal.action-returns-in-Exists
+action-returns-in-Exists t c =
+    is_now c.exists_effect.result _ _
+    (ap₂ (λ xs es. exists_at c.args.width (marks_of c.args.marks) (out-Expr c.args.e.now).place xs es c.args.env.now c.args.s.now c.args.t.now) c.as_slice-names.ensures c.as_slice-args.ensures
+    ∙ sym (at_exists _ _ _ _ _ _ c.in-Exists.is))
+    c.exists_effect.ensures
+
+pub action-returns-in-empty : goal.action-returns-in-empty
+action-returns-in-empty t c =
+    c.fails_by.ensures ∙ first_none c.args.width (marks_of c.args.marks) _ c.as_slice-args.result.now c.args.env.now c.args.s.now c.args.t.now c.in-empty.len_below
+    ∙ ap (λ es. first_effect c.args.width (marks_of c.args.marks) (out-Expr c.args.e.now).place es c.args.env.now c.args.s.now c.args.t.now) c.as_slice-args.ensures
+    ∙ sym (at_noted _ _ _ _ _ _ _ c.in-Noted.is)
+
+pub action-returns-in-len1-up : goal.action-returns-in-len1-up
+action-returns-in-len1-up t c =
+    is_now c.action.result _ _
+    (first_some c.args.width (marks_of c.args.marks) _ c.as_slice-args.result.now _ c.args.env.now c.args.s.now c.args.t.now c.in-len1-up.len_at_least c.child-item.is
+    ∙ ap (λ es. first_effect c.args.width (marks_of c.args.marks) (out-Expr c.args.e.now).place es c.args.env.now c.args.s.now c.args.t.now) c.as_slice-args.ensures
+    ∙ sym (at_noted _ _ _ _ _ _ _ c.in-Noted.is))
+    c.action.ensures
+
+pub action-returns-in-Or : goal.action-returns-in-Or
+action-returns-in-Or t c =
+    is_now c.some_effect.result _ _
+    (ap (λ es. effects_or (effects_at c.args.width (marks_of c.args.marks) es c.args.env.now c.args.s.now c.args.t.now)) c.as_slice-args.ensures
+    ∙ sym (at_or _ _ _ _ _ _ c.in-Or.is (here (marks_of c.args.marks) _ _ _ c.as_slice-args.ensures c.if-any_marked.ensures)))
+    c.some_effect.ensures
+
+pub action-returns-in-If : goal.action-returns-in-If
+action-returns-in-If t c =
+    is_now c.if_effect.result _ _
+    (ap (λ es. if_effect (out-Expr c.args.e.now).place (outcomes_at c.args.width es c.args.env.now c.args.s.now c.args.t.now) (effects_at c.args.width (marks_of c.args.marks) es c.args.env.now c.args.s.now c.args.t.now)) c.as_slice-args.ensures
+    ∙ sym (at_if _ _ _ _ _ _ c.in-If.is (here (marks_of c.args.marks) _ _ _ c.as_slice-args.ensures c.if-any_marked-2.ensures)))
+    c.if_effect.ensures
+
+pub action-returns-in-Case : goal.action-returns-in-Case
+action-returns-in-Case t c =
+    is_now c.case_effect.result _ _
+    (ap (λ es. case_effect (out-Expr c.args.e.now).place (outcomes_at c.args.width es c.args.env.now c.args.s.now c.args.t.now) (effects_at c.args.width (marks_of c.args.marks) es c.args.env.now c.args.s.now c.args.t.now)) c.as_slice-args.ensures
+    ∙ sym (at_case _ _ _ _ _ _ _ c.in-Case.is (here (marks_of c.args.marks) _ _ _ c.as_slice-args.ensures c.if-any_marked-3.ensures)))
+    c.case_effect.ensures
+
+pub action-returns-in_default : goal.action-returns-in_default
+action-returns-in_default t c =
+    is_now c.by_value.result _ _
+    (sym (elim c.in_default.branch [
+      | action-in_default-via-in-Or+else-any_marked w ↦
+          at_or_value _ _ _ _ _ _ w.in-Or.is (here (marks_of c.args.marks) _ _ _ c.as_slice-args.ensures w.if-any_marked.ensures)
+      | action-in_default-via-in-If+else-any_marked-2 w ↦
+          at_if_value _ _ _ _ _ _ w.in-If.is (here (marks_of c.args.marks) _ _ _ c.as_slice-args.ensures w.if-any_marked-2.ensures)
+      | action-in_default-via-in-Case+else-any_marked-3 w ↦
+          at_case_value _ _ _ _ _ _ _ w.in-Case.is (here (marks_of c.args.marks) _ _ _ c.as_slice-args.ensures w.if-any_marked-3.ensures)
+      | action-in_default-via-in_default w ↦ at_value _ _ _ _ _ _ (record {
+        not_and = w.in_default.not-And;
+        not_or = w.in_default.not-Or;
+        not_if = w.in_default.not-If;
+        not_case = w.in_default.not-Case;
+        not_exists = w.in_default.not-Exists;
+        not_noted = w.in_default.not-Noted;
+      })
+    ]))
+    c.by_value.ensures
