@@ -7,40 +7,46 @@
 //
 // The expected values come from the language (Specifying Systems, chapters 16 and 18) and not from the program.
 ghost use Rattle.std.specs.List.{All};
-ghost use Rattle.std.specs.Prelude.{◌≤◌, IfOk};
+ghost use Rattle.std.specs.Prelude.{◌≤◌, IfOk, IsTrue};
 ghost use Rattle.tla_values.specs.Sets.{Normal};
+ghost use Rattle.tla_evaluator.specs.Trees.{is_expanded};
 
+mod actions;
 mod cases;
 
-use crate::eval::{operands, value};
-use crate::is_expanded;
+use crate::{act, eval, invariant, is_expanded, next, start};
+use actions::{ACTIONS, INVARIANTS, STARTS, STEPS};
 use cases::{BINDERS, FUNCTIONS, LOGIC, MEMBERS, NARROW, NUMBERS, SEQUENCES, SETS, WIDE};
 use std::alloc::{AllocError, Global};
 use std::mem;
 use std::test::Fail;
-use tla_meaning::{Expr, Form, Op, Outcome, Place, State};
+use tla_meaning::{Decl, Env, Expr, Form, Job, Op, Outcome, Place, State};
 use tla_values::{List, Text, Value, show};
 
-const NAMES: [&[u8]; 10] = [
-    b"x", b"y", b"b", b"f", b"s", b"long", b"n300", b"million", b"max", b"min",
+const NAMES: [&[u8]; 11] = [
+    b"c", b"x", b"y", b"b", b"f", b"s", b"long", b"n300", b"million", b"max", b"min",
 ];
 
-// `long` has 128 items, `max` and `min` have 128 bits.
-const NOW: &str = "0 1 TRUE <1 2 3> <1 2> (lambda [i] (range 1 128) 0) 300 1000000";
+// `c` is a constant, `long` has 128 items, `max` and `min` have 128 bits.
+const NOW: &str = "0 0 1 TRUE <1 2 3> <1 2> (lambda [i] (range 1 128) 0) 300 1000000";
 
-const NEXT: &str = "1 1 FALSE <1 2 3> <1 2 3> <> 0 0";
+const NEXT: &str = "0 1 1 FALSE <1 2 3> <1 2 3> <> 0 0";
 
-// Each with its width.
-const TABLES: [(u32, &str); 9] = [
-    (8, LOGIC),
-    (8, NUMBERS),
-    (8, SETS),
-    (8, MEMBERS),
-    (8, BINDERS),
-    (8, FUNCTIONS),
-    (8, SEQUENCES),
-    (4, NARROW),
-    (64, WIDE),
+// Each with what is asked and the width.
+const TABLES: [(Question, u32, &str); 13] = [
+    (Question::Value, 8, LOGIC),
+    (Question::Value, 8, NUMBERS),
+    (Question::Value, 8, SETS),
+    (Question::Value, 8, MEMBERS),
+    (Question::Value, 8, BINDERS),
+    (Question::Value, 8, FUNCTIONS),
+    (Question::Value, 8, SEQUENCES),
+    (Question::Value, 4, NARROW),
+    (Question::Value, 64, WIDE),
+    (Question::Action, 8, ACTIONS),
+    (Question::Start, 8, STARTS),
+    (Question::Step, 8, STEPS),
+    (Question::Invariant, 8, INVARIANTS),
 ];
 
 // ---- the reader
@@ -370,16 +376,12 @@ fn whole(n: i128) -> Value
     Value::Int(n)
 }
 
-// The state of these values at width 64, with the greatest and the least number at its end.
+// The state of these values, with the greatest and the least number of 128 bits at its end.
 fn state(alloc: Global, text: &str) -> Result<State, Fail>
     ensures { IfOk result (λ s. All Normal s.vals) }
 {
-    let nothing = State {
-        vals: List::new(alloc),
-    };
     let (trees, _) = read(alloc, text.as_bytes())?;
-    let all = operands(alloc, trees.as_slice(), &[], &nothing, &nothing, 64)?;
-    let mut vals = all.values;
+    let mut vals = values(alloc, trees.as_slice())?;
     vals.push(whole(i128::MAX))?;
     vals.push(whole(i128::MIN))?;
     Ok(State {
@@ -387,24 +389,324 @@ fn state(alloc: Global, text: &str) -> Result<State, Fail>
     })
 }
 
-// What an expression gives, as it stands in a case.
-fn given(alloc: Global, text: &str, s: &State, t: &State, width: u32) -> Result<String, Fail>
+fn values(alloc: Global, trees: &[Expr]) -> Result<Vec<Value>, AllocError>
+    ensures { IfOk result (λ v. All Normal v.items) }
+{
+    let nothing = State {
+        vals: List::new(alloc),
+    };
+    let unbound = Env {
+        vals: List::new(alloc),
+    };
+    let mut vals = Vec::new(alloc);
+    for e in trees {
+        if is_expanded(e) {
+            match eval(alloc, e, &unbound, &nothing, None, 64)? {
+                Outcome::Val(v) => vals.push(v)?,
+                _ => {}
+            }
+        }
+    }
+    Ok(vals)
+}
+
+// Where `v` is bound to 7.
+fn environment(alloc: Global) -> Result<Env, AllocError>
+    ensures { IfOk result (λ e. All (λ b. Normal b.1) e.vals) }
+{
+    let name = Text::from_vec(Vec::from_slice(alloc, b"v")?);
+    let mut vals = List::new(alloc);
+    vals.push((name, whole(7)))?;
+    Ok(Env { vals })
+}
+
+// What is asked of the expressions of a line: the value of one; one as an action between two states; the start of
+// which they are CInit, the assumptions and Init; the step of one as Next; and the first invariant that is not TRUE.
+#[derive(Clone, Copy, Drop)]
+enum Question {
+    Value,
+    Action,
+    Start,
+    Step,
+    Invariant,
+}
+
+fn given(
+    alloc: Global,
+    question: Question,
+    text: &str,
+    s: &State,
+    t: &State,
+    width: u32,
+) -> Result<String, Fail>
     requires narrow { width ≤ 64 }
     requires wide { 4 ≤ width }
     requires now { All Normal s.now.vals }
     requires next { All Normal t.now.vals }
 {
     let (trees, mark) = read(alloc, text.as_bytes())?;
-    match trees.as_slice() {
+    match question {
+        Question::Value => valued(alloc, trees.as_slice(), s, t, width, mark),
+        Question::Action => acted(alloc, trees.as_slice(), s, t, width, mark),
+        Question::Start => started(alloc, trees, s, width, mark),
+        Question::Step => stepped(alloc, trees, s, t, width, mark),
+        Question::Invariant => kept(alloc, trees, s, width, mark),
+    }
+}
+
+fn valued(
+    alloc: Global,
+    trees: &[Expr],
+    s: &State,
+    t: &State,
+    width: u32,
+    mark: u32,
+) -> Result<String, Fail>
+    requires narrow { width ≤ 64 }
+    requires wide { 4 ≤ width }
+    requires now { All Normal s.now.vals }
+    requires next { All Normal t.now.vals }
+{
+    match trees {
         [e] if is_expanded(e) => {
-            let outcome = value(alloc, e, &[], s, t, width)?;
-            let text = shown(alloc, outcome, mark)?;
-            Ok(text)
+            let env = environment(alloc)?;
+            let outcome = eval(alloc, e, &env, s, Some(t), width)?;
+            shown(alloc, outcome, mark)
         }
-        _ => {
-            let text = String::from_str(alloc, "not readable")?;
-            Ok(text)
+        _ => unreadable(alloc),
+    }
+}
+
+fn acted(
+    alloc: Global,
+    trees: &[Expr],
+    s: &State,
+    t: &State,
+    width: u32,
+    mark: u32,
+) -> Result<String, Fail>
+    requires narrow { width ≤ 64 }
+    requires wide { 4 ≤ width }
+    requires now { All Normal s.now.vals }
+    requires next { All Normal t.now.vals }
+{
+    match trees {
+        [e] if is_expanded(e) => {
+            let outcome = act(alloc, e, s, t, width)?;
+            shown(alloc, outcome, mark)
         }
+        _ => unreadable(alloc),
+    }
+}
+
+fn started(
+    alloc: Global,
+    trees: Vec<Expr>,
+    s: &State,
+    width: u32,
+    mark: u32,
+) -> Result<String, Fail>
+    requires narrow { width ≤ 64 }
+    requires wide { 4 ≤ width }
+    requires now { All Normal s.now.vals }
+{
+    if trees.len() != 3 {
+        return unreadable(alloc);
+    }
+    let job = start_job(alloc, trees)?;
+    at_start(alloc, &job, s, width, mark)
+}
+
+fn at_start(alloc: Global, job: &Job, s: &State, width: u32, mark: u32) -> Result<String, Fail>
+    requires narrow { width ≤ 64 }
+    requires wide { 4 ≤ width }
+    requires now { All Normal s.now.vals }
+{
+    if is_expanded(&job.cinit) && is_expanded(&job.assume) && is_expanded(&job.init) {
+        let outcome = start(alloc, job, s, width)?;
+        shown(alloc, outcome, mark)
+    } else {
+        unreadable(alloc)
+    }
+}
+
+fn stepped(
+    alloc: Global,
+    trees: Vec<Expr>,
+    s: &State,
+    t: &State,
+    width: u32,
+    mark: u32,
+) -> Result<String, Fail>
+    requires narrow { width ≤ 64 }
+    requires wide { 4 ≤ width }
+    requires now { All Normal s.now.vals }
+    requires next { All Normal t.now.vals }
+{
+    if trees.len() != 1 {
+        return unreadable(alloc);
+    }
+    let job = step_job(alloc, trees)?;
+    at_step(alloc, &job, s, t, width, mark)
+}
+
+fn at_step(
+    alloc: Global,
+    job: &Job,
+    s: &State,
+    t: &State,
+    width: u32,
+    mark: u32,
+) -> Result<String, Fail>
+    requires narrow { width ≤ 64 }
+    requires wide { 4 ≤ width }
+    requires now { All Normal s.now.vals }
+    requires next { All Normal t.now.vals }
+{
+    if is_expanded(&job.next) {
+        let outcome = next(alloc, job, s, t, width)?;
+        shown(alloc, outcome, mark)
+    } else {
+        unreadable(alloc)
+    }
+}
+
+fn kept(alloc: Global, trees: Vec<Expr>, s: &State, width: u32, mark: u32) -> Result<String, Fail>
+    requires narrow { width ≤ 64 }
+    requires wide { 4 ≤ width }
+    requires now { All Normal s.now.vals }
+{
+    let count = trees.len();
+    let job = invariant_job(alloc, trees)?;
+    if job.invs.len() != count {
+        return unreadable(alloc);
+    }
+    at_invariants(alloc, &job, s, width, mark)
+}
+
+fn at_invariants(alloc: Global, job: &Job, s: &State, width: u32, mark: u32) -> Result<String, Fail>
+    requires narrow { width ≤ 64 }
+    requires wide { 4 ≤ width }
+    requires now { All Normal s.now.vals }
+    requires expanded { All (λ e. IsTrue (is_expanded e.1)) job.now.invs }
+{
+    let (number, outcome) = invariant(alloc, job, s, width)?;
+    let text = shown(alloc, outcome, mark)?;
+    let numbered = format!(in alloc; "{number} {text}")?;
+    Ok(numbered)
+}
+
+// ---- jobs, whose other parts are TRUE
+
+fn start_job(alloc: Global, mut trees: Vec<Expr>) -> Result<Job, AllocError> {
+    let names = declared(alloc)?;
+    let init = last(alloc, &mut trees);
+    let assume = last(alloc, &mut trees);
+    let cinit = last(alloc, &mut trees);
+    Ok(job(
+        alloc,
+        names,
+        cinit,
+        assume,
+        init,
+        truth(alloc),
+        List::new(alloc),
+    ))
+}
+
+fn step_job(alloc: Global, mut trees: Vec<Expr>) -> Result<Job, AllocError> {
+    let names = declared(alloc)?;
+    let next = last(alloc, &mut trees);
+    Ok(job(
+        alloc,
+        names,
+        truth(alloc),
+        truth(alloc),
+        truth(alloc),
+        next,
+        List::new(alloc),
+    ))
+}
+
+fn invariant_job(alloc: Global, trees: Vec<Expr>) -> Result<Job, AllocError>
+    ensures { IfOk result (λ j. All (λ e. IsTrue (is_expanded e.1)) j.invs) }
+{
+    let names = declared(alloc)?;
+    let invs = expanded(alloc, trees)?;
+    Ok(job(
+        alloc,
+        names,
+        truth(alloc),
+        truth(alloc),
+        truth(alloc),
+        truth(alloc),
+        invs,
+    ))
+}
+
+// Those of the trees that are expanded.
+fn expanded(alloc: Global, trees: Vec<Expr>) -> Result<List<(Text, Expr)>, AllocError>
+    ensures { IfOk result (λ l. All (λ e. IsTrue (is_expanded e.1)) l) }
+{
+    let mut invs = List::new(alloc);
+    for e in trees {
+        if is_expanded(&e) {
+            invs.push((Text::from_vec(Vec::new(alloc)), e))?;
+        }
+    }
+    Ok(invs)
+}
+
+fn job(
+    alloc: Global,
+    names: List<Decl>,
+    cinit: Expr,
+    assume: Expr,
+    init: Expr,
+    next: Expr,
+    invs: List<(Text, Expr)>,
+) -> Job
+    ensures { All (λ e. IsTrue (is_expanded e.1)) invs → All (λ e. IsTrue (is_expanded e.1)) result.invs }
+{
+    Job {
+        files: List::new(alloc),
+        names,
+        aliases: List::new(alloc),
+        cinit,
+        assume,
+        init,
+        next,
+        invs,
+    }
+}
+
+// The names, of which the first is a constant.
+fn declared(alloc: Global) -> Result<List<Decl>, AllocError> {
+    let mut names = List::new(alloc);
+    for (i, name) in NAMES.iter().enumerate() {
+        names.push(Decl {
+            name: Text::from_vec(Vec::from_slice(alloc, *name)?),
+            place: place(0),
+            constant: i == 0,
+            note: Text::from_vec(Vec::new(alloc)),
+        })?;
+    }
+    Ok(names)
+}
+
+fn last(alloc: Global, trees: &mut Vec<Expr>) -> Expr {
+    match trees.pop() {
+        Some(e) => e,
+        None => truth(alloc),
+    }
+}
+
+fn truth(alloc: Global) -> Expr {
+    Expr {
+        place: place(0),
+        op: Op::Bool(true),
+        args: List::new(alloc),
+        binds: List::new(alloc),
     }
 }
 
@@ -431,8 +733,20 @@ fn fault(alloc: Global, word: &str, p: Place, mark: u32) -> Result<String, Fail>
     Ok(text)
 }
 
+fn unreadable(alloc: Global) -> Result<String, Fail> {
+    let text = String::from_str(alloc, "not readable")?;
+    Ok(text)
+}
+
 // The lines of a table that give something else, each with what it gives.
-fn failing(alloc: Global, table: &str, s: &State, t: &State, width: u32) -> Result<String, Fail>
+fn failing(
+    alloc: Global,
+    question: Question,
+    table: &str,
+    s: &State,
+    t: &State,
+    width: u32,
+) -> Result<String, Fail>
     requires narrow { width ≤ 64 }
     requires wide { 4 ≤ width }
     requires now { All Normal s.now.vals }
@@ -441,7 +755,7 @@ fn failing(alloc: Global, table: &str, s: &State, t: &State, width: u32) -> Resu
     let mut out = String::new(alloc);
     for line in table.lines() {
         let (text, wanted) = line.split_once(" => ").unwrap_or((line, ""));
-        let found = given(alloc, text, s, t, width)?;
+        let found = given(alloc, question, text, s, t, width)?;
         if found.as_str() != wanted {
             let note = format!(in alloc; "{text} => {found}\n")?;
             out.push_str(note.as_str())?;
@@ -451,14 +765,15 @@ fn failing(alloc: Global, table: &str, s: &State, t: &State, width: u32) -> Resu
 }
 
 #[test]
-fn expressions_give_what_the_language_says(rt: HostRuntime) -> Result<(), Fail> {
+fn each_case_gives_what_the_language_says(rt: HostRuntime) -> Result<(), Fail> {
     let alloc = rt.alloc();
     let s = state(alloc, NOW)?;
     let t = state(alloc, NEXT)?;
+    assert_eq!(rt; (s.vals.len(), t.vals.len()), (NAMES.len(), NAMES.len()));
     let mut all = String::new(alloc);
-    for (width, table) in TABLES {
+    for (question, width, table) in TABLES {
         assert!(rt; 4 <= width && width <= 64);
-        let failing = failing(alloc, table, &s, &t, width)?;
+        let failing = failing(alloc, question, table, &s, &t, width)?;
         all.push_str(failing.as_str())?;
     }
     assert_eq!(rt; all.as_str(), "");
