@@ -1,631 +1,781 @@
+// What expressions give, a case a line: `EXPRESSION => WHAT IT GIVES`.
+//
+// `(word a b)` is an operator with its operands. `[i j]` behind the word has the names that a binder binds, the fields
+// of a record, or of EXCEPT the number of indexes of each update. `{a b}` is a set and `<a b>` a tuple. `x`, `f` and the
+// other names of `NAMES` are read in the state, `x'` in the next one; every other word is a bound name. A value is given
+// by its text. `!` stands before the place at which the outcome is `wrong` or `big`.
+//
+// The expected values come from the language (Specifying Systems, chapters 16 and 18) and not from the program.
 ghost use Rattle.std.specs.List.{All};
-ghost use Rattle.std.specs.Prelude.{IfOk};
+ghost use Rattle.std.specs.Prelude.{◌≤◌, IfOk, IsTrue};
 ghost use Rattle.tla_values.specs.Sets.{Normal};
+ghost use Rattle.tla_evaluator.specs.Trees.{is_expanded};
 
-use crate::records::record_at;
-use crate::sequences::sequence;
-use crate::{SetRule, all_belong, belongs, is_set_form, table};
-use std::alloc::Global;
+mod actions;
+mod cases;
+
+use crate::{act, eval, invariant, is_expanded, next, start};
+use actions::{ACTIONS, INVARIANTS, STARTS, STEPS};
+use cases::{BINDERS, FUNCTIONS, LOGIC, MEMBERS, NARROW, NUMBERS, SEQUENCES, SETS, WIDE};
+use std::alloc::{AllocError, Global};
+use std::mem;
 use std::test::Fail;
-use tla_meaning::{Form, Op, Outcome, Place};
-use tla_values::{List, Text, Value, set_of, show};
+use tla_meaning::{Decl, Env, Expr, Form, Job, Op, Outcome, Place, State};
+use tla_values::{List, Text, Value, show};
 
-// An operand: a truth value, a number, a text, the set or the sequence of some numbers, the function of numbers at
-// numbers, the set of such sets, or the function of numbers at texts.
-#[derive(Clone, Copy, Drop)]
-enum Given {
-    Truth(bool),
-    Number(i128),
-    Text(&'static [u8]),
-    Set(&'static [i128]),
-    Seq(&'static [i128]),
-    Fun(&'static [i128], &'static [i128]),
-    Sets(&'static [&'static [i128]]),
-    Named(&'static [&'static [u8]], &'static [i128]),
+const NAMES: [&[u8]; 11] = [
+    b"c", b"x", b"y", b"b", b"f", b"s", b"long", b"n300", b"million", b"max", b"min",
+];
+
+// `c` is a constant, `long` has 128 items, `max` and `min` have 128 bits.
+const NOW: &str = "0 0 1 TRUE <1 2 3> <1 2> (lambda [i] (range 1 128) 0) 300 1000000";
+
+const NEXT: &str = "0 1 1 FALSE <1 2 3> <1 2 3> <> 0 0";
+
+// Each with what is asked and the width.
+const TABLES: [(Question, u32, &str); 13] = [
+    (Question::Value, 8, LOGIC),
+    (Question::Value, 8, NUMBERS),
+    (Question::Value, 8, SETS),
+    (Question::Value, 8, MEMBERS),
+    (Question::Value, 8, BINDERS),
+    (Question::Value, 8, FUNCTIONS),
+    (Question::Value, 8, SEQUENCES),
+    (Question::Value, 4, NARROW),
+    (Question::Value, 64, WIDE),
+    (Question::Action, 8, ACTIONS),
+    (Question::Start, 8, STARTS),
+    (Question::Step, 8, STEPS),
+    (Question::Invariant, 8, INVARIANTS),
+];
+
+// ---- the reader
+
+// A node that is not closed yet.
+#[derive(Drop)]
+struct Node {
+    place: Place,
+    word: Vec<u8>,
+    names: Vec<Text>,
+    args: Vec<Expr>,
 }
 
-use Given::{Fun, Named, Number, Seq, Set, Sets, Truth};
+// The open nodes, the innermost last; the word so far and where it begins; and where the mark stands.
+#[derive(Drop)]
+struct Reader {
+    alloc: Global,
+    open: Vec<Node>,
+    word: Vec<u8>,
+    start: u32,
+    column: u32,
+    in_names: bool,
+    mark: u32,
+}
+
+fn place(col: u32) -> Place {
+    Place {
+        file: 0,
+        line: 1,
+        col,
+    }
+}
+
+fn opened(alloc: Global, word: &[u8], col: u32) -> Result<Node, AllocError> {
+    Ok(Node {
+        place: place(col),
+        word: Vec::from_slice(alloc, word)?,
+        names: Vec::new(alloc),
+        args: Vec::new(alloc),
+    })
+}
+
+// The node with one more word: its operator, a name, or an operand.
+fn with_word(
+    alloc: Global,
+    mut node: Node,
+    word: Vec<u8>,
+    col: u32,
+    in_names: bool,
+) -> Result<Node, AllocError> {
+    if in_names {
+        node.names.push(Text::from_vec(word))?;
+    } else if node.word.is_empty() {
+        node.word = word;
+        node.place = place(col);
+    } else {
+        let e = leaf(alloc, word, place(col))?;
+        node.args.push(e)?;
+    }
+    Ok(node)
+}
+
+impl Reader {
+    fn read(&mut self, byte: u8) -> Result<(), AllocError> {
+        if byte == b'!' {
+            self.mark = self.column;
+            return Ok(());
+        }
+        match byte {
+            b'(' => self.begin(b"")?,
+            b'{' => self.begin(b"set")?,
+            b'<' => self.begin(b"tuple")?,
+            b')' | b'}' | b'>' => self.end()?,
+            b' ' => self.end_word()?,
+            b'[' => self.in_names = true,
+            b']' => {
+                self.end_word()?;
+                self.in_names = false;
+            }
+            _ => self.add(byte)?,
+        }
+        self.column = self.column.wrapping_add(1);
+        Ok(())
+    }
+
+    fn add(&mut self, byte: u8) -> Result<(), AllocError> {
+        if self.word.is_empty() {
+            self.start = self.column;
+        }
+        self.word.push(byte)?;
+        Ok(())
+    }
+
+    fn begin(&mut self, word: &[u8]) -> Result<(), AllocError> {
+        let node = opened(self.alloc, word, self.column)?;
+        self.open.push(node)?;
+        Ok(())
+    }
+
+    fn end_word(&mut self) -> Result<(), AllocError> {
+        if self.word.is_empty() {
+            return Ok(());
+        }
+        let word = mem::replace(&mut self.word, Vec::new(self.alloc));
+        if let Some(node) = self.open.pop() {
+            let longer = with_word(self.alloc, node, word, self.start, self.in_names)?;
+            self.open.push(longer)?;
+        }
+        Ok(())
+    }
+
+    fn end(&mut self) -> Result<(), AllocError> {
+        self.end_word()?;
+        let Some(node) = self.open.pop() else {
+            return Ok(());
+        };
+        let e = tree(self.alloc, node)?;
+        if let Some(mut outer) = self.open.pop() {
+            outer.args.push(e)?;
+            self.open.push(outer)?;
+        }
+        Ok(())
+    }
+}
+
+// The expressions of a text, with the column of the mark; none where brackets are left open.
+fn read(alloc: Global, text: &[u8]) -> Result<(Vec<Expr>, u32), AllocError> {
+    let mut reader = Reader {
+        alloc,
+        open: Vec::new(alloc),
+        word: Vec::new(alloc),
+        start: 0,
+        column: 1,
+        in_names: false,
+        mark: 0,
+    };
+    reader.begin(b"line")?;
+    for byte in text {
+        reader.read(*byte)?;
+    }
+    reader.end_word()?;
+    let mark = reader.mark;
+    match reader.open.pop() {
+        Some(node) if reader.open.is_empty() => Ok((node.args, mark)),
+        _ => Ok((Vec::new(alloc), mark)),
+    }
+}
+
+// A number, a truth value, a text or a name.
+fn leaf(alloc: Global, word: Vec<u8>, place: Place) -> Result<Expr, AllocError> {
+    let op = match word.as_slice() {
+        b"TRUE" => Op::Bool(true),
+        b"FALSE" => Op::Bool(false),
+        [b'"', text @ .., b'"'] => Op::Str(Text::from_vec(Vec::from_slice(alloc, text)?)),
+        [b'-', digits @ ..] => Op::Int(number(digits).wrapping_neg()),
+        [b'0'..=b'9', ..] => Op::Int(number(word.as_slice())),
+        [name @ .., b'\''] => named(alloc, name, true)?,
+        name => named(alloc, name, false)?,
+    };
+    Ok(Expr {
+        place,
+        op,
+        args: List::new(alloc),
+        binds: List::new(alloc),
+    })
+}
+
+fn number(digits: &[u8]) -> i128 {
+    let mut n: i128 = 0;
+    for digit in digits {
+        n = n.wrapping_mul(10).wrapping_add(value_of(*digit));
+    }
+    n
+}
+
+fn value_of(digit: u8) -> i128 {
+    i128::from(digit) - 48
+}
+
+fn named(alloc: Global, name: &[u8], primed: bool) -> Result<Op, AllocError> {
+    for (i, known) in NAMES.iter().enumerate() {
+        if *known == name {
+            return Ok(Op::Name(i, primed));
+        }
+    }
+    let bytes = Vec::from_slice(alloc, name)?;
+    Ok(Op::Bound(Text::from_vec(bytes)))
+}
+
+// A closed node. Its names are the operator's own or those that it binds; EXCEPT binds the name of the old value.
+fn tree(alloc: Global, node: Node) -> Result<Expr, AllocError> {
+    let Node {
+        place,
+        word,
+        names,
+        args,
+    } = node;
+    let mut binds = List::new(alloc);
+    let op = match word.as_slice() {
+        b"record" => Op::Record(List::from_vec(names)),
+        b"recset" => Op::RecSet(List::from_vec(names)),
+        b"field" => Op::Field(first(alloc, names)),
+        b"except" => {
+            binds.push(Text::from_vec(Vec::from_slice(alloc, b"@")?))?;
+            Op::Except(counts(alloc, names.as_slice())?)
+        }
+        _ => {
+            binds = List::from_vec(names);
+            operator(word)
+        }
+    };
+    Ok(Expr {
+        place,
+        op,
+        args: List::from_vec(args),
+        binds,
+    })
+}
+
+fn first(alloc: Global, mut names: Vec<Text>) -> Text {
+    match names.pop() {
+        Some(name) => name,
+        None => Text::from_vec(Vec::new(alloc)),
+    }
+}
+
+fn counts(alloc: Global, names: &[Text]) -> Result<List<usize>, AllocError> {
+    let mut counts = List::new(alloc);
+    for name in names {
+        counts.push(count(name.bytes()))?;
+    }
+    Ok(counts)
+}
+
+fn count(digits: &[u8]) -> usize {
+    match digits {
+        [digit] => digit.wrapping_sub(b'0') as usize,
+        _ => 0,
+    }
+}
+
+// The operator of a word. A word that is none is the use of a definition, which no expanded tree has.
+fn operator(word: Vec<u8>) -> Op {
+    match word.as_slice() {
+        b"and" => Op::And,
+        b"or" => Op::Or,
+        b"implies" => Op::Implies,
+        b"not" => Op::Not,
+        b"iff" => Op::Iff,
+        b"if" => Op::If,
+        b"case" => Op::Case(false),
+        b"case-other" => Op::Case(true),
+        b"eq" => Op::Eq,
+        b"ne" => Op::Ne,
+        b"assign" => Op::Assign,
+        b"in" => Op::In,
+        b"notin" => Op::NotIn,
+        b"subseteq" => Op::SubsetEq,
+        b"lt" => Op::Lt,
+        b"gt" => Op::Gt,
+        b"le" => Op::Le,
+        b"ge" => Op::Ge,
+        b"add" => Op::Add,
+        b"sub" => Op::Sub,
+        b"mul" => Op::Mul,
+        b"neg" => Op::Neg,
+        b"div" => Op::Div,
+        b"mod" => Op::Mod,
+        b"pow" => Op::Pow,
+        b"range" => Op::Range,
+        _ => set_operator(word),
+    }
+}
+
+fn set_operator(word: Vec<u8>) -> Op {
+    match word.as_slice() {
+        b"set" => Op::SetEnum,
+        b"cup" => Op::Cup,
+        b"cap" => Op::Cap,
+        b"minus" => Op::Minus,
+        b"powerset" => Op::Powerset,
+        b"funset" => Op::FunSet,
+        b"product" => Op::Product,
+        b"union" => Op::BigUnion,
+        b"boolean" => Op::BooleanSet,
+        b"int" => Op::IntSet,
+        b"nat" => Op::NatSet,
+        b"string" => Op::StringSet,
+        b"seqs" => Op::SeqSet,
+        b"cardinality" => Op::Cardinality,
+        b"finite" => Op::IsFinite,
+        b"exists" => Op::Exists,
+        b"forall" => Op::Forall,
+        b"filter" => Op::Filter,
+        b"map" => Op::MapTo,
+        _ => function_operator(word),
+    }
+}
+
+fn function_operator(word: Vec<u8>) -> Op {
+    match word.as_slice() {
+        b"lambda" => Op::Lambda,
+        b"apply" => Op::Apply,
+        b"domain" => Op::Domain,
+        b"merge" => Op::Merge,
+        b"single" => Op::Single,
+        b"tuple" => Op::Tuple,
+        b"len" => Op::Len,
+        b"append" => Op::Append,
+        b"concat" => Op::Concat,
+        b"head" => Op::Head,
+        b"tail" => Op::Tail,
+        b"subseq" => Op::SubSeq,
+        b"fold" => Op::Fold,
+        b"choose" => Op::Outside(Form::Choose),
+        b"noted" => Op::Noted(Text::from_vec(word)),
+        _ => Op::Use(Text::from_vec(word)),
+    }
+}
+
+// ---- the cases
 
 #[tactic(auto, using(crate::proofs::NormalValues::int_normal))]
-fn number(n: i128) -> Value
+fn whole(n: i128) -> Value
     ensures { Normal result }
 {
     Value::Int(n)
 }
 
-#[tactic(auto, using(crate::proofs::NormalValues::bool_normal))]
-fn truth(b: bool) -> Value
-    ensures { Normal result }
+// The state of these values, with the greatest and the least number of 128 bits at its end.
+fn state(alloc: Global, text: &str) -> Result<State, Fail>
+    ensures { IfOk result (λ s. All Normal s.vals) }
 {
-    Value::Bool(b)
+    let (trees, _) = read(alloc, text.as_bytes())?;
+    let mut vals = values(alloc, trees.as_slice())?;
+    vals.push(whole(i128::MAX))?;
+    vals.push(whole(i128::MIN))?;
+    Ok(State {
+        vals: List::from_vec(vals),
+    })
 }
 
-fn numbers(alloc: Global, listed: &[i128]) -> Result<Vec<Value>, Fail>
+fn values(alloc: Global, trees: &[Expr]) -> Result<Vec<Value>, AllocError>
     ensures { IfOk result (λ v. All Normal v.items) }
 {
-    let mut items = Vec::new(alloc);
-    for n in listed {
-        items.push(number(*n))?;
-    }
-    Ok(items)
-}
-
-fn set(alloc: Global, listed: &[i128]) -> Result<Value, Fail>
-    ensures { IfOk result Normal }
-{
-    let items = numbers(alloc, listed)?;
-    let value = set_of(alloc, List::from_vec(items))?;
-    Ok(value)
-}
-
-fn sets(alloc: Global, listed: &[&[i128]]) -> Result<Value, Fail>
-    ensures { IfOk result Normal }
-{
-    let mut items = Vec::new(alloc);
-    for numbers in listed {
-        let item = set(alloc, *numbers)?;
-        items.push(item)?;
-    }
-    let value = set_of(alloc, List::from_vec(items))?;
-    Ok(value)
-}
-
-fn function(alloc: Global, arguments: &[i128], results: &[i128]) -> Result<Value, Fail>
-    ensures { IfOk result Normal }
-{
-    let left = numbers(alloc, arguments)?;
-    let right = numbers(alloc, results)?;
-    let value = record_at(alloc, left.as_slice(), right)?;
-    Ok(value)
-}
-
-#[tactic(auto, using(crate::proofs::NormalValues::text_normal))]
-fn text(alloc: Global, bytes: &[u8]) -> Result<Value, Fail>
-    ensures { IfOk result Normal }
-{
-    let bytes = Vec::from_slice(alloc, bytes)?;
-    Ok(Value::Text(Text::from_vec(bytes)))
-}
-
-fn record(alloc: Global, names: &[&[u8]], results: &[i128]) -> Result<Value, Fail>
-    ensures { IfOk result Normal }
-{
-    let mut texts = Vec::new(alloc);
-    for name in names {
-        let item = text(alloc, *name)?;
-        texts.push(item)?;
-    }
-    let right = numbers(alloc, results)?;
-    let value = record_at(alloc, texts.as_slice(), right)?;
-    Ok(value)
-}
-
-fn value(alloc: Global, given: &Given) -> Result<Value, Fail>
-    ensures { IfOk result Normal }
-{
-    match given {
-        Given::Truth(b) => Ok(truth(*b)),
-        Given::Number(n) => Ok(number(*n)),
-        Given::Text(bytes) => text(alloc, *bytes),
-        Given::Set(listed) => set(alloc, *listed),
-        Given::Seq(listed) => {
-            let items = numbers(alloc, *listed)?;
-            let value = sequence(alloc, items)?;
-            Ok(value)
-        }
-        Given::Fun(arguments, results) => function(alloc, *arguments, *results),
-        Given::Sets(listed) => sets(alloc, *listed),
-        Given::Named(names, results) => record(alloc, *names, *results),
-    }
-}
-
-fn values(alloc: Global, given: &[Given]) -> Result<Vec<Value>, Fail>
-    ensures { IfOk result (λ v. All Normal v.items) }
-{
-    let mut items = Vec::new(alloc);
-    for one in given {
-        let item = value(alloc, one)?;
-        items.push(item)?;
-    }
-    Ok(items)
-}
-
-// The text of the outcome at width 8.
-fn outcome(alloc: Global, op: &Op, given: &[Given]) -> Result<Vec<u8>, Fail> {
-    let operands = values(alloc, given)?;
-    let place = Place {
-        file: 0,
-        line: 3,
-        col: 5,
+    let nothing = State {
+        vals: List::new(alloc),
     };
-    let mut out = Vec::new(alloc);
-    match table(alloc, op, place, operands, 8)? {
-        Outcome::Val(v) => show(&v, &mut out)?,
-        Outcome::Wrong(p) => {
-            if p == place {
-                out.extend_from_slice(b"Wrong")?;
+    let unbound = Env {
+        vals: List::new(alloc),
+    };
+    let mut vals = Vec::new(alloc);
+    for e in trees {
+        if is_expanded(e) {
+            match eval(alloc, e, &unbound, &nothing, None, 64)? {
+                Outcome::Val(v) => vals.push(v)?,
+                _ => {}
             }
         }
-        Outcome::Big(p) => {
-            if p == place {
-                out.extend_from_slice(b"Big")?;
-            }
+    }
+    Ok(vals)
+}
+
+// Where `v` is bound to 7.
+fn environment(alloc: Global) -> Result<Env, AllocError>
+    ensures { IfOk result (λ e. All (λ b. Normal b.1) e.vals) }
+{
+    let name = Text::from_vec(Vec::from_slice(alloc, b"v")?);
+    let mut vals = List::new(alloc);
+    vals.push((name, whole(7)))?;
+    Ok(Env { vals })
+}
+
+// What is asked of the expressions of a line: the value of one; one as an action between two states; the start of
+// which they are CInit, the assumptions and Init; the step of one as Next; and the first invariant that is not TRUE.
+#[derive(Clone, Copy, Drop)]
+enum Question {
+    Value,
+    Action,
+    Start,
+    Step,
+    Invariant,
+}
+
+fn given(
+    alloc: Global,
+    question: Question,
+    text: &str,
+    s: &State,
+    t: &State,
+    width: u32,
+) -> Result<String, Fail>
+    requires narrow { width ≤ 64 }
+    requires wide { 4 ≤ width }
+    requires now { All Normal s.now.vals }
+    requires next { All Normal t.now.vals }
+{
+    let (trees, mark) = read(alloc, text.as_bytes())?;
+    match question {
+        Question::Value => valued(alloc, trees.as_slice(), s, t, width, mark),
+        Question::Action => acted(alloc, trees.as_slice(), s, t, width, mark),
+        Question::Start => started(alloc, trees, s, width, mark),
+        Question::Step => stepped(alloc, trees, s, t, width, mark),
+        Question::Invariant => kept(alloc, trees, s, width, mark),
+    }
+}
+
+fn valued(
+    alloc: Global,
+    trees: &[Expr],
+    s: &State,
+    t: &State,
+    width: u32,
+    mark: u32,
+) -> Result<String, Fail>
+    requires narrow { width ≤ 64 }
+    requires wide { 4 ≤ width }
+    requires now { All Normal s.now.vals }
+    requires next { All Normal t.now.vals }
+{
+    match trees {
+        [e] if is_expanded(e) => {
+            let env = environment(alloc)?;
+            let outcome = eval(alloc, e, &env, s, Some(t), width)?;
+            shown(alloc, outcome, mark)
+        }
+        _ => unreadable(alloc),
+    }
+}
+
+fn acted(
+    alloc: Global,
+    trees: &[Expr],
+    s: &State,
+    t: &State,
+    width: u32,
+    mark: u32,
+) -> Result<String, Fail>
+    requires narrow { width ≤ 64 }
+    requires wide { 4 ≤ width }
+    requires now { All Normal s.now.vals }
+    requires next { All Normal t.now.vals }
+{
+    match trees {
+        [e] if is_expanded(e) => {
+            let outcome = act(alloc, e, s, t, width)?;
+            shown(alloc, outcome, mark)
+        }
+        _ => unreadable(alloc),
+    }
+}
+
+fn started(
+    alloc: Global,
+    trees: Vec<Expr>,
+    s: &State,
+    width: u32,
+    mark: u32,
+) -> Result<String, Fail>
+    requires narrow { width ≤ 64 }
+    requires wide { 4 ≤ width }
+    requires now { All Normal s.now.vals }
+{
+    if trees.len() != 3 {
+        return unreadable(alloc);
+    }
+    let job = start_job(alloc, trees)?;
+    at_start(alloc, &job, s, width, mark)
+}
+
+fn at_start(alloc: Global, job: &Job, s: &State, width: u32, mark: u32) -> Result<String, Fail>
+    requires narrow { width ≤ 64 }
+    requires wide { 4 ≤ width }
+    requires now { All Normal s.now.vals }
+{
+    if is_expanded(&job.cinit) && is_expanded(&job.assume) && is_expanded(&job.init) {
+        let outcome = start(alloc, job, s, width)?;
+        shown(alloc, outcome, mark)
+    } else {
+        unreadable(alloc)
+    }
+}
+
+fn stepped(
+    alloc: Global,
+    trees: Vec<Expr>,
+    s: &State,
+    t: &State,
+    width: u32,
+    mark: u32,
+) -> Result<String, Fail>
+    requires narrow { width ≤ 64 }
+    requires wide { 4 ≤ width }
+    requires now { All Normal s.now.vals }
+    requires next { All Normal t.now.vals }
+{
+    if trees.len() != 1 {
+        return unreadable(alloc);
+    }
+    let job = step_job(alloc, trees)?;
+    at_step(alloc, &job, s, t, width, mark)
+}
+
+fn at_step(
+    alloc: Global,
+    job: &Job,
+    s: &State,
+    t: &State,
+    width: u32,
+    mark: u32,
+) -> Result<String, Fail>
+    requires narrow { width ≤ 64 }
+    requires wide { 4 ≤ width }
+    requires now { All Normal s.now.vals }
+    requires next { All Normal t.now.vals }
+{
+    if is_expanded(&job.next) {
+        let outcome = next(alloc, job, s, t, width)?;
+        shown(alloc, outcome, mark)
+    } else {
+        unreadable(alloc)
+    }
+}
+
+fn kept(alloc: Global, trees: Vec<Expr>, s: &State, width: u32, mark: u32) -> Result<String, Fail>
+    requires narrow { width ≤ 64 }
+    requires wide { 4 ≤ width }
+    requires now { All Normal s.now.vals }
+{
+    let count = trees.len();
+    let job = invariant_job(alloc, trees)?;
+    if job.invs.len() != count {
+        return unreadable(alloc);
+    }
+    at_invariants(alloc, &job, s, width, mark)
+}
+
+fn at_invariants(alloc: Global, job: &Job, s: &State, width: u32, mark: u32) -> Result<String, Fail>
+    requires narrow { width ≤ 64 }
+    requires wide { 4 ≤ width }
+    requires now { All Normal s.now.vals }
+    requires expanded { All (λ e. IsTrue (is_expanded e.1)) job.now.invs }
+{
+    let (number, outcome) = invariant(alloc, job, s, width)?;
+    let text = shown(alloc, outcome, mark)?;
+    let numbered = format!(in alloc; "{number} {text}")?;
+    Ok(numbered)
+}
+
+// ---- jobs, whose other parts are TRUE
+
+fn start_job(alloc: Global, mut trees: Vec<Expr>) -> Result<Job, AllocError> {
+    let names = declared(alloc)?;
+    let init = last(alloc, &mut trees);
+    let assume = last(alloc, &mut trees);
+    let cinit = last(alloc, &mut trees);
+    Ok(job(
+        alloc,
+        names,
+        cinit,
+        assume,
+        init,
+        truth(alloc),
+        List::new(alloc),
+    ))
+}
+
+fn step_job(alloc: Global, mut trees: Vec<Expr>) -> Result<Job, AllocError> {
+    let names = declared(alloc)?;
+    let next = last(alloc, &mut trees);
+    Ok(job(
+        alloc,
+        names,
+        truth(alloc),
+        truth(alloc),
+        truth(alloc),
+        next,
+        List::new(alloc),
+    ))
+}
+
+fn invariant_job(alloc: Global, trees: Vec<Expr>) -> Result<Job, AllocError>
+    ensures { IfOk result (λ j. All (λ e. IsTrue (is_expanded e.1)) j.invs) }
+{
+    let names = declared(alloc)?;
+    let invs = expanded(alloc, trees)?;
+    Ok(job(
+        alloc,
+        names,
+        truth(alloc),
+        truth(alloc),
+        truth(alloc),
+        truth(alloc),
+        invs,
+    ))
+}
+
+// Those of the trees that are expanded.
+fn expanded(alloc: Global, trees: Vec<Expr>) -> Result<List<(Text, Expr)>, AllocError>
+    ensures { IfOk result (λ l. All (λ e. IsTrue (is_expanded e.1)) l) }
+{
+    let mut invs = List::new(alloc);
+    for e in trees {
+        if is_expanded(&e) {
+            invs.push((Text::from_vec(Vec::new(alloc)), e))?;
+        }
+    }
+    Ok(invs)
+}
+
+fn job(
+    alloc: Global,
+    names: List<Decl>,
+    cinit: Expr,
+    assume: Expr,
+    init: Expr,
+    next: Expr,
+    invs: List<(Text, Expr)>,
+) -> Job
+    ensures { All (λ e. IsTrue (is_expanded e.1)) invs → All (λ e. IsTrue (is_expanded e.1)) result.invs }
+{
+    Job {
+        files: List::new(alloc),
+        names,
+        aliases: List::new(alloc),
+        cinit,
+        assume,
+        init,
+        next,
+        invs,
+    }
+}
+
+// The names, of which the first is a constant.
+fn declared(alloc: Global) -> Result<List<Decl>, AllocError> {
+    let mut names = List::new(alloc);
+    for (i, name) in NAMES.iter().enumerate() {
+        names.push(Decl {
+            name: Text::from_vec(Vec::from_slice(alloc, *name)?),
+            place: place(0),
+            constant: i == 0,
+            note: Text::from_vec(Vec::new(alloc)),
+        })?;
+    }
+    Ok(names)
+}
+
+fn last(alloc: Global, trees: &mut Vec<Expr>) -> Expr {
+    match trees.pop() {
+        Some(e) => e,
+        None => truth(alloc),
+    }
+}
+
+fn truth(alloc: Global) -> Expr {
+    Expr {
+        place: place(0),
+        op: Op::Bool(true),
+        args: List::new(alloc),
+        binds: List::new(alloc),
+    }
+}
+
+// The text of a value, or the word alone where a fault stands at the mark.
+fn shown(alloc: Global, outcome: Outcome, mark: u32) -> Result<String, Fail> {
+    match outcome {
+        Outcome::Val(v) => {
+            let mut out = Vec::new(alloc);
+            show(&v, &mut out)?;
+            let text = String::from_utf8(out)?;
+            Ok(text)
+        }
+        Outcome::Wrong(p) => fault(alloc, "wrong", p, mark),
+        Outcome::Big(p) => fault(alloc, "big", p, mark),
+    }
+}
+
+fn fault(alloc: Global, word: &str, p: Place, mark: u32) -> Result<String, Fail> {
+    let text = if p == place(mark) {
+        String::from_str(alloc, word)?
+    } else {
+        format!(in alloc; "{word} at {p:?}")?
+    };
+    Ok(text)
+}
+
+fn unreadable(alloc: Global) -> Result<String, Fail> {
+    let text = String::from_str(alloc, "not readable")?;
+    Ok(text)
+}
+
+// The lines of a table that give something else, each with what it gives.
+fn failing(
+    alloc: Global,
+    question: Question,
+    table: &str,
+    s: &State,
+    t: &State,
+    width: u32,
+) -> Result<String, Fail>
+    requires narrow { width ≤ 64 }
+    requires wide { 4 ≤ width }
+    requires now { All Normal s.now.vals }
+    requires next { All Normal t.now.vals }
+{
+    let mut out = String::new(alloc);
+    for line in table.lines() {
+        let (text, wanted) = line.split_once(" => ").unwrap_or((line, ""));
+        let found = given(alloc, question, text, s, t, width)?;
+        if found.as_str() != wanted {
+            let note = format!(in alloc; "{text} => {found}\n")?;
+            out.push_str(note.as_str())?;
         }
     }
     Ok(out)
 }
 
-// The first case whose outcome is not the one that is wanted.
-fn first_wrong(alloc: Global, op: &Op, cases: &[(&[Given], &[u8])]) -> Result<usize, Fail> {
-    for (i, case) in cases.iter().enumerate() {
-        let got = outcome(alloc, op, case.0)?;
-        if got.as_slice() != case.1 {
-            return Ok(i);
-        }
+#[test]
+fn each_case_gives_what_the_language_says(rt: HostRuntime) -> Result<(), Fail> {
+    let alloc = rt.alloc();
+    let s = state(alloc, NOW)?;
+    let t = state(alloc, NEXT)?;
+    assert_eq!(rt; (s.vals.len(), t.vals.len()), (NAMES.len(), NAMES.len()));
+    let mut all = String::new(alloc);
+    for (question, width, table) in TABLES {
+        assert!(rt; 4 <= width && width <= 64);
+        let failing = failing(alloc, question, table, &s, &t, width)?;
+        all.push_str(failing.as_str())?;
     }
-    Ok(cases.len())
-}
-
-#[test]
-fn truth_values_and_equality(rt: HostRuntime) -> Result<(), Fail> {
-    let alloc = rt.alloc();
-    let not: [(&[Given], &[u8]); 4] = [
-        (&[Truth(true)], b"FALSE"),
-        (&[Truth(false)], b"TRUE"),
-        (&[Number(1)], b"Wrong"),
-        (&[], b"Wrong"),
-    ];
-    assert_eq!(rt; first_wrong(alloc, &Op::Not, &not)?, not.len());
-    let iff: [(&[Given], &[u8]); 4] = [
-        (&[Truth(true), Truth(true)], b"TRUE"),
-        (&[Truth(true), Truth(false)], b"FALSE"),
-        (&[Truth(false), Truth(false)], b"TRUE"),
-        (&[Truth(true), Number(1)], b"Wrong"),
-    ];
-    assert_eq!(rt; first_wrong(alloc, &Op::Iff, &iff)?, iff.len());
-    let eq: [(&[Given], &[u8]); 7] = [
-        (&[Number(1), Number(1)], b"TRUE"),
-        (&[Number(1), Number(2)], b"FALSE"),
-        (&[Number(1), Truth(true)], b"FALSE"),
-        (&[Set(&[2, 1]), Set(&[1, 2])], b"TRUE"),
-        (&[Seq(&[5]), Fun(&[1], &[5])], b"TRUE"),
-        (&[Set(&[]), Seq(&[])], b"FALSE"),
-        (&[Given::Text(b"a"), Given::Text(b"a")], b"TRUE"),
-    ];
-    assert_eq!(rt; first_wrong(alloc, &Op::Eq, &eq)?, eq.len());
-    let ne: [(&[Given], &[u8]); 3] = [
-        (&[Number(1), Truth(true)], b"TRUE"),
-        (&[Number(1), Number(1)], b"FALSE"),
-        (&[Number(1)], b"Wrong"),
-    ];
-    assert_eq!(rt; first_wrong(alloc, &Op::Ne, &ne)?, ne.len());
-    let assign: [(&[Given], &[u8]); 1] = [(&[Number(1), Number(1)], b"TRUE")];
-    assert_eq!(rt; first_wrong(alloc, &Op::Assign, &assign)?, assign.len());
-    Ok(())
-}
-
-#[test]
-fn orders_and_sums(rt: HostRuntime) -> Result<(), Fail> {
-    let alloc = rt.alloc();
-    let lt: [(&[Given], &[u8]); 4] = [
-        (&[Number(1), Number(2)], b"TRUE"),
-        (&[Number(2), Number(2)], b"FALSE"),
-        (&[Number(-1), Number(0)], b"TRUE"),
-        (&[Number(1), Truth(true)], b"Wrong"),
-    ];
-    assert_eq!(rt; first_wrong(alloc, &Op::Lt, &lt)?, lt.len());
-    let gt: [(&[Given], &[u8]); 2] = [
-        (&[Number(2), Number(1)], b"TRUE"),
-        (&[Number(1), Number(1)], b"FALSE"),
-    ];
-    assert_eq!(rt; first_wrong(alloc, &Op::Gt, &gt)?, gt.len());
-    let le: [(&[Given], &[u8]); 2] = [
-        (&[Number(2), Number(2)], b"TRUE"),
-        (&[Number(3), Number(2)], b"FALSE"),
-    ];
-    assert_eq!(rt; first_wrong(alloc, &Op::Le, &le)?, le.len());
-    let ge: [(&[Given], &[u8]); 2] = [
-        (&[Number(1), Number(2)], b"FALSE"),
-        (&[Number(2), Number(2)], b"TRUE"),
-    ];
-    assert_eq!(rt; first_wrong(alloc, &Op::Ge, &ge)?, ge.len());
-    let add: [(&[Given], &[u8]); 4] = [
-        (&[Number(1), Number(2)], b"3"),
-        (&[Number(127), Number(1)], b"Big"),
-        (&[Number(i128::MAX), Number(i128::MAX)], b"Big"),
-        (&[Number(1), Truth(true)], b"Wrong"),
-    ];
-    assert_eq!(rt; first_wrong(alloc, &Op::Add, &add)?, add.len());
-    let sub: [(&[Given], &[u8]); 3] = [
-        (&[Number(1), Number(2)], b"-1"),
-        (&[Number(-128), Number(1)], b"Big"),
-        (&[Number(i128::MIN), Number(1)], b"Big"),
-    ];
-    assert_eq!(rt; first_wrong(alloc, &Op::Sub, &sub)?, sub.len());
-    let mul: [(&[Given], &[u8]); 4] = [
-        (&[Number(16), Number(8)], b"Big"),
-        (&[Number(-16), Number(8)], b"-128"),
-        (&[Number(i128::MAX), Number(i128::MIN)], b"Big"),
-        (&[Number(0), Number(i128::MIN)], b"0"),
-    ];
-    assert_eq!(rt; first_wrong(alloc, &Op::Mul, &mul)?, mul.len());
-    let neg: [(&[Given], &[u8]); 4] = [
-        (&[Number(5)], b"-5"),
-        (&[Number(-128)], b"Big"),
-        (&[Number(i128::MIN)], b"Big"),
-        (&[Truth(true)], b"Wrong"),
-    ];
-    assert_eq!(rt; first_wrong(alloc, &Op::Neg, &neg)?, neg.len());
-    Ok(())
-}
-
-#[test]
-fn quotients_powers_and_ranges(rt: HostRuntime) -> Result<(), Fail> {
-    let alloc = rt.alloc();
-    let div: [(&[Given], &[u8]); 6] = [
-        (&[Number(-7), Number(2)], b"-4"),
-        (&[Number(7), Number(2)], b"3"),
-        (&[Number(1), Number(0)], b"Wrong"),
-        (&[Number(1), Number(-1)], b"Wrong"),
-        (&[Number(300), Number(2)], b"Big"),
-        (&[Number(300), Number(3)], b"100"),
-    ];
-    assert_eq!(rt; first_wrong(alloc, &Op::Div, &div)?, div.len());
-    let modulo: [(&[Given], &[u8]); 4] = [
-        (&[Number(-7), Number(2)], b"1"),
-        (&[Number(7), Number(3)], b"1"),
-        (&[Number(1), Number(0)], b"Wrong"),
-        (&[Number(1), Number(-2)], b"Wrong"),
-    ];
-    assert_eq!(rt; first_wrong(alloc, &Op::Mod, &modulo)?, modulo.len());
-    let pow: [(&[Given], &[u8]); 8] = [
-        (&[Number(2), Number(6)], b"64"),
-        (&[Number(2), Number(7)], b"Big"),
-        (&[Number(-2), Number(7)], b"-128"),
-        (&[Number(0), Number(0)], b"1"),
-        (&[Number(0), Number(5)], b"0"),
-        (&[Number(-1), Number(101)], b"-1"),
-        (&[Number(3), Number(1000000)], b"Big"),
-        (&[Number(2), Number(-1)], b"Wrong"),
-    ];
-    assert_eq!(rt; first_wrong(alloc, &Op::Pow, &pow)?, pow.len());
-    let range: [(&[Given], &[u8]); 5] = [
-        (&[Number(1), Number(3)], b"{1, 2, 3}"),
-        (&[Number(3), Number(1)], b"{}"),
-        (&[Number(-1), Number(0)], b"{-1, 0}"),
-        (&[Number(5), Number(5)], b"{5}"),
-        (&[Number(1), Truth(true)], b"Wrong"),
-    ];
-    assert_eq!(rt; first_wrong(alloc, &Op::Range, &range)?, range.len());
-    Ok(())
-}
-
-#[test]
-fn sets_and_their_members(rt: HostRuntime) -> Result<(), Fail> {
-    let alloc = rt.alloc();
-    let setenum: [(&[Given], &[u8]); 3] = [
-        (&[Number(3), Number(1), Number(3)], b"{1, 3}"),
-        (&[], b"{}"),
-        (&[Number(1), Truth(true)], b"{TRUE, 1}"),
-    ];
-    assert_eq!(rt; first_wrong(alloc, &Op::SetEnum, &setenum)?, setenum.len());
-    let cup: [(&[Given], &[u8]); 3] = [
-        (&[Set(&[1, 3]), Set(&[2, 3])], b"{1, 2, 3}"),
-        (&[Set(&[]), Set(&[])], b"{}"),
-        (&[Set(&[1]), Number(1)], b"Wrong"),
-    ];
-    assert_eq!(rt; first_wrong(alloc, &Op::Cup, &cup)?, cup.len());
-    let cap: [(&[Given], &[u8]); 2] = [
-        (&[Set(&[1, 2]), Set(&[2, 3])], b"{2}"),
-        (&[Set(&[1]), Set(&[2])], b"{}"),
-    ];
-    assert_eq!(rt; first_wrong(alloc, &Op::Cap, &cap)?, cap.len());
-    let minus: [(&[Given], &[u8]); 2] = [
-        (&[Set(&[1, 2]), Set(&[2])], b"{1}"),
-        (&[Seq(&[1]), Set(&[2])], b"Wrong"),
-    ];
-    assert_eq!(rt; first_wrong(alloc, &Op::Minus, &minus)?, minus.len());
-    let bigunion: [(&[Given], &[u8]); 4] = [
-        (&[Sets(&[&[1], &[3, 2], &[]])], b"{1, 2, 3}"),
-        (&[Set(&[])], b"{}"),
-        (&[Set(&[1])], b"Wrong"),
-        (&[Number(1)], b"Wrong"),
-    ];
-    assert_eq!(rt;
-        first_wrong(alloc, &Op::BigUnion, &bigunion)?,
-        bigunion.len()
-    );
-    let booleanset: [(&[Given], &[u8]); 1] = [(&[], b"{FALSE, TRUE}")];
-    assert_eq!(rt;
-        first_wrong(alloc, &Op::BooleanSet, &booleanset)?,
-        booleanset.len()
-    );
-    let cardinality: [(&[Given], &[u8]); 3] = [
-        (&[Set(&[1, 1, 2])], b"2"),
-        (&[Set(&[])], b"0"),
-        (&[Number(1)], b"Wrong"),
-    ];
-    assert_eq!(rt;
-        first_wrong(alloc, &Op::Cardinality, &cardinality)?,
-        cardinality.len()
-    );
-    let isfinite: [(&[Given], &[u8]); 2] = [(&[Set(&[1])], b"TRUE"), (&[Truth(true)], b"Wrong")];
-    assert_eq!(rt;
-        first_wrong(alloc, &Op::IsFinite, &isfinite)?,
-        isfinite.len()
-    );
-    let intset: [(&[Given], &[u8]); 1] = [(&[], b"Wrong")];
-    assert_eq!(rt; first_wrong(alloc, &Op::IntSet, &intset)?, intset.len());
-    let outside: [(&[Given], &[u8]); 1] = [(&[], b"Wrong")];
-    assert_eq!(rt;
-        first_wrong(alloc, &Op::Outside(Form::Choose), &outside)?,
-        outside.len()
-    );
-    Ok(())
-}
-
-#[test]
-fn sets_of_sets_functions_and_tuples(rt: HostRuntime) -> Result<(), Fail> {
-    let alloc = rt.alloc();
-    let powerset: [(&[Given], &[u8]); 3] = [
-        (&[Set(&[])], b"{{}}"),
-        (&[Set(&[1, 2])], b"{{}, {1}, {1, 2}, {2}}"),
-        (&[Number(5)], b"Wrong"),
-    ];
-    assert_eq!(rt;
-        first_wrong(alloc, &Op::Powerset, &powerset)?,
-        powerset.len()
-    );
-    let funset: [(&[Given], &[u8]); 5] = [
-        (&[Set(&[1]), Set(&[5, 6])], b"{<<5>>, <<6>>}"),
-        (&[Set(&[]), Set(&[1])], b"{<<>>}"),
-        (&[Set(&[1]), Set(&[])], b"{}"),
-        (&[Set(&[0]), Set(&[5])], b"{(0 :> 5)}"),
-        (&[Number(1), Set(&[])], b"Wrong"),
-    ];
-    assert_eq!(rt; first_wrong(alloc, &Op::FunSet, &funset)?, funset.len());
-    let product: [(&[Given], &[u8]); 3] = [
-        (&[Set(&[1]), Set(&[2, 3])], b"{<<1, 2>>, <<1, 3>>}"),
-        (&[Set(&[1]), Set(&[])], b"{}"),
-        (&[Number(1), Set(&[])], b"Wrong"),
-    ];
-    assert_eq!(rt; first_wrong(alloc, &Op::Product, &product)?, product.len());
-    Ok(())
-}
-
-#[test]
-fn functions_and_records(rt: HostRuntime) -> Result<(), Fail> {
-    let alloc = rt.alloc();
-    let apply: [(&[Given], &[u8]); 4] = [
-        (&[Fun(&[3], &[7]), Number(3)], b"7"),
-        (&[Fun(&[3], &[7]), Number(4)], b"Wrong"),
-        (&[Seq(&[5, 6]), Number(2)], b"6"),
-        (&[Number(1), Number(1)], b"Wrong"),
-    ];
-    assert_eq!(rt; first_wrong(alloc, &Op::Apply, &apply)?, apply.len());
-    let domain: [(&[Given], &[u8]); 4] = [
-        (&[Seq(&[5, 6])], b"{1, 2}"),
-        (&[Fun(&[3], &[7])], b"{3}"),
-        (&[Seq(&[])], b"{}"),
-        (&[Number(1)], b"Wrong"),
-    ];
-    assert_eq!(rt; first_wrong(alloc, &Op::Domain, &domain)?, domain.len());
-    let merge: [(&[Given], &[u8]); 3] = [
-        (&[Fun(&[1], &[5]), Fun(&[1, 2], &[6, 7])], b"<<5, 7>>"),
-        (&[Seq(&[]), Seq(&[])], b"<<>>"),
-        (&[Seq(&[]), Number(1)], b"Wrong"),
-    ];
-    assert_eq!(rt; first_wrong(alloc, &Op::Merge, &merge)?, merge.len());
-    let single: [(&[Given], &[u8]); 3] = [
-        (&[Number(3), Number(4)], b"(3 :> 4)"),
-        (&[Number(1), Truth(true)], b"<<TRUE>>"),
-        (&[Number(1)], b"Wrong"),
-    ];
-    assert_eq!(rt; first_wrong(alloc, &Op::Single, &single)?, single.len());
-    Ok(())
-}
-
-#[test]
-fn sequences(rt: HostRuntime) -> Result<(), Fail> {
-    let alloc = rt.alloc();
-    let tuple: [(&[Given], &[u8]); 3] = [
-        (&[Number(1), Truth(true)], b"<<1, TRUE>>"),
-        (&[], b"<<>>"),
-        (&[Seq(&[1]), Set(&[2])], b"<<<<1>>, {2}>>"),
-    ];
-    assert_eq!(rt; first_wrong(alloc, &Op::Tuple, &tuple)?, tuple.len());
-    let len: [(&[Given], &[u8]); 4] = [
-        (&[Seq(&[1, 2])], b"2"),
-        (&[Seq(&[])], b"0"),
-        (&[Fun(&[2], &[1])], b"Wrong"),
-        (&[Set(&[1])], b"Wrong"),
-    ];
-    assert_eq!(rt; first_wrong(alloc, &Op::Len, &len)?, len.len());
-    let append: [(&[Given], &[u8]); 2] = [
-        (&[Seq(&[1]), Number(2)], b"<<1, 2>>"),
-        (&[Fun(&[0], &[1]), Number(2)], b"Wrong"),
-    ];
-    assert_eq!(rt; first_wrong(alloc, &Op::Append, &append)?, append.len());
-    let concat: [(&[Given], &[u8]); 3] = [
-        (&[Seq(&[1]), Seq(&[2, 3])], b"<<1, 2, 3>>"),
-        (&[Seq(&[]), Seq(&[])], b"<<>>"),
-        (&[Seq(&[1]), Fun(&[2], &[1])], b"Wrong"),
-    ];
-    assert_eq!(rt; first_wrong(alloc, &Op::Concat, &concat)?, concat.len());
-    let head: [(&[Given], &[u8]); 2] = [(&[Seq(&[5, 6])], b"5"), (&[Seq(&[])], b"Wrong")];
-    assert_eq!(rt; first_wrong(alloc, &Op::Head, &head)?, head.len());
-    let tail: [(&[Given], &[u8]); 3] = [
-        (&[Seq(&[5, 6])], b"<<6>>"),
-        (&[Seq(&[5])], b"<<>>"),
-        (&[Seq(&[])], b"Wrong"),
-    ];
-    assert_eq!(rt; first_wrong(alloc, &Op::Tail, &tail)?, tail.len());
-    let subseq: [(&[Given], &[u8]); 7] = [
-        (&[Seq(&[1, 2, 3]), Number(2), Number(3)], b"<<2, 3>>"),
-        (&[Seq(&[1, 2, 3]), Number(1), Number(1)], b"<<1>>"),
-        (&[Seq(&[1, 2, 3]), Number(3), Number(2)], b"<<>>"),
-        (&[Seq(&[1, 2, 3]), Number(0), Number(1)], b"Wrong"),
-        (&[Seq(&[1, 2, 3]), Number(2), Number(4)], b"Wrong"),
-        (&[Seq(&[1, 2, 3]), Number(9), Number(-9)], b"<<>>"),
-        (&[Fun(&[2], &[1]), Number(3), Number(2)], b"Wrong"),
-    ];
-    assert_eq!(rt; first_wrong(alloc, &Op::SubSeq, &subseq)?, subseq.len());
-    Ok(())
-}
-
-#[test]
-fn records_and_long_sequences(rt: HostRuntime) -> Result<(), Fail> {
-    let alloc = rt.alloc();
-    let mut names = Vec::new(alloc);
-    names.push(Text::from_vec(Vec::from_slice(alloc, b"b")?))?;
-    names.push(Text::from_vec(Vec::from_slice(alloc, b"a")?))?;
-    let record: [(&[Given], &[u8]); 1] = [(&[Number(1), Truth(true)], b"[a |-> TRUE, b |-> 1]")];
-    assert_eq!(rt;
-        first_wrong(alloc, &Op::Record(List::from_vec(names)), &record)?,
-        1
-    );
-    let mut name = Vec::new(alloc);
-    name.push(Text::from_vec(Vec::from_slice(alloc, b"a")?))?;
-    let records: [(&[Given], &[u8]); 2] = [
-        (&[Set(&[2, 1])], b"{[a |-> 1], [a |-> 2]}"),
-        (&[Number(1)], b"Wrong"),
-    ];
-    assert_eq!(rt;
-        first_wrong(alloc, &Op::RecSet(List::from_vec(name)), &records)?,
-        2
-    );
-    let field: [(&[Given], &[u8]); 3] = [
-        (&[Named(&[b"b", b"a"], &[1, 2])], b"2"),
-        (&[Named(&[b"b"], &[1])], b"Wrong"),
-        (&[Number(1)], b"Wrong"),
-    ];
-    let a = Text::from_vec(Vec::from_slice(alloc, b"a")?);
-    assert_eq!(rt; first_wrong(alloc, &Op::Field(a), &field)?, 3);
-    let long: [(&[Given], &[u8]); 1] = [(&[Seq(&[0; 128])], b"Big")];
-    assert_eq!(rt; first_wrong(alloc, &Op::Len, &long)?, 1);
-    assert_eq!(rt; first_wrong(alloc, &Op::Domain, &long)?, 1);
-    Ok(())
-}
-
-// A set form: `Int`, `Nat`, `STRING`, `Seq(Int)`, `SUBSET Nat`, the functions from a set of numbers to `Int`, `[a: Int]`,
-// `Int \X Nat`, a set of numbers, or a number, which is no set.
-#[derive(Clone, Copy, Drop)]
-enum Rule {
-    Ints,
-    Nats,
-    Texts,
-    Sequences,
-    Subsets,
-    Functions(&'static [i128]),
-    Records,
-    Pairs,
-    Plain(&'static [i128]),
-    NoSet(i128),
-}
-
-fn made_form(alloc: Global, kind: &Rule) -> Result<SetRule, Fail> {
-    match kind {
-        Rule::Ints => Ok(SetRule::AllInts),
-        Rule::Nats => Ok(SetRule::AllNats),
-        Rule::Texts => Ok(SetRule::AllTexts),
-        Rule::Sequences => {
-            let items = Box::new(alloc, SetRule::AllInts)?;
-            Ok(SetRule::Sequences(items))
-        }
-        Rule::Subsets => {
-            let items = Box::new(alloc, SetRule::AllNats)?;
-            Ok(SetRule::Subsets(items))
-        }
-        Rule::Functions(arguments) => {
-            let arguments = numbers(alloc, *arguments)?;
-            let results = Box::new(alloc, SetRule::AllInts)?;
-            Ok(SetRule::Functions(List::from_vec(arguments), results))
-        }
-        Rule::Records => {
-            let name = Vec::from_slice(alloc, b"a")?;
-            let mut names = List::new(alloc);
-            names.push(Text::from_vec(name))?;
-            let mut forms = List::new(alloc);
-            forms.push(SetRule::AllInts)?;
-            Ok(SetRule::Records(names, forms))
-        }
-        Rule::Pairs => {
-            let mut forms = List::new(alloc);
-            forms.push(SetRule::AllInts)?;
-            forms.push(SetRule::AllNats)?;
-            Ok(SetRule::Tuples(forms))
-        }
-        Rule::Plain(listed) => {
-            let value = set(alloc, *listed)?;
-            Ok(SetRule::Plain(value))
-        }
-        Rule::NoSet(n) => Ok(SetRule::Plain(Value::Int(*n))),
-    }
-}
-
-// The first case that is answered otherwise.
-fn first_wrong_member(alloc: Global, cases: &[(Given, Rule, bool)]) -> Result<usize, Fail> {
-    for (i, case) in cases.iter().enumerate() {
-        let v = value(alloc, &case.0)?;
-        let form = made_form(alloc, &case.1)?;
-        if belongs(&form, &v) != case.2 {
-            return Ok(i);
-        }
-    }
-    Ok(cases.len())
-}
-
-#[test]
-fn values_belong_to_set_forms(rt: HostRuntime) -> Result<(), Fail> {
-    let plain = [
-        (Number(-1), Rule::Ints, true),
-        (Truth(true), Rule::Ints, false),
-        (Number(0), Rule::Nats, true),
-        (Number(-1), Rule::Nats, false),
-        (Given::Text(b"a"), Rule::Texts, true),
-        (Number(1), Rule::Texts, false),
-        (Number(2), Rule::Plain(&[1, 2]), true),
-        (Number(3), Rule::Plain(&[1, 2]), false),
-        (Truth(true), Rule::Plain(&[1]), false),
-        (Number(5), Rule::NoSet(5), false),
-    ];
-    assert_eq!(rt; first_wrong_member(rt.alloc(), &plain)?, plain.len());
-    Ok(())
-}
-
-#[test]
-fn sequences_sets_and_functions_belong_by_their_parts(rt: HostRuntime) -> Result<(), Fail> {
-    let parts = [
-        (Seq(&[1, 2]), Rule::Sequences, true),
-        (Seq(&[]), Rule::Sequences, true),
-        (Fun(&[0], &[1]), Rule::Sequences, false),
-        (Set(&[1]), Rule::Sequences, false),
-        (Set(&[0, 1]), Rule::Subsets, true),
-        (Set(&[-1, 1]), Rule::Subsets, false),
-        (Seq(&[]), Rule::Subsets, false),
-        (Fun(&[3], &[7]), Rule::Functions(&[3]), true),
-        (Fun(&[3, 4], &[7, 7]), Rule::Functions(&[3]), false),
-        (Fun(&[3], &[7]), Rule::Functions(&[3, 4]), false),
-        (Seq(&[]), Rule::Functions(&[]), true),
-        (Named(&[b"a"], &[1]), Rule::Records, true),
-        (Named(&[b"a", b"b"], &[1, 1]), Rule::Records, false),
-        (Named(&[b"b"], &[1]), Rule::Records, false),
-        (Seq(&[-1, 1]), Rule::Pairs, true),
-        (Seq(&[1, -1]), Rule::Pairs, false),
-        (Seq(&[1]), Rule::Pairs, false),
-    ];
-    assert_eq!(rt; first_wrong_member(rt.alloc(), &parts)?, parts.len());
-    Ok(())
-}
-
-#[test]
-fn only_a_plain_value_may_be_no_set(rt: HostRuntime) -> Result<(), Fail> {
-    let alloc = rt.alloc();
-    assert!(rt; is_set_form(&made_form(alloc, &Rule::Pairs)?));
-    assert!(rt; is_set_form(&made_form(alloc, &Rule::Plain(&[1]))?));
-    assert!(rt; !is_set_form(&made_form(alloc, &Rule::NoSet(5))?));
-    let numbers = numbers(alloc, &[0, 1, -1])?;
-    assert!(rt; all_belong(&SetRule::AllInts, numbers.as_slice()));
-    assert!(rt; !all_belong(&SetRule::AllNats, numbers.as_slice()));
+    assert_eq!(rt; all.as_str(), "");
     Ok(())
 }
