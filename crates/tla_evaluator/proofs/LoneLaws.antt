@@ -11,7 +11,8 @@ use Rattle.tla_meaning.specs.Actions.{meaning, node}
 use Rattle.tla_meaning.specs.Meaning.{Meaning}
 use Rattle.tla_meaning.specs.Numbers.{Width}
 use Rattle.tla_meaning.specs.Scopes.{Scope, Sense, nonsense}
-use Rattle.tla_meaning.proofs.Laws.{Test, simulate}
+use Rattle.tla_meaning.specs.Substitution.{Test}
+use Rattle.tla_meaning.proofs.Laws.{simulate}
 use Rattle.tla_meaning.proofs.Views.{AllAgree}
 use Rattle.tla_meaning.proofs.NormalTable.{NormalOutcome}
 use Rattle.tla_meaning.proofs.NormalNodes.{NormalSense, nonsense_normal}

@@ -10,10 +10,13 @@ use Rattle.tla_meaning.specs.Numbers.{Width}
 use Rattle.tla_meaning.specs.Scopes.{Scope, Sense, bind, bound_to, pass, find_last, or_else, stands_for}
 use Rattle.tla_meaning.specs.Meaning.{Meaning, senses, Role, Named, Held, Lets, Plain_role, role, view}
 use Rattle.tla_meaning.specs.Actions.{meaning, node, sense_of}
+use Rattle.tla_meaning.specs.FreeNames.{closed}
+use Rattle.tla_meaning.specs.Substitution.{each, apart, lets_apart, binds_apart, put, Within}
+use Rattle.tla_meaning.specs.Renamings.{Renaming, OneToOne, rename}
 use Rattle.tla_meaning.proofs.MeaningLemmas.{meaning-roll}
-use Rattle.tla_meaning.proofs.Views.{AllAgree, marked, Survives, SameNames, same-named, same-held, same-lets, same-under, node_same, senses_same, apart, lets_apart, and_left, and_right, false≢true}
-use Rattle.tla_meaning.proofs.Laws.{each, simulate, more, unseen, missed, missed-one, none, meanings, closed, frame, put, Within, binds_apart, none≢some}
-use Rattle.tla_meaning.proofs.Renaming.{Renaming, OneToOne, rename, inlined}
+use Rattle.tla_meaning.proofs.Views.{AllAgree, marked, Survives, SameNames, same-named, same-held, same-lets, same-under, node_same, senses_same, and_left, and_right, false≢true}
+use Rattle.tla_meaning.proofs.Laws.{simulate, more, unseen, missed, missed-one, none, meanings, frame, none≢some}
+use Rattle.tla_meaning.proofs.Renaming.{inlined}
 use Rattle.tla_meaning.proofs.Free.{renaming_free}
 
 -- parameters and body

@@ -9,10 +9,12 @@ use Rattle.tla_meaning.specs.Numbers.{Width}
 use Rattle.tla_meaning.specs.Scopes.{Scope, bind, bound_to, find_last, or_else, same_text}
 use Rattle.tla_meaning.specs.Meaning.{Meaning, Role, Named, Held, Lets, Plain_role, role, view}
 use Rattle.tla_meaning.specs.Actions.{meaning, node, sense_of}
+use Rattle.tla_meaning.specs.FreeNames.{role_reads, marks, with_names, closed_all, closed_layer, closed}
+use Rattle.tla_meaning.specs.Renamings.{Renaming, OneToOne, rename_op, rename_role, rename_binds, rename_layer, rename}
 use Rattle.tla_meaning.proofs.MeaningLemmas.{meaning-roll}
 use Rattle.tla_meaning.proofs.Views.{Marked, Survives, SameNames, same-named, same-held, same-lets, same-under, view_same, and_left, and_right}
-use Rattle.tla_meaning.proofs.Laws.{find-append, more, none, apart-none, lets-none, meanings, closed, closed_layer, closed_all, marks, with_names, role_reads, or_right, in_bound, all_of}
-use Rattle.tla_meaning.proofs.Renaming.{Renaming, OneToOne, rename, rename_layer, rename_op, rename_role, rename_binds, bound-rename, length-rename, role-rename, sense-rename}
+use Rattle.tla_meaning.proofs.Laws.{find-append, more, none, apart-none, lets-none, meanings, or_right, in_bound, all_of}
+use Rattle.tla_meaning.proofs.Renaming.{bound-rename, length-rename, role-rename, sense-rename}
 
 abbrev pub Family : Type 1
 Family = (List ℕ → Bool) → Scope → Scope → Type 0

@@ -10,23 +10,19 @@ use Rattle.tla_values.specs.Order.{text_cmp}
 use Rattle.tla_values.proofs.TotalLemmas.{texts_equal}
 use Rattle.tla_meaning.specs.declared.expr.Expr.{Expr, roll-Expr}
 use Rattle.tla_meaning.specs.declared.expr.Expr.TheOpen.{Expr-F}
-use Rattle.tla_meaning.specs.declared.expr.Expr.TheFolds.{fold-Expr, fold-roll-Expr, map-Expr, ind-Expr}
+use Rattle.tla_meaning.specs.declared.expr.Expr.TheFolds.{fold-roll-Expr, map-Expr, ind-Expr}
 use Rattle.tla_meaning.specs.declared.op.Op.{Op}
 use Rattle.tla_meaning.specs.declared.place.Place.{Place}
 use Rattle.tla_meaning.specs.Numbers.{Width}
 use Rattle.tla_meaning.specs.Scopes.{Scope, Sense, bind, bound_to, find_last, or_else, same_text, stands_for}
 use Rattle.tla_meaning.specs.Meaning.{Meaning, senses, Role, Named, Held, Lets, Plain_role, role, view}
 use Rattle.tla_meaning.specs.Actions.{meaning, node, sense_of}
+use Rattle.tla_meaning.specs.FreeNames.{SameOn, role_reads, marks, with_names, closed_all, closed_layer, closed}
+use Rattle.tla_meaning.specs.Substitution.{Test, each, apart, lets_apart, binds_apart, Given, target, replaced, put, Within, give}
 use Rattle.tla_meaning.proofs.MeaningLemmas.{meaning-roll}
-use Rattle.tla_meaning.proofs.Views.{AllAgree, Marked, marked, Survives, SameNames, same-named, same-held, same-lets, same-under, apart, lets_apart, and_left, and_right, false≢true, node_same}
+use Rattle.tla_meaning.proofs.Views.{AllAgree, Marked, marked, Survives, SameNames, same-named, same-held, same-lets, same-under, and_left, and_right, false≢true, node_same}
 
 -- ---- a test of each node
-
-abbrev pub Test : Type 0
-Test = Op → List (List ℕ) → Bool
-
-abbrev pub each : Test → Expr → Bool
-each test = fold-Expr Bool (λ x. test x.op x.binds && list_all (λ b. b) x.args)
 
 each-roll : (test : Test) (x : Expr-F Expr) →
     each test (roll-Expr x) ≡ (test x.op x.binds && list_all (λ b. b) (map (each test) x.args))
@@ -130,41 +126,6 @@ unseen x es gs e = find-append x es gs ∙ ap (λ o. or_else o (find_last x es))
 
 -- ---- the frame law
 
--- scopes that agree on two sets of names
-abbrev pub SameOn : (List ℕ → Bool) → (List ℕ → Bool) → Scope → Scope → Type 0
-SameOn N B a b =
-    ((x : List ℕ) → IsTrue (B x) → find_last x a.bound ≡ find_last x b.bound)
-    × ((x : List ℕ) → IsTrue (N x) → find_last x a.named ≡ find_last x b.named)
-
-abbrev pub role_reads : (List ℕ → Bool) → (List ℕ → Bool) → Role → Bool
-role_reads N B (Named x) = N x
-role_reads N B (Held x) = B x
-role_reads N B (Lets ds) = true
-role_reads N B (Plain_role ms) = true
-
-abbrev pub marks : Role → List Bool
-marks (Named x) = []
-marks (Held x) = []
-marks (Lets ds) = []
-marks (Plain_role ms) = ms
-
-abbrev pub with_names : List (List ℕ) → (List ℕ → Bool) → List ℕ → Bool
-with_names xs B x = list_any (same_text x) xs || B x
-
-abbrev pub closed_all : List Bool → List (List ℕ) → List ((List ℕ → Bool) → Bool) → (List ℕ → Bool) → Bool
-closed_all ms xs [] B = true
-closed_all [] xs (k ∷ ks) B = k B && closed_all [] xs ks B
-closed_all (true ∷ ms) xs (k ∷ ks) B = k (with_names xs B) && closed_all ms xs ks B
-closed_all (false ∷ ms) xs (k ∷ ks) B = k B && closed_all ms xs ks B
-
-abbrev pub closed_layer : (List ℕ → Bool) → Expr-F ((List ℕ → Bool) → Bool) → (List ℕ → Bool) → Bool
-closed_layer N x B =
-    role_reads N B (role x.op (length x.binds)) && closed_all (marks (role x.op (length x.binds))) x.binds x.args B
-
--- whether the free names of a tree lie in these sets
-abbrev pub closed : (List ℕ → Bool) → Expr → (List ℕ → Bool) → Bool
-closed N = fold-Expr ((List ℕ → Bool) → Bool) (closed_layer N)
-
 abbrev pub none : List ℕ → Bool
 none x = false
 
@@ -265,23 +226,6 @@ frame w N = ind-Expr (Framed w N) (λ x y is.
 
 -- ---- substitution
 
-abbrev pub Given : Type 0
-Given = List (List ℕ × Expr)
-
-abbrev pub target : Given → Role → Option Expr
-target σ (Named x) = find_last x σ
-target σ (Held x) = None
-target σ (Lets ds) = None
-target σ (Plain_role ms) = None
-
-abbrev pub replaced : Option Expr → Expr-F Expr → Expr
-replaced None x = roll-Expr x
-replaced (Some e) x = e
-
--- the tree with the tree of each name at its uses
-abbrev pub put : Given → Expr → Expr
-put σ = fold-Expr Expr (λ x. replaced (target σ (role x.op (length x.binds))) x)
-
 abbrev pub said : Width → Scope → Option Expr → Option (List Sense → Sense)
 said w a None = None
 said w a (Some e) = Some (λ _. meaning w e a)
@@ -291,15 +235,6 @@ abbrev pub Stands : Width → Given → Scope → Scope → Type 0
 Stands w σ a b =
     ((x : List ℕ) → find_last x a.bound ≡ find_last x b.bound)
     × ((x : List ℕ) → find_last x b.named ≡ or_else (said w a (find_last x σ)) (find_last x a.named))
-
--- the names replaced and the free names of their trees lie in a set
-pub record Within (S : List ℕ → Bool) (σ : Given) : Type 0 where
-  pub names : (x : List ℕ) (e : Expr) → find_last x σ ≡ Some e → IsTrue (S x)
-  pub trees : (x : List ℕ) (e : Expr) → find_last x σ ≡ Some e → IsTrue (closed S e S)
-
--- a node binds and defines no name of a set
-abbrev pub binds_apart : (List ℕ → Bool) → Test
-binds_apart S o xs = lets_apart S (role o (length xs)) && apart S xs
 
 said-same : (w : Width) (S : List ℕ → Bool) (a b : Scope) → SameOn S S a b → (o : Option Expr) →
     ((e : Expr) → o ≡ Some e → IsTrue (closed S e S)) → said w a o ≡ said w b o
@@ -381,10 +316,6 @@ pub substitution : (w : Width) (S : List ℕ → Bool) (σ : Given) → Within S
 substitution w S σ c = simulate w (Stands w σ) (binds_apart S) (λ e. meaning w (put σ e)) (λ x h k a b r.
     ap (λ e. meaning w e a) (fold-roll-Expr Expr (λ x. replaced (target σ (role x.op (length x.binds))) x) x)
     ∙ layer-put w S σ c x h k a b r (target σ (role x.op (length x.binds))) refl)
-
--- the scope in which each name stands for what its tree means
-abbrev pub give : Width → Given → Scope → Scope
-give w σ sc = record sc { named = sc.named ++ map (λ g. (g.0, λ _. meaning w g.1 sc)) σ }
 
 said-last : (w : Width) (sc : Scope) (x : List ℕ) (σ : Given) →
     find_last x (map (λ g. (g.0, λ (as' : List Sense). meaning w g.1 sc)) σ) ≡ said w sc (find_last x σ)

@@ -5,7 +5,7 @@ use Rattle.tla_values.specs.declared.value.Value.{Value}
 use Rattle.tla_values.specs.declared.value.Value.TheVariants as value
 use Rattle.tla_meaning.specs.declared.expr.Expr.{Expr, roll-Expr}
 use Rattle.tla_meaning.specs.declared.expr.Expr.TheOpen.{Expr-F}
-use Rattle.tla_meaning.specs.declared.expr.Expr.TheFolds.{fold-Expr, fold-roll-Expr, map-Expr, ind-Expr}
+use Rattle.tla_meaning.specs.declared.expr.Expr.TheFolds.{fold-roll-Expr, map-Expr, ind-Expr}
 use Rattle.tla_meaning.specs.declared.op.Op.{Op}
 use Rattle.tla_meaning.specs.declared.op.Op.TheVariants as op
 use Rattle.tla_meaning.specs.declared.place.Place.{Place}
@@ -13,40 +13,13 @@ use Rattle.tla_meaning.specs.Numbers.{Width}
 use Rattle.tla_meaning.specs.Scopes.{Scope, Sense, bound_to, pass, find_last, or_else, same_text}
 use Rattle.tla_meaning.specs.Meaning.{Meaning, Role, Named, Held, Lets, Plain_role, role, View, view}
 use Rattle.tla_meaning.specs.Actions.{meaning, sense_of}
+use Rattle.tla_meaning.specs.Substitution.{Test, each, binds_apart, put, Within}
+use Rattle.tla_meaning.specs.Renamings.{Renaming, OneToOne, rename_op, rename_role, rename_binds, rename_layer, rename, Renames}
 use Rattle.tla_meaning.proofs.MeaningLemmas.{meaning-roll}
 use Rattle.tla_meaning.proofs.Views.{AllAgree, marked, Survives, SameNames, same-named, same-held, same-lets, same-under, view_same}
-use Rattle.tla_meaning.proofs.Laws.{Test, each, simulate, find-append, more, none, apart-none, lets-none, put, said, Within, binds_apart, substitution, meanings}
+use Rattle.tla_meaning.proofs.Laws.{simulate, find-append, more, none, apart-none, lets-none, said, substitution, meanings}
 
 -- ---- renaming of bound names
-
-abbrev pub Renaming : Type 0
-Renaming = List ℕ → List ℕ
-
-abbrev pub OneToOne : Renaming → Type 0
-OneToOne ρ = (x y : List ℕ) → same_text (ρ x) (ρ y) ≡ same_text x y
-
-abbrev pub rename_op : Renaming → Op → Op
-rename_op ρ (op.Bound x) = op.Bound (ρ x)
-rename_op ρ o = o
-
-abbrev pub rename_role : Renaming → Role → Role
-rename_role ρ (Named x) = Named x
-rename_role ρ (Held x) = Held (ρ x)
-rename_role ρ (Lets ds) = Lets ds
-rename_role ρ (Plain_role ms) = Plain_role ms
-
--- the parameters of a LET are no bound names
-abbrev pub rename_binds : Renaming → Role → List (List ℕ) → List (List ℕ)
-rename_binds ρ (Lets ds) xs = xs
-rename_binds ρ (Named x) xs = xs
-rename_binds ρ (Held x) xs = xs
-rename_binds ρ (Plain_role ms) xs = map ρ xs
-
-abbrev pub rename_layer : Renaming → Expr-F Expr → Expr-F Expr
-rename_layer ρ x = record { place = x.place; op = rename_op ρ x.op; args = x.args; binds = rename_binds ρ (role x.op (length x.binds)) x.binds }
-
-abbrev pub rename : Renaming → Expr → Expr
-rename ρ = fold-Expr Expr (λ x. roll-Expr (rename_layer ρ x))
 
 pub role-rename : (ρ : Renaming) (o : Op) (n : ℕ) → role (rename_op ρ o) n ≡ rename_role ρ (role o n)
 role-rename ρ (op.Bound x) n = refl
@@ -66,11 +39,6 @@ length-rename ρ (Plain_role ms) xs = along xs
 pub sense-rename : (w : Width) (p : Place) (ρ : Renaming) (o : Op) (n : ℕ) (v : View) → sense_of w p (rename_op ρ o) n v ≡ sense_of w p o n v
 sense-rename w p ρ (op.Bound x) n v = refl
 sense-rename w p ρ o n v = refl
-
-abbrev pub Renames : Renaming → Scope → Scope → Type 0
-Renames ρ a b =
-    ((x : List ℕ) → find_last (ρ x) a.bound ≡ find_last x b.bound)
-    × ((x : List ℕ) → find_last x a.named ≡ find_last x b.named)
 
 renames-survives : (ρ : Renaming) → Survives none (Renames ρ)
 renames-survives ρ = record {

@@ -8,6 +8,7 @@ use Rattle.tla_meaning.specs.Numbers.{Width}
 use Rattle.tla_meaning.specs.Scopes.{Scope, Sense, nonsense, bind, define, pass, find_last, stands_for}
 use Rattle.tla_meaning.specs.Meaning.{Meaning, senses, kid, Role, Named, Held, Lets, Plain_role, role, view, outer, inner, let_scope}
 use Rattle.tla_meaning.specs.Actions.{node, sense_of}
+use Rattle.tla_meaning.specs.Substitution.{apart, lets_apart}
 
 -- meanings that agree at related scopes
 abbrev pub Agree : (Scope → Scope → Type 0) → Meaning → Meaning → Type 0
@@ -22,20 +23,10 @@ AllAgree R (k ∷ ks) (l ∷ ls) = Agree R k l × AllAgree R ks ls
 abbrev pub extend : List (List ℕ × (List Sense → Sense)) → Scope → Scope
 extend es sc = record sc { named = sc.named ++ es }
 
--- no name of the set is among these
-abbrev pub apart : (List ℕ → Bool) → List (List ℕ) → Bool
-apart S xs = list_all (λ x. not (S x)) xs
-
 -- a relation of scopes that survives new definitions outside of a set
 pub record Survives (S : List ℕ → Bool) (R : Scope → Scope → Type 0) : Type 0 where
   pub passed : (xs : List (List ℕ)) (as' : List Sense) (a b : Scope) → IsTrue (apart S xs) → R a b → R (pass xs as' a) (pass xs as' b)
   pub defined : (x : List ℕ) (d : List Sense → Sense) (a b : Scope) → IsTrue (not (S x)) → R a b → R (define x d a) (define x d b)
-
-abbrev pub lets_apart : (List ℕ → Bool) → Role → Bool
-lets_apart S (Lets ds) = list_all (λ d. not (S d.0)) ds
-lets_apart S (Named x) = true
-lets_apart S (Held x) = true
-lets_apart S (Plain_role ms) = true
 
 -- the same, where the children that stand under bound names agree by a second relation
 abbrev pub Marked : (R Q : Scope → Scope → Type 0) → List Bool → List Meaning → List Meaning → Type 0

@@ -8,6 +8,9 @@ pub mod Meaning
 pub mod Actions
 pub mod Executions
 pub mod Strict
+pub mod FreeNames
+pub mod Substitution
+pub mod Renamings
 pub mod Definitions
 pub mod Form1
 pub mod Inductive

@@ -19,7 +19,10 @@ pub use modules::{Flat, Module, Unit};
 pub use op::{Form, Op};
 pub use outcome::{Fault, Outcome};
 pub use place::Place;
-pub use theorems::faults_join;
+pub use theorems::{
+    bound_names_may_be_renamed, faults_join, trees_may_be_put_in, trees_read_their_free_names,
+    values_are_normal, widths_agree,
+};
 
 #[cfg(test)]
 mod tests;

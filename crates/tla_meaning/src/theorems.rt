@@ -1,9 +1,12 @@
 // Laws of the definitions, each as the contract of a function that does nothing.
-ghost use Rattle.std.specs.Prelude.{◌≡◌, ◌++◌, All, List, None, Some, ℕ};
-ghost use Rattle.tla_meaning.specs.Actions.{act, val};
+ghost use Rattle.std.specs.Prelude.{◌≡◌, ◌++◌, All, Bool, IsTrue, List, None, Some, ℕ};
+ghost use Rattle.tla_meaning.specs.Actions.{act, meaning, val};
 ghost use Rattle.tla_meaning.specs.Executions.{IsExecution, invariant, next, scope_of, start};
+ghost use Rattle.tla_meaning.specs.FreeNames.{SameOn, closed};
 ghost use Rattle.tla_meaning.specs.Numbers.{Width};
-ghost use Rattle.tla_meaning.specs.Scopes.{Marks};
+ghost use Rattle.tla_meaning.specs.Renamings.{OneToOne, Renames, Renaming, rename};
+ghost use Rattle.tla_meaning.specs.Scopes.{Marks, Scope};
+ghost use Rattle.tla_meaning.specs.Substitution.{Given, Within, binds_apart, each, give, put};
 ghost use Rattle.tla_meaning.specs.Widths.{Narrow};
 ghost use Rattle.tla_meaning.specs.declared.expr.Expr.{Expr};
 ghost use Rattle.tla_meaning.specs.declared.job.Env.{Env};
@@ -40,4 +43,20 @@ pub fn widths_agree()
 /// Every value of a tree over normal states and normal bound values is normal.
 pub fn values_are_normal()
     ensures { (w : Width) (e : Expr) (env : Env) (s t : State) (v : Value) → All (λ b. Normal b.1) env.vals → All Normal s.vals → All Normal t.vals → val w e (scope_of env) s t ≡ Val v → Normal v }
+{}
+
+/// What a tree means depends only on the names that it reads.
+pub fn trees_read_their_free_names()
+    ensures { (w : Width) (N B : List ℕ → Bool) (e : Expr) (a b : Scope) → IsTrue (closed N e B) → SameOn N B a b → meaning w e a ≡ meaning w e b }
+{}
+
+/// A tree with trees in the place of names means what it means where the names stand for these trees, if it binds and
+/// defines none of these names and none of the trees' free names.
+pub fn trees_may_be_put_in()
+    ensures { (w : Width) (S : List ℕ → Bool) (σ : Given) (e : Expr) (sc : Scope) → Within S σ → IsTrue (each (binds_apart S) e) → meaning w (put σ e) sc ≡ meaning w e (give w σ sc) }
+{}
+
+/// A tree with its bound names renamed, one to one, means the same.
+pub fn bound_names_may_be_renamed()
+    ensures { (w : Width) (ρ : Renaming) (e : Expr) (a b : Scope) → OneToOne ρ → Renames ρ a b → meaning w (rename ρ e) a ≡ meaning w e b }
 {}
