@@ -17,7 +17,6 @@ use Rattle.tla_meaning.specs.Actions.{node}
 use Rattle.tla_meaning.specs.Forms.{Broken, Formed}
 use Rattle.tla_meaning.specs.Meaning.{Meaning}
 use Rattle.tla_meaning.specs.Numbers.{Width}
-use Rattle.tla_meaning.specs.Outcomes.{values}
 use Rattle.tla_meaning.specs.Scopes.{Effect, Marks, Scope, nonsense}
 
 -- the operators that are left after expansion
