@@ -103,13 +103,28 @@ fn with_word(
         node.word = word;
         node.place = place(col);
     } else {
-        let e = leaf(alloc, word, place(col))?;
+        let e = leaf(alloc, word.as_slice(), place(col))?;
         node.args.push(e)?;
     }
     Ok(node)
 }
 
 impl Reader {
+    fn read_all(&mut self, text: &[u8]) -> Result<(), AllocError> {
+        self.begin(b"line")?;
+        for byte in text {
+            self.read(*byte)?;
+        }
+        self.end_word()
+    }
+
+    fn finished(&mut self) -> Vec<Expr> {
+        match self.open.pop() {
+            Some(node) if self.open.is_empty() => node.args,
+            _ => Vec::new(self.alloc),
+        }
+    }
+
     fn read(&mut self, byte: u8) -> Result<(), AllocError> {
         if byte == b'!' {
             self.mark = self.column;
@@ -183,26 +198,18 @@ fn read(alloc: Global, text: &[u8]) -> Result<(Vec<Expr>, u32), AllocError> {
         in_names: false,
         mark: 0,
     };
-    reader.begin(b"line")?;
-    for byte in text {
-        reader.read(*byte)?;
-    }
-    reader.end_word()?;
-    let mark = reader.mark;
-    match reader.open.pop() {
-        Some(node) if reader.open.is_empty() => Ok((node.args, mark)),
-        _ => Ok((Vec::new(alloc), mark)),
-    }
+    reader.read_all(text)?;
+    Ok((reader.finished(), reader.mark))
 }
 
 // A number, a truth value, a text or a name.
-fn leaf(alloc: Global, word: Vec<u8>, place: Place) -> Result<Expr, AllocError> {
-    let op = match word.as_slice() {
+fn leaf(alloc: Global, word: &[u8], place: Place) -> Result<Expr, AllocError> {
+    let op = match word {
         b"TRUE" => Op::Bool(true),
         b"FALSE" => Op::Bool(false),
         [b'"', text @ .., b'"'] => Op::Str(Text::from_vec(Vec::from_slice(alloc, text)?)),
         [b'-', digits @ ..] => Op::Int(number(digits).wrapping_neg()),
-        [b'0'..=b'9', ..] => Op::Int(number(word.as_slice())),
+        [b'0'..=b'9', ..] => Op::Int(number(word)),
         [name @ .., b'\''] => named(alloc, name, true)?,
         name => named(alloc, name, false)?,
     };
@@ -253,9 +260,10 @@ fn tree(alloc: Global, node: Node) -> Result<Expr, AllocError> {
             binds.push(Text::from_vec(Vec::from_slice(alloc, b"@")?))?;
             Op::Except(counts(alloc, names.as_slice())?)
         }
+        b"noted" => Op::Noted(Text::from_vec(Vec::new(alloc))),
         _ => {
             binds = List::from_vec(names);
-            operator(word)
+            operator_or_use(word)
         }
     };
     Ok(Expr {
@@ -288,82 +296,88 @@ fn count(digits: &[u8]) -> usize {
     }
 }
 
-// The operator of a word. A word that is none is the use of a definition, which no expanded tree has.
-fn operator(word: Vec<u8>) -> Op {
-    match word.as_slice() {
-        b"and" => Op::And,
-        b"or" => Op::Or,
-        b"implies" => Op::Implies,
-        b"not" => Op::Not,
-        b"iff" => Op::Iff,
-        b"if" => Op::If,
-        b"case" => Op::Case(false),
-        b"case-other" => Op::Case(true),
-        b"eq" => Op::Eq,
-        b"ne" => Op::Ne,
-        b"assign" => Op::Assign,
-        b"in" => Op::In,
-        b"notin" => Op::NotIn,
-        b"subseteq" => Op::SubsetEq,
-        b"lt" => Op::Lt,
-        b"gt" => Op::Gt,
-        b"le" => Op::Le,
-        b"ge" => Op::Ge,
-        b"add" => Op::Add,
-        b"sub" => Op::Sub,
-        b"mul" => Op::Mul,
-        b"neg" => Op::Neg,
-        b"div" => Op::Div,
-        b"mod" => Op::Mod,
-        b"pow" => Op::Pow,
-        b"range" => Op::Range,
+// A word that is no operator is the use of a definition, which no expanded tree has.
+fn operator_or_use(word: Vec<u8>) -> Op {
+    match operator(word.as_slice()) {
+        Some(op) => op,
+        None => Op::Use(Text::from_vec(word)),
+    }
+}
+
+fn operator(word: &[u8]) -> Option<Op> {
+    match word {
+        b"and" => Some(Op::And),
+        b"or" => Some(Op::Or),
+        b"implies" => Some(Op::Implies),
+        b"not" => Some(Op::Not),
+        b"iff" => Some(Op::Iff),
+        b"if" => Some(Op::If),
+        b"case" => Some(Op::Case(false)),
+        b"case-other" => Some(Op::Case(true)),
+        b"eq" => Some(Op::Eq),
+        b"ne" => Some(Op::Ne),
+        b"assign" => Some(Op::Assign),
+        b"in" => Some(Op::In),
+        b"notin" => Some(Op::NotIn),
+        b"subseteq" => Some(Op::SubsetEq),
+        b"lt" => Some(Op::Lt),
+        b"gt" => Some(Op::Gt),
+        b"le" => Some(Op::Le),
+        b"ge" => Some(Op::Ge),
+        b"add" => Some(Op::Add),
+        b"sub" => Some(Op::Sub),
+        b"mul" => Some(Op::Mul),
+        b"neg" => Some(Op::Neg),
+        b"div" => Some(Op::Div),
+        b"mod" => Some(Op::Mod),
+        b"pow" => Some(Op::Pow),
+        b"range" => Some(Op::Range),
         _ => set_operator(word),
     }
 }
 
-fn set_operator(word: Vec<u8>) -> Op {
-    match word.as_slice() {
-        b"set" => Op::SetEnum,
-        b"cup" => Op::Cup,
-        b"cap" => Op::Cap,
-        b"minus" => Op::Minus,
-        b"powerset" => Op::Powerset,
-        b"funset" => Op::FunSet,
-        b"product" => Op::Product,
-        b"union" => Op::BigUnion,
-        b"boolean" => Op::BooleanSet,
-        b"int" => Op::IntSet,
-        b"nat" => Op::NatSet,
-        b"string" => Op::StringSet,
-        b"seqs" => Op::SeqSet,
-        b"cardinality" => Op::Cardinality,
-        b"finite" => Op::IsFinite,
-        b"exists" => Op::Exists,
-        b"forall" => Op::Forall,
-        b"filter" => Op::Filter,
-        b"map" => Op::MapTo,
+fn set_operator(word: &[u8]) -> Option<Op> {
+    match word {
+        b"set" => Some(Op::SetEnum),
+        b"cup" => Some(Op::Cup),
+        b"cap" => Some(Op::Cap),
+        b"minus" => Some(Op::Minus),
+        b"powerset" => Some(Op::Powerset),
+        b"funset" => Some(Op::FunSet),
+        b"product" => Some(Op::Product),
+        b"union" => Some(Op::BigUnion),
+        b"boolean" => Some(Op::BooleanSet),
+        b"int" => Some(Op::IntSet),
+        b"nat" => Some(Op::NatSet),
+        b"string" => Some(Op::StringSet),
+        b"seqs" => Some(Op::SeqSet),
+        b"cardinality" => Some(Op::Cardinality),
+        b"finite" => Some(Op::IsFinite),
+        b"exists" => Some(Op::Exists),
+        b"forall" => Some(Op::Forall),
+        b"filter" => Some(Op::Filter),
+        b"map" => Some(Op::MapTo),
         _ => function_operator(word),
     }
 }
 
-fn function_operator(word: Vec<u8>) -> Op {
-    match word.as_slice() {
-        b"lambda" => Op::Lambda,
-        b"apply" => Op::Apply,
-        b"domain" => Op::Domain,
-        b"merge" => Op::Merge,
-        b"single" => Op::Single,
-        b"tuple" => Op::Tuple,
-        b"len" => Op::Len,
-        b"append" => Op::Append,
-        b"concat" => Op::Concat,
-        b"head" => Op::Head,
-        b"tail" => Op::Tail,
-        b"subseq" => Op::SubSeq,
-        b"fold" => Op::Fold,
-        b"choose" => Op::Outside(Form::Choose),
-        b"noted" => Op::Noted(Text::from_vec(word)),
-        _ => Op::Use(Text::from_vec(word)),
+fn function_operator(word: &[u8]) -> Option<Op> {
+    match word {
+        b"lambda" => Some(Op::Lambda),
+        b"apply" => Some(Op::Apply),
+        b"domain" => Some(Op::Domain),
+        b"merge" => Some(Op::Merge),
+        b"single" => Some(Op::Single),
+        b"tuple" => Some(Op::Tuple),
+        b"len" => Some(Op::Len),
+        b"append" => Some(Op::Append),
+        b"concat" => Some(Op::Concat),
+        b"head" => Some(Op::Head),
+        b"tail" => Some(Op::Tail),
+        b"subseq" => Some(Op::SubSeq),
+        b"fold" => Some(Op::Fold),
+        b"choose" => Some(Op::Outside(Form::Choose)),
+        _ => None,
     }
 }
 
