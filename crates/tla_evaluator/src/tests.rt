@@ -12,6 +12,7 @@ ghost use Rattle.tla_values.specs.Sets.{Normal};
 ghost use Rattle.tla_evaluator.specs.Trees.{is_expanded};
 
 mod actions;
+mod calls;
 mod cases;
 
 use crate::{act, eval, invariant, is_expanded, next, start};
