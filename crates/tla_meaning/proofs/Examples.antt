@@ -11,7 +11,7 @@ use Rattle.tla_meaning.specs.declared.op.Op.TheVariants as op
 use Rattle.tla_meaning.specs.declared.outcome.Outcome.TheVariants.{Val, Wrong, Big}
 use Rattle.tla_meaning.specs.Executions.{no_scope}
 use Rattle.tla_meaning.specs.Actions.{val}
-use Rattle.tla_meaning.proofs.MeaningLemmas.{sense-roll, val-roll}
+use Rattle.tla_meaning.proofs.MeaningLemmas.{denotation-roll, val-roll}
 
 abbrev pub at : ℕ → Place
 at n = record { file = 0; line = 1; col = n }
@@ -30,15 +30,15 @@ abbrev x_is_false : Expr
 x_is_false = tree 3 op.Eq (leaf 1 (op.Name 0 false) ∷ leaf 5 (op.Bool false) ∷ [])
 
 holds_there : val None x_is_false no_scope (state_at (value.Bool false)) (state_at (value.Bool true)) ≡ Val (value.Bool true)
-holds_there = simp (val-roll, sense-roll, value_cmp_out, value.outs-Bool)
+holds_there = simp (val-roll, denotation-roll, value_cmp_out, value.outs-Bool)
 
 -- 1 \div 0 is Wrong at the operator
 divided : val None (tree 3 op.Div (leaf 1 (op.Int (pos 1)) ∷ leaf 8 (op.Int (pos 0)) ∷ [])) no_scope (state_at (value.Bool false)) (state_at (value.Bool false)) ≡ Wrong (at 3)
-divided = simp (val-roll, sense-roll, value.outs-Int)
+divided = simp (val-roll, denotation-roll, value.outs-Int)
 
 -- 127 + 1 is Big at width 8
 too_big : val (Some 8) (tree 3 op.Add (leaf 1 (op.Int (pos 127)) ∷ leaf 8 (op.Int (pos 1)) ∷ [])) no_scope (state_at (value.Bool false)) (state_at (value.Bool false)) ≡ Big (at 3)
-too_big = simp (val-roll, sense-roll, value.outs-Int)
+too_big = simp (val-roll, denotation-roll, value.outs-Int)
 
 -- of an action, x' = FALSE \/ 1 = 1 \div 0
 abbrev left : Expr
@@ -51,10 +51,10 @@ abbrev step : Expr
 step = tree 9 op.Or (left ∷ right ∷ [])
 
 left_holds : val None left no_scope (state_at (value.Bool true)) (state_at (value.Bool false)) ≡ Val (value.Bool true)
-left_holds = simp (val-roll, sense-roll, value_cmp_out, value.outs-Bool)
+left_holds = simp (val-roll, denotation-roll, value_cmp_out, value.outs-Bool)
 
 divides : val None (tree 16 op.Div (leaf 14 (op.Int (pos 1)) ∷ leaf 18 (op.Int (pos 0)) ∷ [])) no_scope (state_at (value.Bool true)) (state_at (value.Bool false)) ≡ Wrong (at 16)
-divides = simp (val-roll, sense-roll, value.outs-Int)
+divides = simp (val-roll, denotation-roll, value.outs-Int)
 
 one : val None (leaf 11 (op.Int (pos 1))) no_scope (state_at (value.Bool true)) (state_at (value.Bool false)) ≡ Val (value.Int (pos 1))
 one = simp (val-roll)

@@ -7,14 +7,14 @@ use Rattle.tla_meaning.specs.declared.expr.Expr.TheFolds.{fold-Expr, fold-roll-E
 use Rattle.tla_meaning.specs.declared.op.Op.{Op}
 use Rattle.tla_meaning.specs.declared.place.Place.{Place}
 use Rattle.tla_meaning.specs.Numbers.{Width}
-use Rattle.tla_meaning.specs.Scopes.{Scope, Sense, bind, bound_to, pass, find_last, or_else, stands_for}
-use Rattle.tla_meaning.specs.Meaning.{Meaning, senses, Role, Named, Held, Lets, Plain_role, role, view}
-use Rattle.tla_meaning.specs.Actions.{meaning, node, sense_of}
+use Rattle.tla_meaning.specs.Scopes.{Scope, Denotation, bind, bound_to, pass, find_last, or_else, stands_for}
+use Rattle.tla_meaning.specs.Meaning.{Meaning, denotations, Role, Named, Held, Lets, Plain_role, role, view}
+use Rattle.tla_meaning.specs.Actions.{meaning, node, denotation_of}
 use Rattle.tla_meaning.specs.FreeNames.{closed}
 use Rattle.tla_meaning.specs.Substitution.{each, apart, lets_apart, binds_apart, put, Within}
 use Rattle.tla_meaning.specs.Renamings.{Renaming, OneToOne, rename}
 use Rattle.tla_meaning.proofs.MeaningLemmas.{meaning-roll}
-use Rattle.tla_meaning.proofs.Views.{AllAgree, marked, Survives, SameNames, same-named, same-held, same-lets, same-under, node_same, senses_same, and_left, and_right, false≢true}
+use Rattle.tla_meaning.proofs.Views.{AllAgree, marked, Survives, SameNames, same-named, same-held, same-lets, same-under, node_same, denotations_same, and_left, and_right, false≢true}
 use Rattle.tla_meaning.proofs.Laws.{simulate, more, unseen, missed, missed-one, none, meanings, frame, none≢some}
 use Rattle.tla_meaning.proofs.Renaming.{inlined}
 use Rattle.tla_meaning.proofs.Free.{renaming_free}
@@ -40,7 +40,7 @@ call fresh (Some d) x = put (zip d.0 x.args) (rename (fresh x.args) d.1)
 abbrev pub expand : (List Expr → Renaming) → Defs → Expr → Expr
 expand fresh δ = fold-Expr Expr (λ x. call fresh (wanted δ (role x.op (length x.binds))) x)
 
-abbrev pub spoken : Width → Scope → Option Meant → Option (List Sense → Sense)
+abbrev pub spoken : Width → Scope → Option Meant → Option (List Denotation → Denotation)
 spoken w a None = None
 spoken w a (Some d) = Some (λ as'. meaning w d.1 (pass d.0 as' a))
 
@@ -60,7 +60,7 @@ pub record Sound (N : List ℕ → Bool) (fresh : List Expr → Renaming) (δ : 
   pub room : (x : List ℕ) (d : Meant) → find_last x δ ≡ Some d → (es : List Expr) →
       IsTrue (each (binds_apart (taken es)) (rename (fresh es) d.1))
 
-abbrev pub meant_by : Width → Meant → Scope → List Sense → Sense
+abbrev pub meant_by : Width → Meant → Scope → List Denotation → Denotation
 meant_by w d a as' = meaning w d.1 (pass d.0 as' a)
 
 body-same : (w : Width) (N : List ℕ → Bool) (d : Meant) (a b : Scope) → IsTrue (closed N d.1 none) →
@@ -73,7 +73,7 @@ body-same w N d a b c h = λ i. λ as'.
 spoken-same : (w : Width) (N : List ℕ → Bool) (a b : Scope) → ((x : List ℕ) → IsTrue (N x) → find_last x a.named ≡ find_last x b.named) →
     (o : Option Meant) → ((d : Meant) → o ≡ Some d → IsTrue (closed N d.1 none)) → spoken w a o ≡ spoken w b o
 spoken-same w N a b h None c = refl
-spoken-same w N a b h (Some d) c = ap (λ (f : List Sense → Sense). Some f) (body-same w N d a b (c d refl) h)
+spoken-same w N a b h (Some d) c = ap (λ (f : List Denotation → Denotation). Some f) (body-same w N d a b (c d refl) h)
 
 knows-bound : (w : Width) (N : List ℕ → Bool) (fresh : List Expr → Renaming) (δ : Defs) → Sound N fresh δ →
     (xs : List (List ℕ)) (vs : List Value) (a b : Scope) → Knows w δ a b → Knows w δ (bind xs vs a) (bind xs vs b)
@@ -84,7 +84,7 @@ knows-bound w N fresh δ c xs vs a b r = (
 )
 
 knows-more : (w : Width) (N : List ℕ → Bool) (fresh : List Expr → Renaming) (δ : Defs) → Sound N fresh δ → (a b : Scope) → Knows w δ a b →
-    (es : List (List ℕ × (List Sense → Sense))) → ((x : List ℕ) → IsTrue (N x) → find_last x es ≡ None) →
+    (es : List (List ℕ × (List Denotation → Denotation))) → ((x : List ℕ) → IsTrue (N x) → find_last x es ≡ None) →
     (x : List ℕ) (o : Option Meant) → find_last x δ ≡ o →
     find_last x (b.named ++ es) ≡ or_else (spoken w (record a { named = a.named ++ es }) o) (find_last x (a.named ++ es))
 knows-more w N fresh δ c a b r es h x None e =
@@ -93,7 +93,7 @@ knows-more w N fresh δ c a b r es h x (Some d) e =
     unseen x b.named es (h x (c.names x d e))
     ∙ r.1 x
     ∙ ap (λ o. or_else (spoken w a o) (find_last x a.named)) e
-    ∙ ap (λ (f : List Sense → Sense). Some f)
+    ∙ ap (λ (f : List Denotation → Denotation). Some f)
     (body-same w N d a (record a { named = a.named ++ es }) (c.bodies x d e) (λ y k. sym (unseen y a.named es (h y k))))
 
 knows-survives : (w : Width) (N : List ℕ → Bool) (fresh : List Expr → Renaming) (δ : Defs) → Sound N fresh δ → Survives N (Knows w δ)
@@ -113,20 +113,20 @@ knows-read w N fresh δ c (Lets ds) xs a b ks ls f g h k r = same-lets k f g
 knows-read w N fresh δ c (Plain_role ms) xs a b ks ls f g h k r =
     same-under (marked (Knows w δ) ms ks ls k) (λ vs. knows-bound w N fresh δ c xs vs a b r)
 
-senses-at : (w : Width) (a : Scope) (es : List Expr) → map (λ e. meaning w e a) es ≡ senses (map (meaning w) es) a
-senses-at w a [] = refl
-senses-at w a (e ∷ es) = ap (λ (ss : List Sense). meaning w e a ∷ ss) (senses-at w a es)
+denotations-at : (w : Width) (a : Scope) (es : List Expr) → map (λ e. meaning w e a) es ≡ denotations (map (meaning w) es) a
+denotations-at w a [] = refl
+denotations-at w a (e ∷ es) = ap (λ (ss : List Denotation). meaning w e a ∷ ss) (denotations-at w a es)
 
 called : (w : Width) (N : List ℕ → Bool) (fresh : List Expr → Renaming) (δ : Defs) → Sound N fresh δ →
     (p : Place) (o : Op) (xs : List (List ℕ)) (es : List Expr) (ls : List Meaning) (a b : Scope) (d : Meant) (q : Role) →
     wanted δ q ≡ Some d → AllAgree (Knows w δ) (map (meaning w) es) ls → Knows w δ a b →
-    meaning w (put (zip d.0 es) (rename (fresh es) d.1)) a ≡ sense_of w p o (length xs) (view p q xs ls b)
+    meaning w (put (zip d.0 es) (rename (fresh es) d.1)) a ≡ denotation_of w p o (length xs) (view p q xs ls b)
 called w N fresh δ c p o xs es ls a b d (Named x) e k r =
     inlined w (c.taken es) d.0 es (c.args x d e es) (rename (fresh es) d.1) (c.room x d e es) a
     ∙ renaming_free w (fresh es) (c.one es) N d.1 none (c.bodies x d e)
     (pass d.0 (map (λ e. meaning w e a) es) a) (pass d.0 (map (λ e. meaning w e a) es) a) (λ y h. absurd (false≢true h), λ y h. refl)
-    ∙ ap (λ (ss : List Sense). meaning w d.1 (pass d.0 ss a)) (senses-at w a es ∙ senses_same (Knows w δ) (map (meaning w) es) ls a b k r)
-    ∙ ap (λ f. stands_for p f (senses ls b)) (sym (r.1 x ∙ ap (λ o. or_else (spoken w a o) (find_last x a.named)) e))
+    ∙ ap (λ (ss : List Denotation). meaning w d.1 (pass d.0 ss a)) (denotations-at w a es ∙ denotations_same (Knows w δ) (map (meaning w) es) ls a b k r)
+    ∙ ap (λ f. stands_for p f (denotations ls b)) (sym (r.1 x ∙ ap (λ o. or_else (spoken w a o) (find_last x a.named)) e))
 called w N fresh δ c p o xs es ls a b d (Held x) e k r = absurd (none≢some e)
 called w N fresh δ c p o xs es ls a b d (Lets ds) e k r = absurd (none≢some e)
 called w N fresh δ c p o xs es ls a b d (Plain_role ms) e k r = absurd (none≢some e)

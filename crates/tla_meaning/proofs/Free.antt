@@ -8,13 +8,13 @@ use Rattle.tla_meaning.specs.declared.expr.Expr.TheFolds.{fold-roll-Expr, map-Ex
 use Rattle.tla_meaning.specs.Numbers.{Width}
 use Rattle.tla_meaning.specs.Scopes.{Scope, bind, bound_to, find_last, or_else, same_text}
 use Rattle.tla_meaning.specs.Meaning.{Meaning, Role, Named, Held, Lets, Plain_role, role, view}
-use Rattle.tla_meaning.specs.Actions.{meaning, node, sense_of}
+use Rattle.tla_meaning.specs.Actions.{meaning, node, denotation_of}
 use Rattle.tla_meaning.specs.FreeNames.{role_reads, marks, with_names, closed_all, closed_layer, closed}
 use Rattle.tla_meaning.specs.Renamings.{Renaming, OneToOne, rename_op, rename_role, rename_binds, rename_layer, rename}
 use Rattle.tla_meaning.proofs.MeaningLemmas.{meaning-roll}
 use Rattle.tla_meaning.proofs.Views.{Marked, Survives, SameNames, same-named, same-held, same-lets, same-under, view_same, and_left, and_right}
 use Rattle.tla_meaning.proofs.Laws.{find-append, more, none, apart-none, lets-none, meanings, or_right, in_bound, all_of}
-use Rattle.tla_meaning.proofs.Renaming.{bound-rename, length-rename, role-rename, sense-rename}
+use Rattle.tla_meaning.proofs.Renaming.{bound-rename, length-rename, role-rename, denotation-rename}
 
 abbrev pub Family : Type 1
 Family = (List ℕ → Bool) → Scope → Scope → Type 0
@@ -105,10 +105,10 @@ renaming_free w ρ c N = simulate_free w N (RenamesOn ρ N) (λ e. meaning w (re
     let ls : List Meaning = map (meaning w) x.args in
     ap (λ e. meaning w e a) (fold-roll-Expr Expr (λ x. roll-Expr (rename_layer ρ x)) x)
     ∙ ap (λ (m : Meaning). m a) (meaning-roll w (rename_layer ρ z))
-    ∙ sense-rename w x.place ρ x.op (length xs) (view x.place (role (rename_op ρ x.op) (length xs)) xs ks a)
-    ∙ ap (λ n. sense_of w x.place x.op n (view x.place (role (rename_op ρ x.op) n) xs ks a)) (length-rename ρ o x.binds)
-    ∙ ap (λ (o : Role). sense_of w x.place x.op (length x.binds) (view x.place o xs ks a)) (role-rename ρ x.op (length x.binds))
-    ∙ ap (sense_of w x.place x.op (length x.binds))
+    ∙ denotation-rename w x.place ρ x.op (length xs) (view x.place (role (rename_op ρ x.op) (length xs)) xs ks a)
+    ∙ ap (λ n. denotation_of w x.place x.op n (view x.place (role (rename_op ρ x.op) n) xs ks a)) (length-rename ρ o x.binds)
+    ∙ ap (λ (o : Role). denotation_of w x.place x.op (length x.binds) (view x.place o xs ks a)) (role-rename ρ x.op (length x.binds))
+    ∙ ap (denotation_of w x.place x.op (length x.binds))
     (view_same none (RenamesOn ρ N B) (RenamesOn ρ N (with_names x.binds B)) (renames_on-survives ρ N B) x.place ks ls a b r
     (rename_role ρ o) o xs x.binds (names-renames_on ρ c N B o x.binds a b ks ls h
     (subst (λ (ms : List Meaning). Marked (RenamesOn ρ N B) (RenamesOn ρ N (with_names x.binds B)) (marks o) ms ls) (meanings w (rename ρ) x.args) k) r)))

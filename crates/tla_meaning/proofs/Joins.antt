@@ -11,7 +11,7 @@ use Rattle.tla_meaning.specs.declared.place.Place.{Place}
 use Rattle.tla_meaning.specs.declared.outcome.Fault.{Fault}
 use Rattle.tla_meaning.specs.declared.outcome.Fault.TheVariants.{NoFault, IsWrong, IsBig}
 use Rattle.tla_meaning.specs.declared.outcome.Outcome.{Outcome}
-use Rattle.tla_meaning.specs.Outcomes.{place_parts, place_cmp, least, both, joined, fault_of}
+use Rattle.tla_meaning.specs.Outcomes.{place_parts, place_cmp, least, join_faults, joined, fault_of}
 
 -- ---- places
 
@@ -84,7 +84,7 @@ least_assoc p q r = least_assoc_by p q r (place_cmp q p) (place_cmp r q) refl re
 
 -- ---- faults
 
-pub both_comm : (f g : Fault) → both f g ≡ both g f
+pub both_comm : (f g : Fault) → join_faults f g ≡ join_faults g f
 both_comm NoFault NoFault = refl
 both_comm NoFault (IsWrong q) = refl
 both_comm NoFault (IsBig q) = refl
@@ -95,17 +95,17 @@ both_comm (IsBig p) NoFault = refl
 both_comm (IsBig p) (IsWrong q) = refl
 both_comm (IsBig p) (IsBig q) = ap IsBig (least_comm p q)
 
-pub both_same : (f : Fault) → both f f ≡ f
+pub both_same : (f : Fault) → join_faults f f ≡ f
 both_same NoFault = refl
 both_same (IsWrong p) = ap IsWrong (least_same p)
 both_same (IsBig p) = ap IsBig (least_same p)
 
-pub both_unit : (f : Fault) → both f NoFault ≡ f
+pub both_unit : (f : Fault) → join_faults f NoFault ≡ f
 both_unit NoFault = refl
 both_unit (IsWrong p) = refl
 both_unit (IsBig p) = refl
 
-pub both_assoc : (f g h : Fault) → both (both f g) h ≡ both f (both g h)
+pub both_assoc : (f g h : Fault) → join_faults (join_faults f g) h ≡ join_faults f (join_faults g h)
 both_assoc NoFault g h = refl
 both_assoc (IsWrong p) NoFault h = refl
 both_assoc (IsWrong p) (IsWrong q) NoFault = refl
@@ -122,6 +122,6 @@ both_assoc (IsBig p) (IsBig q) NoFault = refl
 both_assoc (IsBig p) (IsBig q) (IsWrong r) = refl
 both_assoc (IsBig p) (IsBig q) (IsBig r) = ap IsBig (least_assoc p q r)
 
-pub joined_append : (os more : List Outcome) → joined (os ++ more) ≡ both (joined os) (joined more)
+pub joined_append : (os more : List Outcome) → joined (os ++ more) ≡ join_faults (joined os) (joined more)
 joined_append [] more = refl
-joined_append (o ∷ os) more = ap (both (fault_of o)) (joined_append os more) ∙ sym (both_assoc (fault_of o) (joined os) (joined more))
+joined_append (o ∷ os) more = ap (join_faults (fault_of o)) (joined_append os more) ∙ sym (both_assoc (fault_of o) (joined os) (joined more))

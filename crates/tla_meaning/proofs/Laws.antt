@@ -14,9 +14,9 @@ use Rattle.tla_meaning.specs.declared.expr.Expr.TheFolds.{fold-roll-Expr, map-Ex
 use Rattle.tla_meaning.specs.declared.op.Op.{Op}
 use Rattle.tla_meaning.specs.declared.place.Place.{Place}
 use Rattle.tla_meaning.specs.Numbers.{Width}
-use Rattle.tla_meaning.specs.Scopes.{Scope, Sense, bind, bound_to, find_last, or_else, same_text, stands_for}
-use Rattle.tla_meaning.specs.Meaning.{Meaning, senses, Role, Named, Held, Lets, Plain_role, role, view}
-use Rattle.tla_meaning.specs.Actions.{meaning, node, sense_of}
+use Rattle.tla_meaning.specs.Scopes.{Scope, Denotation, bind, bound_to, find_last, or_else, same_text, stands_for}
+use Rattle.tla_meaning.specs.Meaning.{Meaning, denotations, Role, Named, Held, Lets, Plain_role, role, view}
+use Rattle.tla_meaning.specs.Actions.{meaning, node, denotation_of}
 use Rattle.tla_meaning.specs.FreeNames.{SameOn, role_reads, marks, with_names, closed_all, closed_layer, closed}
 use Rattle.tla_meaning.specs.Substitution.{Test, each, apart, lets_apart, binds_apart, Given, target, replaced, put, Within, give}
 use Rattle.tla_meaning.proofs.MeaningLemmas.{meaning-roll}
@@ -24,7 +24,7 @@ use Rattle.tla_meaning.proofs.Views.{AllAgree, Marked, marked, Survives, SameNam
 
 -- ---- a test of each node
 
-each-roll : (test : Test) (x : Expr-F Expr) →
+pub each-roll : (test : Test) (x : Expr-F Expr) →
     each test (roll-Expr x) ≡ (test x.op x.binds && list_all (λ b. b) (map (each test) x.args))
 each-roll test x = fold-roll-Expr Bool (λ x. test x.op x.binds && list_all (λ b. b) x.args) x
 
@@ -226,7 +226,7 @@ frame w N = ind-Expr (Framed w N) (λ x y is.
 
 -- ---- substitution
 
-abbrev pub said : Width → Scope → Option Expr → Option (List Sense → Sense)
+abbrev pub said : Width → Scope → Option Expr → Option (List Denotation → Denotation)
 said w a None = None
 said w a (Some e) = Some (λ _. meaning w e a)
 
@@ -239,10 +239,10 @@ Stands w σ a b =
 said-same : (w : Width) (S : List ℕ → Bool) (a b : Scope) → SameOn S S a b → (o : Option Expr) →
     ((e : Expr) → o ≡ Some e → IsTrue (closed S e S)) → said w a o ≡ said w b o
 said-same w S a b r None h = refl
-said-same w S a b r (Some e) h = ap (λ (m : Sense). Some (λ (as' : List Sense). m)) (frame w S e S (h e refl) a b r)
+said-same w S a b r (Some e) h = ap (λ (m : Denotation). Some (λ (as' : List Denotation). m)) (frame w S e S (h e refl) a b r)
 
 named-more : (w : Width) (S : List ℕ → Bool) (σ : Given) → Within S σ → (a b : Scope) → Stands w σ a b →
-    (es : List (List ℕ × (List Sense → Sense))) → ((x : List ℕ) → IsTrue (S x) → find_last x es ≡ None) →
+    (es : List (List ℕ × (List Denotation → Denotation))) → ((x : List ℕ) → IsTrue (S x) → find_last x es ≡ None) →
     (x : List ℕ) (o : Option Expr) → find_last x σ ≡ o →
     find_last x (b.named ++ es) ≡ or_else (said w (record a { named = a.named ++ es }) o) (find_last x (a.named ++ es))
 named-more w S σ c a b r es h x None e =
@@ -251,7 +251,7 @@ named-more w S σ c a b r es h x (Some t) e =
     unseen x b.named es (h x (c.names x t e))
     ∙ r.1 x
     ∙ ap (λ o. or_else (said w a o) (find_last x a.named)) e
-    ∙ ap (λ (m : Sense). Some (λ (as' : List Sense). m))
+    ∙ ap (λ (m : Denotation). Some (λ (as' : List Denotation). m))
     (frame w S t S (c.trees x t e) a (record a { named = a.named ++ es }) (λ y k. refl, λ y k. sym (unseen y a.named es (h y k))))
 
 stands-survives : (w : Width) (S : List ℕ → Bool) (σ : Given) → Within S σ → Survives S (Stands w σ)
@@ -288,9 +288,9 @@ stands-read w S σ c (Plain_role ms) xs a b ks ls f g h k r =
 
 -- a use that is replaced
 use-put : (w : Width) (σ : Given) (p : Place) (o : Op) (xs : List (List ℕ)) (ks : List Meaning) (a b : Scope) (t : Expr) (r : Role) →
-    target σ r ≡ Some t → Stands w σ a b → meaning w t a ≡ sense_of w p o (length xs) (view p r xs ks b)
+    target σ r ≡ Some t → Stands w σ a b → meaning w t a ≡ denotation_of w p o (length xs) (view p r xs ks b)
 use-put w σ p o xs ks a b t (Named x) e r =
-    ap (λ d. stands_for p d (senses ks b)) (sym (r.1 x ∙ ap (λ o. or_else (said w a o) (find_last x a.named)) e))
+    ap (λ d. stands_for p d (denotations ks b)) (sym (r.1 x ∙ ap (λ o. or_else (said w a o) (find_last x a.named)) e))
 use-put w σ p o xs ks a b t (Held x) e r = absurd (none≢some e)
 use-put w σ p o xs ks a b t (Lets ds) e r = absurd (none≢some e)
 use-put w σ p o xs ks a b t (Plain_role ms) e r = absurd (none≢some e)
@@ -318,16 +318,16 @@ substitution w S σ c = simulate w (Stands w σ) (binds_apart S) (λ e. meaning 
     ∙ layer-put w S σ c x h k a b r (target σ (role x.op (length x.binds))) refl)
 
 said-last : (w : Width) (sc : Scope) (x : List ℕ) (σ : Given) →
-    find_last x (map (λ g. (g.0, λ (as' : List Sense). meaning w g.1 sc)) σ) ≡ said w sc (find_last x σ)
+    find_last x (map (λ g. (g.0, λ (as' : List Denotation). meaning w g.1 sc)) σ) ≡ said w sc (find_last x σ)
 said-last w sc x [] = refl
-said-last w sc x (g ∷ σ) = ap (λ o. or_else o (if same_text x g.0 then Some (λ (as' : List Sense). meaning w g.1 sc) else None)) (said-last w sc x σ)
-    ∙ both-said (find_last x σ) (same_text x g.0)
+said-last w sc x (g ∷ σ) = ap (λ o. or_else o (if same_text x g.0 then Some (λ (as' : List Denotation). meaning w g.1 sc) else None)) (said-last w sc x σ)
+    ∙ join_faults-said (find_last x σ) (same_text x g.0)
   where
-    both-said : (o : Option Expr) (c : Bool) →
-        or_else (said w sc o) (if c then Some (λ (as' : List Sense). meaning w g.1 sc) else None) ≡ said w sc (or_else o (if c then Some g.1 else None))
-    both-said (Some e) c = refl
-    both-said None true = refl
-    both-said None false = refl
+    join_faults-said : (o : Option Expr) (c : Bool) →
+        or_else (said w sc o) (if c then Some (λ (as' : List Denotation). meaning w g.1 sc) else None) ≡ said w sc (or_else o (if c then Some g.1 else None))
+    join_faults-said (Some e) c = refl
+    join_faults-said None true = refl
+    join_faults-said None false = refl
 
 stands-give : (w : Width) (σ : Given) (sc : Scope) → Stands w σ sc (give w σ sc)
 stands-give w σ sc = (

@@ -6,7 +6,7 @@ use Rattle.tla_meaning.specs.declared.outcome.Fault.{Fault}
 use Rattle.tla_meaning.specs.declared.outcome.Fault.TheVariants.{NoFault, IsWrong, IsBig}
 use Rattle.tla_meaning.specs.declared.outcome.Outcome.{Outcome}
 use Rattle.tla_meaning.specs.declared.outcome.Outcome.TheVariants.{Val, Wrong, Big}
-use Rattle.tla_meaning.specs.Outcomes.{both, least, fault_of, joined, values, unless, strict, with_value}
+use Rattle.tla_meaning.specs.Outcomes.{join_faults, least, fault_of, joined, values, fault_or, strict, with_value}
 use Rattle.tla_meaning.specs.Widths.{Narrow, SameValue, BothWrong, TooBig}
 
 pub narrow_same : (o : Outcome) → Narrow o o
@@ -26,14 +26,14 @@ pub data NarrowFault : Fault → Fault → Type 0 where
   WrongFaults : (f g : Fault) → WrongFault f → WrongFault g → NarrowFault f g
   BigFault : (p : Place) (g : Fault) → NarrowFault (IsBig p) g
 
-pub wrong_left : (f g : Fault) → WrongFault f → WrongFault (both f g)
+pub wrong_left : (f g : Fault) → WrongFault f → WrongFault (join_faults f g)
 wrong_left NoFault g h = absurd h
 wrong_left (IsWrong p) NoFault h = tt
 wrong_left (IsWrong p) (IsWrong q) h = tt
 wrong_left (IsWrong p) (IsBig q) h = tt
 wrong_left (IsBig p) g h = absurd h
 
-pub wrong_right : (f g : Fault) → WrongFault g → WrongFault (both f g)
+pub wrong_right : (f g : Fault) → WrongFault g → WrongFault (join_faults f g)
 wrong_right NoFault g h = h
 wrong_right (IsWrong p) NoFault h = absurd h
 wrong_right (IsWrong p) (IsWrong q) h = tt
@@ -42,13 +42,13 @@ wrong_right (IsBig p) NoFault h = absurd h
 wrong_right (IsBig p) (IsWrong q) h = tt
 wrong_right (IsBig p) (IsBig q) h = absurd h
 
-pub both_narrow : {f g h k : Fault} → NarrowFault f g → NarrowFault h k → NarrowFault (both f h) (both g k)
+pub both_narrow : {f g h k : Fault} → NarrowFault f g → NarrowFault h k → NarrowFault (join_faults f h) (join_faults g k)
 both_narrow NoFaults r = r
-both_narrow {h = h} {k = k} (WrongFaults f g x y) r = WrongFaults (both f h) (both g k) (wrong_left f h x) (wrong_left g k y)
-both_narrow (BigFault p g) NoFaults = BigFault p (both g NoFault)
+both_narrow {h = h} {k = k} (WrongFaults f g x y) r = WrongFaults (join_faults f h) (join_faults g k) (wrong_left f h x) (wrong_left g k y)
+both_narrow (BigFault p g) NoFaults = BigFault p (join_faults g NoFault)
 both_narrow (BigFault p g) (WrongFaults h k x y) =
-    WrongFaults (both (IsBig p) h) (both g k) (wrong_right (IsBig p) h x) (wrong_right g k y)
-both_narrow (BigFault p g) (BigFault q k) = BigFault (least p q) (both g k)
+    WrongFaults (join_faults (IsBig p) h) (join_faults g k) (wrong_right (IsBig p) h x) (wrong_right g k y)
+both_narrow (BigFault p g) (BigFault q k) = BigFault (least p q) (join_faults g k)
 
 pub fault_narrow : {o q : Outcome} → Narrow o q → NarrowFault (fault_of o) (fault_of q)
 fault_narrow (SameValue v) = NoFaults
@@ -61,15 +61,15 @@ wrong_not_none f h e = subst WrongFault e h
 pub big_not_none : (p : Place) → IsBig p ≡ NoFault → ⊥
 big_not_none p e = cc
 
-pub left_none : (f g : Fault) → both f g ≡ NoFault → f ≡ NoFault
+pub left_none : (f g : Fault) → join_faults f g ≡ NoFault → f ≡ NoFault
 left_none NoFault g e = refl
-left_none (IsWrong p) g e = absurd (wrong_not_none (both (IsWrong p) g) (wrong_left (IsWrong p) g tt) e)
+left_none (IsWrong p) g e = absurd (wrong_not_none (join_faults (IsWrong p) g) (wrong_left (IsWrong p) g tt) e)
 left_none (IsBig p) NoFault e = e
 left_none (IsBig p) (IsWrong q) e = cc
 left_none (IsBig p) (IsBig q) e = cc
 
-pub right_none : (f g : Fault) → both f g ≡ NoFault → g ≡ NoFault
-right_none f g e = subst (λ (x : Fault). both x g ≡ NoFault) (left_none f g e) e
+pub right_none : (f g : Fault) → join_faults f g ≡ NoFault → g ≡ NoFault
+right_none f g e = subst (λ (x : Fault). join_faults x g ≡ NoFault) (left_none f g e) e
 
 -- ---- outcomes of several operands
 
@@ -84,17 +84,17 @@ joined_narrow (more_narrow r rs) = both_narrow (fault_narrow r) (joined_narrow r
 pub values_narrow : {os qs : List Outcome} → AllNarrow os qs → joined os ≡ NoFault → values os ≡ values qs
 values_narrow none_narrow e = refl
 values_narrow (more_narrow (SameValue v) rs) e = ap (λ (vs : List Value). v ∷ vs) (values_narrow rs e)
-values_narrow (more_narrow {os = os} (BothWrong p q) rs) e = absurd (wrong_not_none (both (IsWrong p) (joined os)) (wrong_left (IsWrong p) (joined os) tt) e)
+values_narrow (more_narrow {os = os} (BothWrong p q) rs) e = absurd (wrong_not_none (join_faults (IsWrong p) (joined os)) (wrong_left (IsWrong p) (joined os) tt) e)
 values_narrow (more_narrow {os = os} (TooBig p o) rs) e = absurd (big_not_none p (left_none (IsBig p) (joined os) e))
 
-pub unless_narrow : {f g : Fault} {o q : Outcome} → NarrowFault f g → (f ≡ NoFault → Narrow o q) → Narrow (unless f o) (unless g q)
+pub unless_narrow : {f g : Fault} {o q : Outcome} → NarrowFault f g → (f ≡ NoFault → Narrow o q) → Narrow (fault_or f o) (fault_or g q)
 unless_narrow NoFaults r = r refl
 unless_narrow (WrongFaults NoFault g x y) r = absurd x
 unless_narrow (WrongFaults (IsWrong p) NoFault x y) r = absurd y
 unless_narrow (WrongFaults (IsWrong p) (IsWrong q) x y) r = BothWrong p q
 unless_narrow (WrongFaults (IsWrong p) (IsBig q) x y) r = absurd y
 unless_narrow (WrongFaults (IsBig p) g x y) r = absurd x
-unless_narrow {q = q} (BigFault p g) r = TooBig p (unless g q)
+unless_narrow {q = q} (BigFault p g) r = TooBig p (fault_or g q)
 
 -- operands without a fault have the same values
 pub strict_where : {os qs : List Outcome} (f g : List Value → Outcome) → AllNarrow os qs →

@@ -7,10 +7,10 @@ use Rattle.tla_meaning.specs.declared.place.Place.{Place}
 use Rattle.tla_meaning.specs.declared.outcome.Fault.{Fault}
 use Rattle.tla_meaning.specs.declared.outcome.Fault.TheVariants.{NoFault, IsWrong, IsBig}
 use Rattle.tla_meaning.specs.declared.outcome.Outcome.{Outcome}
-use Rattle.tla_meaning.specs.Outcomes.{both, least, values, unless}
+use Rattle.tla_meaning.specs.Outcomes.{join_faults, least, values, fault_or}
 use Rattle.tla_meaning.specs.Shapes.{choices, all_set_items}
 use Rattle.tla_meaning.specs.Operators.{yes_no}
-use Rattle.tla_meaning.specs.Scopes.{Effect}
+use Rattle.tla_meaning.specs.declared.actions.Effect.{Effect}
 use Rattle.tla_meaning.specs.Actions.{fails_by, is_true, effect_of, outcome_of, effects_and, effects_or, guard, guarded, case_effect, if_effect, exists_effect}
 use Rattle.tla_meaning.specs.Widths.{Narrow, SameValue, BothWrong, TooBig}
 use Rattle.tla_meaning.proofs.Views.{false≢true}
@@ -49,10 +49,10 @@ effect_of_narrow (SameValue v) = Clean (is_true (out-Value v))
 effect_of_narrow (BothWrong p q) = wrong_effect p q
 effect_of_narrow (TooBig p o) = big_effect p (effect_of o)
 
-by_parts : {a b : Bool} {f g : Fault} → Effects a f b g → Narrow (unless f (yes_no a)) (unless g (yes_no b))
+by_parts : {a b : Bool} {f g : Fault} → Effects a f b g → Narrow (fault_or f (yes_no a)) (fault_or g (yes_no b))
 by_parts (Clean b) = narrow_same (yes_no b)
 by_parts (Fails a b f g x y) = unless_narrow (WrongFaults f g x y) (λ e. absurd (wrong_not_none f x e))
-by_parts (Large a b p g r) = TooBig p (unless g (yes_no b))
+by_parts (Large a b p g r) = TooBig p (fault_or g (yes_no b))
 
 pub outcome_of_narrow : (e f : Effect) → NarrowEffect e f → Narrow (outcome_of e) (outcome_of f)
 outcome_of_narrow e f r = by_parts r
@@ -64,7 +64,7 @@ clean_holds false t = absurd (false≢true t)
 -- ---- conjunctions
 
 abbrev and_one : Effect → Effect → Effect
-and_one e rest = elim e.holds [ true ↦ record { holds = rest.holds; fault = both e.fault rest.fault } | false ↦ e ]
+and_one e rest = elim e.holds [ true ↦ record { holds = rest.holds; fault = join_faults e.fault rest.fault } | false ↦ e ]
 
 abbrev pair : Bool → Fault → Effect
 pair b f = record { holds = b; fault = f }
@@ -84,9 +84,9 @@ and_step : {a b c d : Bool} {f g h k : Fault} → Effects a f b g → Effects c 
 and_step (Clean true) m = m
 and_step (Clean false) m = Clean false
 and_step {c = c} {d = d} {h = h} {k = k} (Fails true true f g x y) m =
-    Fails c d (both f h) (both g k) (wrong_left f h x) (wrong_left g k y)
-and_step {c = c} {h = h} (Fails true false f g x y) m = Fails c false (both f h) g (wrong_left f h x) y
-and_step {d = d} {k = k} (Fails false true f g x y) m = Fails false d f (both g k) x (wrong_left g k y)
+    Fails c d (join_faults f h) (join_faults g k) (wrong_left f h x) (wrong_left g k y)
+and_step {c = c} {h = h} (Fails true false f g x y) m = Fails c false (join_faults f h) g (wrong_left f h x) y
+and_step {d = d} {k = k} (Fails false true f g x y) m = Fails false d f (join_faults g k) x (wrong_left g k y)
 and_step (Fails false false f g x y) m = Fails false false f g x y
 and_step {d = d} {k = k} (Large false b p g r) m = big_effect p (and_one (pair b g) (pair d k))
 and_step (Large true b p g r) (Clean c) =
@@ -94,7 +94,7 @@ and_step (Large true b p g r) (Clean c) =
     Large c out.holds p out.fault (λ t. holds_and b c g NoFault (r refl) (clean_holds c t))
 and_step (Large true b p g r) (Fails c d h k x y) =
     let out : Effect = and_one (pair b g) (pair d k) in
-    Fails c out.holds (both (IsBig p) h) out.fault (wrong_right (IsBig p) h x) (wrong_and b d g k (r refl) y)
+    Fails c out.holds (join_faults (IsBig p) h) out.fault (wrong_right (IsBig p) h x) (wrong_and b d g k (r refl) y)
 and_step (Large true b p g r) (Large c d q k s) =
     let out : Effect = and_one (pair b g) (pair d k) in
     Large c out.holds (least p q) out.fault (λ t. holds_and b d g k (r refl) (s t))
@@ -105,30 +105,30 @@ effects_and_narrow (more_effects e f r rs) = and_step r (effects_and_narrow rs)
 
 -- ---- disjunctions
 
-left_holds : (b d : Bool) (g k : Fault) → HoldsOr b g → HoldsOr (b || d) (both g k)
+left_holds : (b d : Bool) (g k : Fault) → HoldsOr b g → HoldsOr (b || d) (join_faults g k)
 left_holds true d g k x = tt
 left_holds false true g k x = tt
 left_holds false false g k x = wrong_left g k x
 
-right_holds : (b d : Bool) (g k : Fault) → HoldsOr d k → HoldsOr (b || d) (both g k)
+right_holds : (b d : Bool) (g k : Fault) → HoldsOr d k → HoldsOr (b || d) (join_faults g k)
 right_holds true d g k x = tt
 right_holds false true g k x = tt
 right_holds false false g k x = wrong_right g k x
 
-holds_or : (a b c d : Bool) (g k : Fault) → (IsTrue a → HoldsOr b g) → (IsTrue c → HoldsOr d k) → IsTrue (a || c) → HoldsOr (b || d) (both g k)
+holds_or : (a b c d : Bool) (g k : Fault) → (IsTrue a → HoldsOr b g) → (IsTrue c → HoldsOr d k) → IsTrue (a || c) → HoldsOr (b || d) (join_faults g k)
 holds_or true b c d g k r s t = left_holds b d g k (r refl)
 holds_or false b c d g k r s t = right_holds b d g k (s t)
 
-or_step : {a b c d : Bool} {f g h k : Fault} → Effects a f b g → Effects c h d k → Effects (a || c) (both f h) (b || d) (both g k)
+or_step : {a b c d : Bool} {f g h k : Fault} → Effects a f b g → Effects c h d k → Effects (a || c) (join_faults f h) (b || d) (join_faults g k)
 or_step (Clean b) (Clean c) = Clean (b || c)
 or_step (Clean b) (Fails c d h k x y) = Fails (b || c) (b || d) h k x y
 or_step (Clean b) (Large c d q k s) = Large (b || c) (b || d) q k (holds_or b b c d NoFault k (clean_holds b) s)
 or_step {c = c} {d = d} {h = h} {k = k} (Fails a b f g x y) m =
-    Fails (a || c) (b || d) (both f h) (both g k) (wrong_left f h x) (wrong_left g k y)
-or_step (Large a b p g r) (Clean c) = Large (a || c) (b || c) p (both g NoFault) (holds_or a b c c g NoFault r (clean_holds c))
+    Fails (a || c) (b || d) (join_faults f h) (join_faults g k) (wrong_left f h x) (wrong_left g k y)
+or_step (Large a b p g r) (Clean c) = Large (a || c) (b || c) p (join_faults g NoFault) (holds_or a b c c g NoFault r (clean_holds c))
 or_step (Large a b p g r) (Fails c d h k x y) =
-    Fails (a || c) (b || d) (both (IsBig p) h) (both g k) (wrong_right (IsBig p) h x) (wrong_right g k y)
-or_step (Large a b p g r) (Large c d q k s) = Large (a || c) (b || d) (least p q) (both g k) (holds_or a b c d g k r s)
+    Fails (a || c) (b || d) (join_faults (IsBig p) h) (join_faults g k) (wrong_right (IsBig p) h x) (wrong_right g k y)
+or_step (Large a b p g r) (Large c d q k s) = Large (a || c) (b || d) (least p q) (join_faults g k) (holds_or a b c d g k r s)
 
 pub effects_or_narrow : {es fs : List Effect} → AllEffects es fs → NarrowEffect (effects_or es) (effects_or fs)
 effects_or_narrow no_effects = Clean false

@@ -9,10 +9,12 @@ use Rattle.tla_meaning.specs.declared.outcome.Fault.{Fault}
 use Rattle.tla_meaning.specs.declared.outcome.Fault.TheVariants.{NoFault, IsWrong, IsBig}
 use Rattle.tla_meaning.specs.declared.outcome.Outcome.{Outcome}
 use Rattle.tla_meaning.specs.declared.outcome.Outcome.TheVariants.{Val, Wrong, Big}
-use Rattle.tla_meaning.specs.Outcomes.{both, least, fault_of, with_value}
+use Rattle.tla_meaning.specs.Outcomes.{join_faults, least, fault_of, with_value}
 use Rattle.tla_meaning.specs.Shapes.{all_set_items, set_items, items_of}
 use Rattle.tla_meaning.specs.Operators.{on_all_sets, on_items, yes_no}
-use Rattle.tla_meaning.specs.Forms.{SetForm, SetForms, Plain, Functions, Formed, Made, Broken, form_fault, form_faults, made, is_set_form, all_set_forms, form_unless, more_forms}
+use Rattle.tla_meaning.specs.declared.forms.SetForm.{SetForm}
+use Rattle.tla_meaning.specs.declared.forms.SetForm.TheVariants as form
+use Rattle.tla_meaning.specs.Forms.{Formed, Made, Broken, form_fault, form_faults, made, is_set_form, all_set_forms, fault_or_form}
 use Rattle.tla_meaning.specs.Meaning.{choose, by_truth, conjoined, disjoined, implied, if_chosen, case_chosen, Update, Reached, At, Outside, NoFunction, at_path, set_path, updated, first_updated, folded, fold_over, form_of_all, form_of_one, layer_of, functions_from, function_form, plain, in_form}
 use Rattle.tla_meaning.specs.Widths.{Narrow, SameValue, BothWrong, TooBig}
 use Rattle.tla_meaning.proofs.Narrow.{narrow_same, NarrowFault, NoFaults, WrongFaults, BigFault, wrong_left, both_narrow, fault_narrow, left_none, big_not_none, wrong_not_none, AllNarrow, none_narrow, more_narrow, with_narrow}
@@ -133,26 +135,26 @@ form_faults_narrow (more_formed r rs) = both_narrow (form_fault_narrow r) (form_
 
 made_same : {fs gs : List Formed} → AllForms fs gs → form_faults fs ≡ NoFault → made fs ≡ made gs
 made_same no_formed e = refl
-made_same (more_formed (SameForm f) rs) e = ap (λ (fs : SetForms). more_forms f fs) (made_same rs e)
+made_same (more_formed (SameForm f) rs) e = ap (λ (fs : List SetForm). f ∷ fs) (made_same rs e)
 made_same (more_formed NoForms rs) e = made_same rs e
 made_same (more_formed {fs = fs} (WrongForms p q) rs) e =
-    absurd (wrong_not_none (both (IsWrong p) (form_faults fs)) (wrong_left (IsWrong p) (form_faults fs) tt) e)
+    absurd (wrong_not_none (join_faults (IsWrong p) (form_faults fs)) (wrong_left (IsWrong p) (form_faults fs) tt) e)
 made_same (more_formed {fs = fs} (BigForm p f) rs) e = absurd (big_not_none p (left_none (IsBig p) (form_faults fs) e))
 
-form_unless_narrow : {f g : Fault} {a b : Formed} → NarrowFault f g → (f ≡ NoFault → NarrowForm a b) → NarrowForm (form_unless f a) (form_unless g b)
+form_unless_narrow : {f g : Fault} {a b : Formed} → NarrowFault f g → (f ≡ NoFault → NarrowForm a b) → NarrowForm (fault_or_form f a) (fault_or_form g b)
 form_unless_narrow NoFaults r = r refl
 form_unless_narrow (WrongFaults NoFault g x y) r = absurd x
 form_unless_narrow (WrongFaults (IsWrong p) NoFault x y) r = absurd y
 form_unless_narrow (WrongFaults (IsWrong p) (IsWrong q) x y) r = WrongForms p q
 form_unless_narrow (WrongFaults (IsWrong p) (IsBig q) x y) r = absurd y
 form_unless_narrow (WrongFaults (IsBig p) g x y) r = absurd x
-form_unless_narrow {b = b} (BigFault p g) r = BigForm p (form_unless g b)
+form_unless_narrow {b = b} (BigFault p g) r = BigForm p (fault_or_form g b)
 
-pub form_of_all_narrow : (p : Place) (make : SetForms → SetForm) {fs gs : List Formed} → AllForms fs gs →
+pub form_of_all_narrow : (p : Place) (make : List SetForm → SetForm) {fs gs : List Formed} → AllForms fs gs →
     NarrowForm (form_of_all p make fs) (form_of_all p make gs)
 form_of_all_narrow p make {fs = fs} rs =
-    let build : SetForms → Formed = λ x. if all_set_forms x then Made (make x) else Broken (IsWrong p) in
-    form_unless_narrow (form_faults_narrow rs) (λ e. subst (λ (x : SetForms). NarrowForm (build (made fs)) (build x)) (made_same rs e) (form_same (build (made fs))))
+    let build : List SetForm → Formed = λ x. if all_set_forms x then Made (make x) else Broken (IsWrong p) in
+    form_unless_narrow (form_faults_narrow rs) (λ e. subst (λ (x : List SetForm). NarrowForm (build (made fs)) (build x)) (made_same rs e) (form_same (build (made fs))))
 
 pub form_of_one_narrow : (p : Place) (make : SetForm → SetForm) {fs gs : List Formed} → AllForms fs gs →
     NarrowForm (form_of_one p make fs) (form_of_one p make gs)
@@ -165,7 +167,7 @@ form_of_one_narrow p make rs = WrongForms p p
 functions_from_narrow : (p : Place) (o : Option (List Value)) {fs gs : List Formed} → AllForms fs gs →
     NarrowForm (functions_from p o fs) (functions_from p o gs)
 functions_from_narrow p None rs = WrongForms p p
-functions_from_narrow p (Some xs) rs = form_of_one_narrow p (Functions xs) rs
+functions_from_narrow p (Some xs) rs = form_of_one_narrow p (form.Functions xs) rs
 
 -- the items of a domain, where it has no fault
 items_same : {o q : Outcome} → Narrow o q → fault_of o ≡ NoFault → layer_of o ≡ layer_of q
@@ -183,7 +185,7 @@ function_form_narrow p (more_narrow {o = o} {q = q} r rs) (more_formed {fs = fs}
 function_form_narrow p rs ss = WrongForms p p
 
 pub plain_narrow : {o q : Outcome} → Narrow o q → NarrowForm (plain o) (plain q)
-plain_narrow (SameValue v) = SameForm (Plain v)
+plain_narrow (SameValue v) = SameForm (form.Plain v)
 plain_narrow (BothWrong p q) = WrongForms p q
 plain_narrow (TooBig p o) = BigForm p (plain o)
 

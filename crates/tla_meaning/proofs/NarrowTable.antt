@@ -1,5 +1,6 @@
 -- The operators that join their operands, under a width and without one.
 use Rattle.std.proofs.Common.{ℕ, zero, suc, Bool, true, false, List, [], ◌∷◌, length, map, Option, Some, None, ℤ, pos, negsuc, ◌+ℤ◌, ◌-ℤ◌, ◌*ℤ◌, neg_ℤ, if◌then◌else◌}
+use Rattle.tla_values.specs.Integers.{floor_quotient, floor_remainder}
 use Rattle.tla_values.specs.Order.{Layer}
 use Rattle.tla_values.specs.Sets.{arguments}
 use Rattle.tla_values.specs.declared.value.Value.{Value, out-Value}
@@ -10,7 +11,7 @@ use Rattle.tla_meaning.specs.declared.op.Op.TheVariants as op
 use Rattle.tla_meaning.specs.declared.place.Place.{Place}
 use Rattle.tla_meaning.specs.declared.outcome.Outcome.{Outcome}
 use Rattle.tla_meaning.specs.declared.outcome.Outcome.TheVariants.{Val, Big}
-use Rattle.tla_meaning.specs.Numbers.{in_width, number, quotient, remainder, power, div_floor, rem_floor, power_of}
+use Rattle.tla_meaning.specs.Numbers.{in_width, number, quotient, remainder, power, power_of}
 use Rattle.tla_meaning.specs.Operators.{table, on_number, on_numbers, on_set, on_function, on_items, domain}
 use Rattle.tla_meaning.specs.Shapes.{items_of}
 use Rattle.tla_meaning.specs.Widths.{Narrow, SameValue, BothWrong, TooBig}
@@ -25,12 +26,12 @@ number_narrow w p n = if_narrow p (value.Int n) (in_width (Some w) n)
 
 quotient_narrow : (w : ℕ) (p : Place) (a b : ℤ) → Narrow (quotient (Some w) p a b) (quotient None p a b)
 quotient_narrow w p a (pos zero) = BothWrong p p
-quotient_narrow w p a (pos (suc b)) = number_narrow w p (div_floor a (suc b))
+quotient_narrow w p a (pos (suc b)) = number_narrow w p (floor_quotient a (suc b))
 quotient_narrow w p a (negsuc b) = BothWrong p p
 
 remainder_narrow : (w : ℕ) (p : Place) (a b : ℤ) → Narrow (remainder (Some w) p a b) (remainder None p a b)
 remainder_narrow w p a (pos zero) = BothWrong p p
-remainder_narrow w p a (pos (suc b)) = number_narrow w p (rem_floor a (suc b))
+remainder_narrow w p a (pos (suc b)) = number_narrow w p (floor_remainder a (suc b))
 remainder_narrow w p a (negsuc b) = BothWrong p p
 
 power_narrow : (w : ℕ) (p : Place) (a b : ℤ) → Narrow (power (Some w) p a b) (power None p a b)

@@ -3,9 +3,10 @@ use Rattle.std.proofs.Common.{◌≡◌, ℕ, zero, suc, Bool, true, false, ◌|
 use Rattle.tla_values.specs.declared.value.Value.{Value}
 use Rattle.tla_meaning.specs.declared.place.Place.{Place}
 use Rattle.tla_meaning.specs.declared.job.State.{State}
-use Rattle.tla_meaning.specs.Scopes.{Marks, Sense, Scope, bind, bound_to, define, pass, find_last, or_else, same_text, nonsense, stands_for}
-use Rattle.tla_meaning.specs.Meaning.{Meaning, View, outcomes, senses, kid, forms, Role, Named, Held, Lets, Plain_role, view, outer, inner, let_scope}
-use Rattle.tla_meaning.specs.Actions.{effects, any_holds}
+use Rattle.tla_meaning.specs.declared.actions.Assigned.{Assigned}
+use Rattle.tla_meaning.specs.Scopes.{Denotation, Scope, bind, bound_to, define, pass, find_last, or_else, same_text, absent, stands_for}
+use Rattle.tla_meaning.specs.Meaning.{Meaning, View, outcomes, denotations, child, forms, Role, Named, Held, Lets, Plain_role, view, outer, inner, let_scope}
+use Rattle.tla_meaning.specs.Actions.{effects, any_mentions}
 use Rattle.tla_meaning.specs.Widths.{Narrow, BothWrong}
 use Rattle.tla_meaning.proofs.Narrow.{AllNarrow, none_narrow, more_narrow}
 use Rattle.tla_meaning.proofs.NarrowForms.{NarrowForm, WrongForms, AllForms, no_formed, more_formed}
@@ -13,74 +14,74 @@ use Rattle.tla_meaning.proofs.NarrowEffects.{NarrowEffect, AllEffects, no_effect
 
 -- ---- senses
 
-pub record NarrowSense (a b : Sense) : Type 0 where
+pub record NarrowDenotation (a b : Denotation) : Type 0 where
   pub value : (s t : State) → Narrow (a.value s t) (b.value s t)
   pub form : (s t : State) → NarrowForm (a.form s t) (b.form s t)
-  pub act : (m : Marks) (s t : State) → NarrowEffect (a.act m s t) (b.act m s t)
+  pub act : (m : Assigned) (s t : State) → NarrowEffect (a.act m s t) (b.act m s t)
   pub unchanged : (s t : State) → Narrow (a.unchanged s t) (b.unchanged s t)
-  pub holds : (m : Marks) (u : Bool) → a.holds m u ≡ b.holds m u
+  pub mentions : (m : Assigned) → a.mentions m ≡ b.mentions m
 
-pub data AllSenses : List Sense → List Sense → Type 0 where
-  no_senses : AllSenses [] []
-  more_senses : {a b : Sense} {as' bs : List Sense} → NarrowSense a b → AllSenses as' bs → AllSenses (a ∷ as') (b ∷ bs)
+pub data AllDenotations : List Denotation → List Denotation → Type 0 where
+  no_denotations : AllDenotations [] []
+  more_denotations : {a b : Denotation} {as' bs : List Denotation} → NarrowDenotation a b → AllDenotations as' bs → AllDenotations (a ∷ as') (b ∷ bs)
 
-pub nonsense_narrow : (p : Place) → NarrowSense (nonsense p) (nonsense p)
-nonsense_narrow p = record {
+pub absent_narrow : (p : Place) → NarrowDenotation (absent p) (absent p)
+absent_narrow p = record {
   value = λ s t. BothWrong p p;
   form = λ s t. WrongForms p p;
   act = λ m s t. wrong_effect p p;
   unchanged = λ s t. BothWrong p p;
-  holds = λ m u. refl;
+  mentions = λ m. refl;
 }
 
-pub kid_narrow : (p : Place) (n : ℕ) {as' bs : List Sense} → AllSenses as' bs → NarrowSense (kid p n as') (kid p n bs)
-kid_narrow p n no_senses = nonsense_narrow p
-kid_narrow p zero (more_senses r rs) = r
-kid_narrow p (suc n) (more_senses r rs) = kid_narrow p n rs
+pub child_narrow : (p : Place) (n : ℕ) {as' bs : List Denotation} → AllDenotations as' bs → NarrowDenotation (child p n as') (child p n bs)
+child_narrow p n no_denotations = absent_narrow p
+child_narrow p zero (more_denotations r rs) = r
+child_narrow p (suc n) (more_denotations r rs) = child_narrow p n rs
 
-pub take_narrow : (n : ℕ) {as' bs : List Sense} → AllSenses as' bs → AllSenses (take n as') (take n bs)
-take_narrow zero rs = no_senses
-take_narrow (suc n) no_senses = no_senses
-take_narrow (suc n) (more_senses r rs) = more_senses r (take_narrow n rs)
+pub take_narrow : (n : ℕ) {as' bs : List Denotation} → AllDenotations as' bs → AllDenotations (take n as') (take n bs)
+take_narrow zero rs = no_denotations
+take_narrow (suc n) no_denotations = no_denotations
+take_narrow (suc n) (more_denotations r rs) = more_denotations r (take_narrow n rs)
 
-pub drop_narrow : (n : ℕ) {as' bs : List Sense} → AllSenses as' bs → AllSenses (drop n as') (drop n bs)
+pub drop_narrow : (n : ℕ) {as' bs : List Denotation} → AllDenotations as' bs → AllDenotations (drop n as') (drop n bs)
 drop_narrow zero rs = rs
-drop_narrow (suc n) no_senses = no_senses
-drop_narrow (suc n) (more_senses r rs) = drop_narrow n rs
+drop_narrow (suc n) no_denotations = no_denotations
+drop_narrow (suc n) (more_denotations r rs) = drop_narrow n rs
 
-pub append_narrow : {as' bs cs ds : List Sense} → AllSenses as' bs → AllSenses cs ds → AllSenses (as' ++ cs) (bs ++ ds)
-append_narrow no_senses qs = qs
-append_narrow (more_senses r rs) qs = more_senses r (append_narrow rs qs)
+pub append_narrow : {as' bs cs ds : List Denotation} → AllDenotations as' bs → AllDenotations cs ds → AllDenotations (as' ++ cs) (bs ++ ds)
+append_narrow no_denotations qs = qs
+append_narrow (more_denotations r rs) qs = more_denotations r (append_narrow rs qs)
 
-pub outcomes_narrow : {as' bs : List Sense} → AllSenses as' bs → (s t : State) → AllNarrow (outcomes as' s t) (outcomes bs s t)
-outcomes_narrow no_senses s t = none_narrow
-outcomes_narrow (more_senses r rs) s t = more_narrow (r.value s t) (outcomes_narrow rs s t)
+pub outcomes_narrow : {as' bs : List Denotation} → AllDenotations as' bs → (s t : State) → AllNarrow (outcomes as' s t) (outcomes bs s t)
+outcomes_narrow no_denotations s t = none_narrow
+outcomes_narrow (more_denotations r rs) s t = more_narrow (r.value s t) (outcomes_narrow rs s t)
 
-pub unchanged_narrow : {as' bs : List Sense} → AllSenses as' bs → (s t : State) →
-    AllNarrow (map (λ (a : Sense). a.unchanged s t) as') (map (λ (a : Sense). a.unchanged s t) bs)
-unchanged_narrow no_senses s t = none_narrow
-unchanged_narrow (more_senses r rs) s t = more_narrow (r.unchanged s t) (unchanged_narrow rs s t)
+pub unchanged_narrow : {as' bs : List Denotation} → AllDenotations as' bs → (s t : State) →
+    AllNarrow (map (λ (a : Denotation). a.unchanged s t) as') (map (λ (a : Denotation). a.unchanged s t) bs)
+unchanged_narrow no_denotations s t = none_narrow
+unchanged_narrow (more_denotations r rs) s t = more_narrow (r.unchanged s t) (unchanged_narrow rs s t)
 
-pub forms_narrow : {as' bs : List Sense} → AllSenses as' bs → (s t : State) → AllForms (forms as' s t) (forms bs s t)
-forms_narrow no_senses s t = no_formed
-forms_narrow (more_senses r rs) s t = more_formed (r.form s t) (forms_narrow rs s t)
+pub forms_narrow : {as' bs : List Denotation} → AllDenotations as' bs → (s t : State) → AllForms (forms as' s t) (forms bs s t)
+forms_narrow no_denotations s t = no_formed
+forms_narrow (more_denotations r rs) s t = more_formed (r.form s t) (forms_narrow rs s t)
 
-pub effects_narrow : (m : Marks) {as' bs : List Sense} → AllSenses as' bs → (s t : State) → AllEffects (effects m as' s t) (effects m bs s t)
-effects_narrow m no_senses s t = no_effects
-effects_narrow m (more_senses {a = a} {b = b} r rs) s t = more_effects (a.act m s t) (b.act m s t) (r.act m s t) (effects_narrow m rs s t)
+pub effects_narrow : (m : Assigned) {as' bs : List Denotation} → AllDenotations as' bs → (s t : State) → AllEffects (effects m as' s t) (effects m bs s t)
+effects_narrow m no_denotations s t = no_effects
+effects_narrow m (more_denotations {a = a} {b = b} r rs) s t = more_effects (a.act m s t) (b.act m s t) (r.act m s t) (effects_narrow m rs s t)
 
-pub any_same : (m : Marks) (u : Bool) {as' bs : List Sense} → AllSenses as' bs → any_holds m u as' ≡ any_holds m u bs
-any_same m u no_senses = refl
-any_same m u (more_senses r rs) = ap₂ (λ (x y : Bool). x || y) (r.holds m u) (any_same m u rs)
+pub any_same : (m : Assigned) {as' bs : List Denotation} → AllDenotations as' bs → any_mentions m as' ≡ any_mentions m bs
+any_same m no_denotations = refl
+any_same m (more_denotations r rs) = ap₂ (λ (x y : Bool). x || y) (r.mentions m) (any_same m rs)
 
 -- ---- scopes
 
-abbrev pub NarrowDef : (List Sense → Sense) → (List Sense → Sense) → Type 0
-NarrowDef d e = (as' bs : List Sense) → AllSenses as' bs → NarrowSense (d as') (e bs)
+abbrev pub NarrowDef : (List Denotation → Denotation) → (List Denotation → Denotation) → Type 0
+NarrowDef d e = (as' bs : List Denotation) → AllDenotations as' bs → NarrowDenotation (d as') (e bs)
 
-pub data AllNamed : List (List ℕ × (List Sense → Sense)) → List (List ℕ × (List Sense → Sense)) → Type 0 where
+pub data AllNamed : List (List ℕ × (List Denotation → Denotation)) → List (List ℕ × (List Denotation → Denotation)) → Type 0 where
   no_named : AllNamed [] []
-  more_named : (x : List ℕ) (d e : List Sense → Sense) {ds es : List (List ℕ × (List Sense → Sense))} → NarrowDef d e → AllNamed ds es →
+  more_named : (x : List ℕ) (d e : List Denotation → Denotation) {ds es : List (List ℕ × (List Denotation → Denotation))} → NarrowDef d e → AllNamed ds es →
       AllNamed ((x, d) ∷ ds) ((x, e) ∷ es)
 
 -- the same bound values, and the same names
@@ -88,89 +89,89 @@ pub record NarrowScope (a b : Scope) : Type 0 where
   pub bound : a.bound ≡ b.bound
   pub named : AllNamed a.named b.named
 
-pub data NarrowFound : Option (List Sense → Sense) → Option (List Sense → Sense) → Type 0 where
+pub data NarrowFound : Option (List Denotation → Denotation) → Option (List Denotation → Denotation) → Type 0 where
   NotFound : NarrowFound None None
-  Found : (d e : List Sense → Sense) → NarrowDef d e → NarrowFound (Some d) (Some e)
+  Found : (d e : List Denotation → Denotation) → NarrowDef d e → NarrowFound (Some d) (Some e)
 
-or_else_narrow : {a b c d : Option (List Sense → Sense)} → NarrowFound a b → NarrowFound c d → NarrowFound (or_else a c) (or_else b d)
+or_else_narrow : {a b c d : Option (List Denotation → Denotation)} → NarrowFound a b → NarrowFound c d → NarrowFound (or_else a c) (or_else b d)
 or_else_narrow NotFound s = s
 or_else_narrow (Found d e r) s = Found d e r
 
-if_found : (c : Bool) (d e : List Sense → Sense) → NarrowDef d e → NarrowFound (if c then Some d else None) (if c then Some e else None)
+if_found : (c : Bool) (d e : List Denotation → Denotation) → NarrowDef d e → NarrowFound (if c then Some d else None) (if c then Some e else None)
 if_found true d e r = Found d e r
 if_found false d e r = NotFound
 
-find_narrow : (x : List ℕ) {ds es : List (List ℕ × (List Sense → Sense))} → AllNamed ds es → NarrowFound (find_last x ds) (find_last x es)
+find_narrow : (x : List ℕ) {ds es : List (List ℕ × (List Denotation → Denotation))} → AllNamed ds es → NarrowFound (find_last x ds) (find_last x es)
 find_narrow x no_named = NotFound
 find_narrow x (more_named y d e r rs) = or_else_narrow (find_narrow x rs) (if_found (same_text x y) d e r)
 
-named_append : {as' bs cs ds : List (List ℕ × (List Sense → Sense))} → AllNamed as' bs → AllNamed cs ds → AllNamed (as' ++ cs) (bs ++ ds)
+named_append : {as' bs cs ds : List (List ℕ × (List Denotation → Denotation))} → AllNamed as' bs → AllNamed cs ds → AllNamed (as' ++ cs) (bs ++ ds)
 named_append no_named qs = qs
 named_append (more_named x d e r rs) qs = more_named x d e r (named_append rs qs)
 
-named_zip : (xs : List (List ℕ)) {as' bs : List Sense} → AllSenses as' bs →
-    AllNamed (zip xs (map (λ a. λ (_ : List Sense). a) as')) (zip xs (map (λ a. λ (_ : List Sense). a) bs))
+named_zip : (xs : List (List ℕ)) {as' bs : List Denotation} → AllDenotations as' bs →
+    AllNamed (zip xs (map (λ a. λ (_ : List Denotation). a) as')) (zip xs (map (λ a. λ (_ : List Denotation). a) bs))
 named_zip [] rs = no_named
-named_zip (x ∷ xs) no_senses = no_named
-named_zip (x ∷ xs) (more_senses {a = a} {b = b} r rs) = more_named x (λ _. a) (λ _. b) (λ as' bs h. r) (named_zip xs rs)
+named_zip (x ∷ xs) no_denotations = no_named
+named_zip (x ∷ xs) (more_denotations {a = a} {b = b} r rs) = more_named x (λ _. a) (λ _. b) (λ as' bs h. r) (named_zip xs rs)
 
 bind_narrow : (xs : List (List ℕ)) (vs : List Value) {a b : Scope} → NarrowScope a b → NarrowScope (bind xs vs a) (bind xs vs b)
 bind_narrow xs vs r = record { bound = ap (λ (es : List (List ℕ × Value)). es ++ bound_to xs vs) r.bound; named = r.named }
 
-define_narrow : (x : List ℕ) (d e : List Sense → Sense) {a b : Scope} → NarrowDef d e → NarrowScope a b → NarrowScope (define x d a) (define x e b)
+define_narrow : (x : List ℕ) (d e : List Denotation → Denotation) {a b : Scope} → NarrowDef d e → NarrowScope a b → NarrowScope (define x d a) (define x e b)
 define_narrow x d e h r = record { bound = r.bound; named = named_append r.named (more_named x d e h no_named) }
 
-pass_narrow : (xs : List (List ℕ)) {as' bs : List Sense} {a b : Scope} → AllSenses as' bs → NarrowScope a b →
+pass_narrow : (xs : List (List ℕ)) {as' bs : List Denotation} {a b : Scope} → AllDenotations as' bs → NarrowScope a b →
     NarrowScope (pass xs as' a) (pass xs bs b)
 pass_narrow xs h r = record { bound = r.bound; named = named_append r.named (named_zip xs h) }
 
-stands_for_narrow : (p : Place) {o q : Option (List Sense → Sense)} {as' bs : List Sense} → NarrowFound o q → AllSenses as' bs →
-    NarrowSense (stands_for p o as') (stands_for p q bs)
-stands_for_narrow p NotFound h = nonsense_narrow p
+stands_for_narrow : (p : Place) {o q : Option (List Denotation → Denotation)} {as' bs : List Denotation} → NarrowFound o q → AllDenotations as' bs →
+    NarrowDenotation (stands_for p o as') (stands_for p q bs)
+stands_for_narrow p NotFound h = absent_narrow p
 stands_for_narrow p {as' = as'} {bs = bs} (Found d e r) h = r as' bs h
 
 -- ---- views
 
 abbrev pub NarrowMeaning : Meaning → Meaning → Type 0
-NarrowMeaning k l = (a b : Scope) → NarrowScope a b → NarrowSense (k a) (l b)
+NarrowMeaning k l = (a b : Scope) → NarrowScope a b → NarrowDenotation (k a) (l b)
 
 pub data AllMeanings : List Meaning → List Meaning → Type 0 where
   no_meanings : AllMeanings [] []
   more_meanings : (k l : Meaning) {ks ls : List Meaning} → NarrowMeaning k l → AllMeanings ks ls → AllMeanings (k ∷ ks) (l ∷ ls)
 
-pub data NarrowWhole : Option Sense → Option Sense → Type 0 where
+pub data NarrowWhole : Option Denotation → Option Denotation → Type 0 where
   NoWhole : NarrowWhole None None
-  IsWhole : (a b : Sense) → NarrowSense a b → NarrowWhole (Some a) (Some b)
+  IsWhole : (a b : Denotation) → NarrowDenotation a b → NarrowWhole (Some a) (Some b)
 
 pub record NarrowView (v u : View) : Type 0 where
-  pub here : AllSenses v.here u.here
-  pub under : (vs : List Value) → AllSenses (v.under vs) (u.under vs)
+  pub here : AllDenotations v.here u.here
+  pub under : (vs : List Value) → AllDenotations (v.under vs) (u.under vs)
   pub held : v.held ≡ u.held
   pub whole : NarrowWhole v.whole u.whole
 
-senses_narrow : {ks ls : List Meaning} (a b : Scope) → AllMeanings ks ls → NarrowScope a b → AllSenses (senses ks a) (senses ls b)
-senses_narrow a b no_meanings r = no_senses
-senses_narrow a b (more_meanings k l h hs) r = more_senses (h a b r) (senses_narrow a b hs r)
+denotations_narrow : {ks ls : List Meaning} (a b : Scope) → AllMeanings ks ls → NarrowScope a b → AllDenotations (denotations ks a) (denotations ls b)
+denotations_narrow a b no_meanings r = no_denotations
+denotations_narrow a b (more_meanings k l h hs) r = more_denotations (h a b r) (denotations_narrow a b hs r)
 
 outer_narrow : (p : Place) (ms : List Bool) {ks ls : List Meaning} (a b : Scope) → AllMeanings ks ls → NarrowScope a b →
-    AllSenses (outer p ms ks a) (outer p ms ls b)
-outer_narrow p ms a b no_meanings r = no_senses
-outer_narrow p [] a b (more_meanings k l h hs) r = more_senses (h a b r) (outer_narrow p [] a b hs r)
-outer_narrow p (true ∷ ms) a b (more_meanings k l h hs) r = more_senses (nonsense_narrow p) (outer_narrow p ms a b hs r)
-outer_narrow p (false ∷ ms) a b (more_meanings k l h hs) r = more_senses (h a b r) (outer_narrow p ms a b hs r)
+    AllDenotations (outer p ms ks a) (outer p ms ls b)
+outer_narrow p ms a b no_meanings r = no_denotations
+outer_narrow p [] a b (more_meanings k l h hs) r = more_denotations (h a b r) (outer_narrow p [] a b hs r)
+outer_narrow p (true ∷ ms) a b (more_meanings k l h hs) r = more_denotations (absent_narrow p) (outer_narrow p ms a b hs r)
+outer_narrow p (false ∷ ms) a b (more_meanings k l h hs) r = more_denotations (h a b r) (outer_narrow p ms a b hs r)
 
 inner_narrow : (p : Place) (ms : List Bool) {ks ls : List Meaning} (a b : Scope) → AllMeanings ks ls → NarrowScope a b →
-    AllSenses (inner p ms ks a) (inner p ms ls b)
-inner_narrow p ms a b no_meanings r = no_senses
-inner_narrow p [] a b (more_meanings k l h hs) r = more_senses (nonsense_narrow p) (inner_narrow p [] a b hs r)
-inner_narrow p (true ∷ ms) a b (more_meanings k l h hs) r = more_senses (h a b r) (inner_narrow p ms a b hs r)
-inner_narrow p (false ∷ ms) a b (more_meanings k l h hs) r = more_senses (nonsense_narrow p) (inner_narrow p ms a b hs r)
+    AllDenotations (inner p ms ks a) (inner p ms ls b)
+inner_narrow p ms a b no_meanings r = no_denotations
+inner_narrow p [] a b (more_meanings k l h hs) r = more_denotations (absent_narrow p) (inner_narrow p [] a b hs r)
+inner_narrow p (true ∷ ms) a b (more_meanings k l h hs) r = more_denotations (h a b r) (inner_narrow p ms a b hs r)
+inner_narrow p (false ∷ ms) a b (more_meanings k l h hs) r = more_denotations (absent_narrow p) (inner_narrow p ms a b hs r)
 
 let_narrow : (ds : List (List ℕ × ℕ)) (xs : List (List ℕ)) {ks ls : List Meaning} (a b : Scope) → AllMeanings ks ls → NarrowScope a b →
     NarrowScope (let_scope ds xs ks a) (let_scope ds xs ls b)
 let_narrow (d ∷ ds) xs a b (more_meanings k l h hs) r =
-    let da : List Sense → Sense = λ as'. k (pass (take d.1 xs) as' a) in
-    let db : List Sense → Sense = λ as'. l (pass (take d.1 xs) as' b) in
+    let da : List Denotation → Denotation = λ as'. k (pass (take d.1 xs) as' a) in
+    let db : List Denotation → Denotation = λ as'. l (pass (take d.1 xs) as' b) in
     let_narrow ds (drop d.1 xs) (define d.0 da a) (define d.0 db b) hs
     (define_narrow d.0 da db (λ as' bs g. h (pass (take d.1 xs) as' a) (pass (take d.1 xs) bs b) (pass_narrow (take d.1 xs) g r)) r)
 let_narrow ds xs a b hs r = r
@@ -178,26 +179,26 @@ let_narrow ds xs a b hs r = r
 pub view_narrow : (p : Place) (o : Role) (xs : List (List ℕ)) {ks ls : List Meaning} (a b : Scope) → AllMeanings ks ls → NarrowScope a b →
     NarrowView (view p o xs ks a) (view p o xs ls b)
 view_narrow p (Named x) xs {ks = ks} {ls = ls} a b hs r =
-    let here : AllSenses (senses ks a) (senses ls b) = senses_narrow a b hs r in
+    let here : AllDenotations (denotations ks a) (denotations ls b) = denotations_narrow a b hs r in
     record {
       here = here;
-      under = λ vs. no_senses;
+      under = λ vs. no_denotations;
       held = refl;
-      whole = IsWhole (stands_for p (find_last x a.named) (senses ks a)) (stands_for p (find_last x b.named) (senses ls b))
+      whole = IsWhole (stands_for p (find_last x a.named) (denotations ks a)) (stands_for p (find_last x b.named) (denotations ls b))
           (stands_for_narrow p (find_narrow x r.named) here);
     }
 view_narrow p (Held x) xs a b hs r = record {
-  here = senses_narrow a b hs r;
-  under = λ vs. no_senses;
+  here = denotations_narrow a b hs r;
+  under = λ vs. no_denotations;
   held = ap (λ (es : List (List ℕ × Value)). find_last x es) r.bound;
   whole = NoWhole;
 }
 view_narrow p (Lets ds) xs {ks = ks} {ls = ls} a b hs r = record {
-  here = senses_narrow a b hs r;
-  under = λ vs. no_senses;
+  here = denotations_narrow a b hs r;
+  under = λ vs. no_denotations;
   held = refl;
-  whole = IsWhole (kid p (length ds) (senses ks (let_scope ds xs ks a))) (kid p (length ds) (senses ls (let_scope ds xs ls b)))
-      (kid_narrow p (length ds) (senses_narrow (let_scope ds xs ks a) (let_scope ds xs ls b) hs (let_narrow ds xs a b hs r)));
+  whole = IsWhole (child p (length ds) (denotations ks (let_scope ds xs ks a))) (child p (length ds) (denotations ls (let_scope ds xs ls b)))
+      (child_narrow p (length ds) (denotations_narrow (let_scope ds xs ks a) (let_scope ds xs ls b) hs (let_narrow ds xs a b hs r)));
 }
 view_narrow p (Plain_role ms) xs a b hs r = record {
   here = outer_narrow p ms a b hs r;

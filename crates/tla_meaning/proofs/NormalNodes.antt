@@ -16,45 +16,46 @@ use Rattle.tla_meaning.specs.declared.outcome.Fault.{Fault}
 use Rattle.tla_meaning.specs.declared.outcome.Fault.TheVariants.{NoFault, IsWrong, IsBig}
 use Rattle.tla_meaning.specs.declared.outcome.Outcome.{Outcome}
 use Rattle.tla_meaning.specs.declared.outcome.Outcome.TheVariants.{Val, Wrong, Big}
-use Rattle.tla_meaning.specs.Outcomes.{both, joined, values, unless, strict, with_value}
+use Rattle.tla_meaning.specs.Outcomes.{join_faults, joined, values, fault_or, strict, with_value}
 use Rattle.tla_meaning.specs.Numbers.{Width}
 use Rattle.tla_meaning.specs.Shapes.{the_set, choices, items_of, set_items}
 use Rattle.tla_meaning.specs.Operators.{table, yes_no, on_all_sets, on_items}
-use Rattle.tla_meaning.specs.Forms.{SetForm, Formed, Made, Broken, form_fault, is_set_form, belongs}
-use Rattle.tla_meaning.specs.Scopes.{Sense, nonsense, value_found}
-use Rattle.tla_meaning.specs.Meaning.{View, outcomes, kid, forms, choose, by_truth, conjoined, disjoined, implied, if_chosen, case_chosen, truths, on_all_truths, kept, argument, bound_table, over_members, Update, Reached, At, Outside, NoFunction, reached_at, step_into, go_on, at_path, put_at, set_path, updated, all_indexes, updates, first_updated, except, folded, fold_over, in_form, all_in, read, changed, value_of, kept_value, unchanged_of}
-use Rattle.tla_meaning.specs.Actions.{meant, sense_of}
+use Rattle.tla_meaning.specs.declared.forms.SetForm.{SetForm}
+use Rattle.tla_meaning.specs.Forms.{Formed, Made, Broken, form_fault, is_set_form, belongs}
+use Rattle.tla_meaning.specs.Scopes.{Denotation, absent, value_found}
+use Rattle.tla_meaning.specs.Meaning.{View, outcomes, child, forms, choose, by_truth, conjoined, disjoined, implied, if_chosen, case_chosen, truths, on_all_truths, kept, argument, bound_table, over_members, Update, Reached, At, Outside, NoFunction, reached_at, step_into, go_on, at_path, put_at, set_path, updated, all_indexes, updates, first_updated, except, folded, fold_over, in_form, all_in, read, changed, value_of, kept_value, unchanged_of}
+use Rattle.tla_meaning.specs.Actions.{meant, denotation_of}
 use Rattle.tla_meaning.proofs.NormalShapes.{Normals, NormalSet, NormalLists, NormalLayer, IfSomes, layer_normal, text_normal, the_set_normal, the_function_normal, all_plus, all_mapped, zip_pairs, sequence_normal, choices_normal, apply_normal, lists_of}
-use Rattle.tla_meaning.proofs.NormalTable.{NormalOutcome, yes_normal, number_normal, on_items_normal, items_of_normal, on_all_sets_normal, taken, dropped, table_normal}
+use Rattle.tla_meaning.proofs.NormalTable.{IsNormalOutcome, yes_normal, number_normal, on_items_normal, items_of_normal, on_all_sets_normal, taken, dropped, table_normal}
 
 abbrev pub NormalOutcomes : List Outcome → Type 0
-NormalOutcomes os = AllByRecursion NormalOutcome os
+NormalOutcomes os = AllByRecursion IsNormalOutcome os
 
 abbrev pub Good : State → Type 0
 Good s = Normals s.vals
 
-pub record NormalSense (a : Sense) : Type 0 where
-  pub value : (s t : State) → Good s → Good t → NormalOutcome (a.value s t)
-  pub unchanged : (s t : State) → Good s → Good t → NormalOutcome (a.unchanged s t)
+pub record NormalDenotation (a : Denotation) : Type 0 where
+  pub value : (s t : State) → Good s → Good t → IsNormalOutcome (a.value s t)
+  pub unchanged : (s t : State) → Good s → Good t → IsNormalOutcome (a.unchanged s t)
 
-abbrev pub NormalSenses : List Sense → Type 0
-NormalSenses as' = AllByRecursion NormalSense as'
+abbrev pub NormalDenotations : List Denotation → Type 0
+NormalDenotations as' = AllByRecursion NormalDenotation as'
 
 pub record NormalView (v : View) : Type 0 where
-  pub here : NormalSenses v.here
-  pub under : (vs : List Value) → Normals vs → NormalSenses (v.under vs)
+  pub here : NormalDenotations v.here
+  pub under : (vs : List Value) → Normals vs → NormalDenotations (v.under vs)
   pub held : IfSomes Normal v.held
-  pub whole : IfSomes NormalSense v.whole
+  pub whole : IfSomes NormalDenotation v.whole
 
-pub nonsense_normal : (p : Place) → NormalSense (nonsense p)
-nonsense_normal p = record { value = λ s t g h. tt; unchanged = λ s t g h. tt }
+pub absent_normal : (p : Place) → NormalDenotation (absent p)
+absent_normal p = record { value = λ s t g h. tt; unchanged = λ s t g h. tt }
 
-pub kid_normal : (p : Place) (n : ℕ) (as' : List Sense) → NormalSenses as' → NormalSense (kid p n as')
-kid_normal p n [] h = nonsense_normal p
-kid_normal p zero (a ∷ as') h = h.0
-kid_normal p (suc n) (a ∷ as') h = kid_normal p n as' h.1
+pub child_normal : (p : Place) (n : ℕ) (as' : List Denotation) → NormalDenotations as' → NormalDenotation (child p n as')
+child_normal p n [] h = absent_normal p
+child_normal p zero (a ∷ as') h = h.0
+child_normal p (suc n) (a ∷ as') h = child_normal p n as' h.1
 
-outcomes_normal : (as' : List Sense) → NormalSenses as' → (s t : State) → Good s → Good t → NormalOutcomes (outcomes as' s t)
+outcomes_normal : (as' : List Denotation) → NormalDenotations as' → (s t : State) → Good s → Good t → NormalOutcomes (outcomes as' s t)
 outcomes_normal [] h s t g k = tt
 outcomes_normal (a ∷ as') h s t g k = (h.0.value s t g k, outcomes_normal as' h.1 s t g k)
 
@@ -66,66 +67,66 @@ values_normal (Val v ∷ os) h = (h.0, values_normal os h.1)
 values_normal (Wrong p ∷ os) h = values_normal os h.1
 values_normal (Big p ∷ os) h = values_normal os h.1
 
-unless_normal : (f : Fault) (o : Outcome) → NormalOutcome o → NormalOutcome (unless f o)
+unless_normal : (f : Fault) (o : Outcome) → IsNormalOutcome o → IsNormalOutcome (fault_or f o)
 unless_normal NoFault o h = h
 unless_normal (IsWrong p) o h = tt
 unless_normal (IsBig p) o h = tt
 
-strict_normal : (os : List Outcome) (f : List Value → Outcome) → NormalOutcomes os → ((vs : List Value) → Normals vs → NormalOutcome (f vs)) →
-    NormalOutcome (strict os f)
+strict_normal : (os : List Outcome) (f : List Value → Outcome) → NormalOutcomes os → ((vs : List Value) → Normals vs → IsNormalOutcome (f vs)) →
+    IsNormalOutcome (strict os f)
 strict_normal os f h r = unless_normal (joined os) (f (values os)) (r (values os) (values_normal os h))
 
-with_normal : (o : Outcome) (f : Value → Outcome) → NormalOutcome o → ((v : Value) → Normal v → NormalOutcome (f v)) → NormalOutcome (with_value o f)
+with_normal : (o : Outcome) (f : Value → Outcome) → IsNormalOutcome o → ((v : Value) → Normal v → IsNormalOutcome (f v)) → IsNormalOutcome (with_value o f)
 with_normal (Val v) f h r = r v h
 with_normal (Wrong p) f h r = tt
 with_normal (Big p) f h r = tt
 
-each_normal : (f : List Value → Outcome) → ((vs : List Value) → Normals vs → NormalOutcome (f vs)) → (xss : List (List Value)) → NormalLists xss →
+each_normal : (f : List Value → Outcome) → ((vs : List Value) → Normals vs → IsNormalOutcome (f vs)) → (xss : List (List Value)) → NormalLists xss →
     NormalOutcomes (map f xss)
 each_normal f r [] h = tt
 each_normal f r (xs ∷ xss) h = (r xs h.0, each_normal f r xss h.1)
 
 -- ---- truth values
 
-by_truth_normal : (p : Place) (l : Layer Value) (a b : Outcome) → NormalOutcome a → NormalOutcome b → NormalOutcome (by_truth p l a b)
+by_truth_normal : (p : Place) (l : Layer Value) (a b : Outcome) → IsNormalOutcome a → IsNormalOutcome b → IsNormalOutcome (by_truth p l a b)
 by_truth_normal p (layer.Bool true) a b h k = h
 by_truth_normal p (layer.Bool false) a b h k = k
 by_truth_normal p l a b h k = tt
 
-choose_normal : (p : Place) (o a b : Outcome) → NormalOutcome a → NormalOutcome b → NormalOutcome (choose p o a b)
+choose_normal : (p : Place) (o a b : Outcome) → IsNormalOutcome a → IsNormalOutcome b → IsNormalOutcome (choose p o a b)
 choose_normal p (Val v) a b h k = by_truth_normal p (out-Value v) a b h k
 choose_normal p (Wrong q) a b h k = tt
 choose_normal p (Big q) a b h k = tt
 
-conjoined_normal : (p : Place) (os : List Outcome) → NormalOutcome (conjoined p os)
+conjoined_normal : (p : Place) (os : List Outcome) → IsNormalOutcome (conjoined p os)
 conjoined_normal p [] = yes_normal true
 conjoined_normal p (o ∷ os) = choose_normal p o (conjoined p os) (yes_no false) (conjoined_normal p os) (yes_normal false)
 
-disjoined_normal : (p : Place) (os : List Outcome) → NormalOutcome (disjoined p os)
+disjoined_normal : (p : Place) (os : List Outcome) → IsNormalOutcome (disjoined p os)
 disjoined_normal p [] = yes_normal false
 disjoined_normal p (o ∷ os) = choose_normal p o (yes_no true) (disjoined p os) (yes_normal true) (disjoined_normal p os)
 
-implied_normal : (p : Place) (os : List Outcome) → NormalOutcome (implied p os)
+implied_normal : (p : Place) (os : List Outcome) → IsNormalOutcome (implied p os)
 implied_normal p (a ∷ b ∷ []) =
     choose_normal p a (choose p b (yes_no true) (yes_no false)) (yes_no true)
     (choose_normal p b (yes_no true) (yes_no false) (yes_normal true) (yes_normal false)) (yes_normal true)
 implied_normal p os = tt
 
-if_chosen_normal : (p : Place) (os : List Outcome) → NormalOutcomes os → NormalOutcome (if_chosen p os)
+if_chosen_normal : (p : Place) (os : List Outcome) → NormalOutcomes os → IsNormalOutcome (if_chosen p os)
 if_chosen_normal p (c ∷ a ∷ b ∷ []) h = choose_normal p c a b h.1.0 h.1.1.0
 if_chosen_normal p os h = tt
 
-case_chosen_normal : (p : Place) (os : List Outcome) → NormalOutcomes os → NormalOutcome (case_chosen p os)
+case_chosen_normal : (p : Place) (os : List Outcome) → NormalOutcomes os → IsNormalOutcome (case_chosen p os)
 case_chosen_normal p [] h = tt
 case_chosen_normal p (o ∷ []) h = h.0
 case_chosen_normal p (c ∷ a ∷ os) h = choose_normal p c a (case_chosen p os) h.1.0 (case_chosen_normal p os h.1.1)
 
 -- ---- binders
 
-on_all_truths_normal : (p : Place) (f : List Bool → Outcome) → ((bs : List Bool) → NormalOutcome (f bs)) → (vs : List Value) → NormalOutcome (on_all_truths p f vs)
+on_all_truths_normal : (p : Place) (f : List Bool → Outcome) → ((bs : List Bool) → IsNormalOutcome (f bs)) → (vs : List Value) → IsNormalOutcome (on_all_truths p f vs)
 on_all_truths_normal p f r vs = by_truths (truths vs)
   where
-    by_truths : (o : Option (List Bool)) → NormalOutcome (elim o [ None ↦ Wrong p | Some bs ↦ f bs ])
+    by_truths : (o : Option (List Bool)) → IsNormalOutcome (elim o [ None ↦ Wrong p | Some bs ↦ f bs ])
     by_truths None = tt
     by_truths (Some bs) = r bs
 
@@ -135,15 +136,15 @@ argument_normal (v ∷ []) h = h.0
 argument_normal (v ∷ u ∷ vs) h = sequence_normal (v ∷ u ∷ vs) h
 
 over_normal : (p : Place) (o : Op) (n : ℕ) (v : View) → NormalView v → (s t : State) → Good s → Good t →
-    ((xss : List (List Value)) → AllByRecursion NormalSet xss → (vs : List Value) → Normals vs → NormalOutcome (bound_table p o (choices xss) vs)) →
-    NormalOutcome (over_members p o n v s t)
+    ((xss : List (List Value)) → AllByRecursion NormalSet xss → (vs : List Value) → Normals vs → IsNormalOutcome (bound_table p o (choices xss) vs)) →
+    IsNormalOutcome (over_members p o n v s t)
 over_normal p o n v r s t g h k =
-    let body : List Value → Outcome = λ vs. (kid p n (v.under vs)).value s t in
+    let body : List Value → Outcome = λ vs. (child p n (v.under vs)).value s t in
     strict_normal (outcomes (take n v.here) s t) (on_all_sets p (λ xss. strict (map body (choices xss)) (bound_table p o (choices xss))))
-    (outcomes_normal (take n v.here) (taken NormalSense n v.here r.here) s t g h)
+    (outcomes_normal (take n v.here) (taken NormalDenotation n v.here r.here) s t g h)
     (on_all_sets_normal p (λ xss. strict (map body (choices xss)) (bound_table p o (choices xss))) (λ xss x.
     strict_normal (map body (choices xss)) (bound_table p o (choices xss))
-    (each_normal body (λ vs y. (kid_normal p n (v.under vs) (r.under vs y)).value s t g h) (choices xss) (choices_normal xss (lists_of xss x)))
+    (each_normal body (λ vs y. (child_normal p n (v.under vs) (r.under vs y)).value s t g h) (choices xss) (choices_normal xss (lists_of xss x)))
     (k xss x)))
 
 kept_members : (cs : List (List Value)) (bs : List Bool) → NormalLists cs → Normals (kept cs bs)
@@ -157,7 +158,7 @@ kept_members ((v ∷ vs) ∷ cs) (false ∷ bs) h = kept_members cs bs h.1
 -- ---- EXCEPT
 
 abbrev NormalUpdate : Update → Type 0
-NormalUpdate u = (v : Value) → Normal v → NormalOutcome (u.1 v)
+NormalUpdate u = (v : Value) → Normal v → IsNormalOutcome (u.1 v)
 
 abbrev pub NormalReached : Reached → Type 0
 NormalReached (At v) = Normal v
@@ -196,88 +197,88 @@ set_path_normal [] new f h k = h
 set_path_normal (i ∷ is) new f h k =
     put_normal (out-Value f) i (set_path is new) f (layer_normal f k) (λ v l. set_path_normal is new v h l) k
 
-updated_normal : (p : Place) (us : List Update) → AllByRecursion NormalUpdate us → (f : Value) → Normal f → NormalOutcome (updated p us f)
+updated_normal : (p : Place) (us : List Update) → AllByRecursion NormalUpdate us → (f : Value) → Normal f → IsNormalOutcome (updated p us f)
 updated_normal p [] h f k = k
 updated_normal p (u ∷ us) h f k = by_place (updated_normal p us h.1) (at_path f u.0) (at_path_normal u.0 f k)
   where
-    by_place : ((g : Value) → Normal g → NormalOutcome (updated p us g)) → (o : Reached) → NormalReached o → NormalOutcome
+    by_place : ((g : Value) → Normal g → IsNormalOutcome (updated p us g)) → (o : Reached) → NormalReached o → IsNormalOutcome
         (elim o [ At old ↦ with_value (u.1 old) (λ new. updated p us (set_path u.0 new f)) | Outside ↦ updated p us f | NoFunction ↦ Wrong p ])
     by_place rest (At old) l =
         with_normal (u.1 old) (λ new. updated p us (set_path u.0 new f)) (h.0 old l) (λ new n. rest (set_path u.0 new f) (set_path_normal u.0 new f n k))
     by_place rest Outside l = rest f k
     by_place rest NoFunction l = tt
 
-first_normal : (p : Place) (us : List Update) → AllByRecursion NormalUpdate us → (xs : List Value) → Normals xs → NormalOutcome (first_updated p us xs)
+first_normal : (p : Place) (us : List Update) → AllByRecursion NormalUpdate us → (xs : List Value) → Normals xs → IsNormalOutcome (first_updated p us xs)
 first_normal p us h [] k = tt
 first_normal p us h (f ∷ xs) k = updated_normal p us h f k.0
 
-indexes_normal : (ns : List ℕ) (ks : List Sense) → NormalSenses ks → NormalSenses (all_indexes ns ks)
+indexes_normal : (ns : List ℕ) (ks : List Denotation) → NormalDenotations ks → NormalDenotations (all_indexes ns ks)
 indexes_normal [] ks h = tt
 indexes_normal (n ∷ ns) ks h =
-    all_plus NormalSense (take n ks) (all_indexes ns (drop (suc n) ks)) (taken NormalSense n ks h)
-    (indexes_normal ns (drop (suc n) ks) (dropped NormalSense (suc n) ks h))
+    all_plus NormalDenotation (take n ks) (all_indexes ns (drop (suc n) ks)) (taken NormalDenotation n ks h)
+    (indexes_normal ns (drop (suc n) ks) (dropped NormalDenotation (suc n) ks h))
 
-updates_normal : (p : Place) (ns : List ℕ) (ks : List Sense) (f : List Value → List Sense) → ((vs : List Value) → Normals vs → NormalSenses (f vs)) →
+updates_normal : (p : Place) (ns : List ℕ) (ks : List Denotation) (f : List Value → List Denotation) → ((vs : List Value) → Normals vs → NormalDenotations (f vs)) →
     (s t : State) → Good s → Good t → AllByRecursion NormalUpdate (updates p ns ks f s t)
 updates_normal p [] ks f r s t g k = tt
 updates_normal p (n ∷ ns) ks f r s t g k = (
-  λ v h. (kid_normal p n (f (v ∷ [])) (r (v ∷ []) (h, tt))).value s t g k,
-  updates_normal p ns (drop (suc n) ks) (λ vs. drop (suc n) (f vs)) (λ vs h. dropped NormalSense (suc n) (f vs) (r vs h)) s t g k,
+  λ v h. (child_normal p n (f (v ∷ [])) (r (v ∷ []) (h, tt))).value s t g k,
+  updates_normal p ns (drop (suc n) ks) (λ vs. drop (suc n) (f vs)) (λ vs h. dropped NormalDenotation (suc n) (f vs) (r vs h)) s t g k,
 )
 
-except_normal : (p : Place) (ns : List ℕ) (ks : List Sense) → NormalSenses ks → (f : List Value → List Sense) →
-    ((vs : List Value) → Normals vs → NormalSenses (f vs)) → (s t : State) → Good s → Good t → NormalOutcome (except p ns ks f s t)
+except_normal : (p : Place) (ns : List ℕ) (ks : List Denotation) → NormalDenotations ks → (f : List Value → List Denotation) →
+    ((vs : List Value) → Normals vs → NormalDenotations (f vs)) → (s t : State) → Good s → Good t → IsNormalOutcome (except p ns ks f s t)
 except_normal p ns [] h f r s t g k = tt
 except_normal p ns (a ∷ ks) h f r s t g k =
     strict_normal (outcomes (a ∷ all_indexes ns ks) s t) (first_updated p (updates p ns ks (λ vs. drop 1 (f vs)) s t))
     (outcomes_normal (a ∷ all_indexes ns ks) (h.0, indexes_normal ns ks h.1) s t g k)
     (first_normal p (updates p ns ks (λ vs. drop 1 (f vs)) s t)
-    (updates_normal p ns ks (λ vs. drop 1 (f vs)) (λ vs l. dropped NormalSense 1 (f vs) (r vs l)) s t g k))
+    (updates_normal p ns ks (λ vs. drop 1 (f vs)) (λ vs l. dropped NormalDenotation 1 (f vs) (r vs l)) s t g k))
 
 -- ---- folds and memberships
 
-folded_normal : (f : Value → Value → Outcome) → ((a b : Value) → Normal a → Normal b → NormalOutcome (f a b)) → (xs : List Value) (v : Value) →
-    Normals xs → Normal v → NormalOutcome (folded f xs v)
+folded_normal : (f : Value → Value → Outcome) → ((a b : Value) → Normal a → Normal b → IsNormalOutcome (f a b)) → (xs : List Value) (v : Value) →
+    Normals xs → Normal v → IsNormalOutcome (folded f xs v)
 folded_normal f r [] v h k = k
 folded_normal f r (x ∷ xs) v h k = with_normal (f v x) (folded f xs) (r v x k h.0) (λ u l. folded_normal f r xs u h.1 l)
 
-fold_over_normal : (p : Place) (f : Value → Value → Outcome) → ((a b : Value) → Normal a → Normal b → NormalOutcome (f a b)) → (vs : List Value) →
-    Normals vs → NormalOutcome (fold_over p f vs)
+fold_over_normal : (p : Place) (f : Value → Value → Outcome) → ((a b : Value) → Normal a → Normal b → IsNormalOutcome (f a b)) → (vs : List Value) →
+    Normals vs → IsNormalOutcome (fold_over p f vs)
 fold_over_normal p f r (v ∷ q ∷ []) h = by_layer (out-Value q) (layer_normal q h.1.0)
   where
     by_layer : (l : Layer Value) → NormalLayer l →
-        NormalOutcome (elim l as (λ _. Outcome) [ layer.Fun ps ↦ on_items p (λ xs. folded f xs v) (items_of ps) | _ ↦ Wrong p ])
+        IsNormalOutcome (elim l as (λ _. Outcome) [ layer.Fun ps ↦ on_items p (λ xs. folded f xs v) (items_of ps) | _ ↦ Wrong p ])
     by_layer (layer.Fun ps) k = on_items_normal p (λ xs. folded f xs v) (λ xs l. folded_normal f r xs v l h.0) (items_of ps) (items_of_normal ps k)
     by_layer l k = tt
 fold_over_normal p f r vs h = tt
 
-told : (p : Place) (f : Fault) → NormalOutcome (elim f [ NoFault ↦ Wrong p | IsWrong q ↦ Wrong q | IsBig q ↦ Big q ])
+told : (p : Place) (f : Fault) → IsNormalOutcome (elim f [ NoFault ↦ Wrong p | IsWrong q ↦ Wrong q | IsBig q ↦ Big q ])
 told p NoFault = tt
 told p (IsWrong q) = tt
 told p (IsBig q) = tt
 
-in_form_normal : (p : Place) (test : Value → SetForm → Outcome) → ((v : Value) (f : SetForm) → NormalOutcome (test v f)) → (os : List Outcome) (fs : List Formed) →
-    NormalOutcome (in_form p test os fs)
+in_form_normal : (p : Place) (test : Value → SetForm → Outcome) → ((v : Value) (f : SetForm) → IsNormalOutcome (test v f)) → (os : List Outcome) (fs : List Formed) →
+    IsNormalOutcome (in_form p test os fs)
 in_form_normal p test r (Val v ∷ os) (d ∷ Made f ∷ []) = by_kind (is_set_form f)
   where
-    by_kind : (b : Bool) → NormalOutcome (if b then test v f else Wrong p)
+    by_kind : (b : Bool) → IsNormalOutcome (if b then test v f else Wrong p)
     by_kind true = r v f
     by_kind false = tt
-in_form_normal p test r (Val v ∷ os) (d ∷ Broken f ∷ []) = told p (both NoFault f)
-in_form_normal p test r (Wrong q ∷ os) (d ∷ f ∷ []) = told p (both (IsWrong q) (form_fault f))
-in_form_normal p test r (Big q ∷ os) (d ∷ f ∷ []) = told p (both (IsBig q) (form_fault f))
+in_form_normal p test r (Val v ∷ os) (d ∷ Broken f ∷ []) = told p (join_faults NoFault f)
+in_form_normal p test r (Wrong q ∷ os) (d ∷ f ∷ []) = told p (join_faults (IsWrong q) (form_fault f))
+in_form_normal p test r (Big q ∷ os) (d ∷ f ∷ []) = told p (join_faults (IsBig q) (form_fault f))
 in_form_normal p test r os fs = tt
 
-all_in_normal : (p : Place) (v : Value) (f : SetForm) → NormalOutcome (all_in p v f)
+all_in_normal : (p : Place) (v : Value) (f : SetForm) → IsNormalOutcome (all_in p v f)
 all_in_normal p v f = by_items (set_items (out-Value v))
   where
-    by_items : (o : Option (List Value)) → NormalOutcome (elim o [ None ↦ Wrong p | Some xs ↦ yes_no (list_all (belongs f) xs) ])
+    by_items : (o : Option (List Value)) → IsNormalOutcome (elim o [ None ↦ Wrong p | Some xs ↦ yes_no (list_all (belongs f) xs) ])
     by_items None = tt
     by_items (Some xs) = yes_normal (list_all (belongs f) xs)
 
 -- ---- values
 
-found_normal : (p : Place) (o : Option Value) → IfSomes Normal o → NormalOutcome (value_found p o)
+found_normal : (p : Place) (o : Option Value) → IfSomes Normal o → IsNormalOutcome (value_found p o)
 found_normal p None h = tt
 found_normal p (Some v) h = h
 
@@ -286,12 +287,12 @@ got_normal [] i h = tt
 got_normal (x ∷ xs) zero h = h.0
 got_normal (x ∷ xs) (suc i) h = got_normal xs i h.1
 
-read_normal : (p : Place) (i : ℕ) (primed : Bool) (s t : State) → Good s → Good t → NormalOutcome (read p i (if primed then t else s))
+read_normal : (p : Place) (i : ℕ) (primed : Bool) (s t : State) → Good s → Good t → IsNormalOutcome (read p i (if primed then t else s))
 read_normal p i true s t g h = found_normal p (slice_get t.vals i) (got_normal t.vals i h)
 read_normal p i false s t g h = found_normal p (slice_get s.vals i) (got_normal s.vals i g)
 
 pub value_normal : (w : Width) (p : Place) (o : Op) (n : ℕ) (v : View) → NormalView v → (s t : State) → Good s → Good t →
-    NormalOutcome (value_of w p o n v s t)
+    IsNormalOutcome (value_of w p o n v s t)
 value_normal w p (op.Bool b) n v r s t g h = yes_normal b
 value_normal w p (op.Int i) n v r s t g h = number_normal w p i
 value_normal w p (op.Str a) n v r s t g h = text_normal a
@@ -318,32 +319,33 @@ value_normal w p op.Lambda n v r s t g h =
     (zip_pairs (map argument (choices xss)) vs (all_mapped Normals Normal argument argument_normal (choices xss) (choices_normal xss (lists_of xss x))) y))
 value_normal w p (op.Except ns) n v r s t g h = except_normal p ns v.here r.here v.under r.under s t g h
 value_normal w p op.Fold n v r s t g h =
-    let f : Value → Value → Outcome = λ a b. (kid p 0 (v.under (a ∷ b ∷ []))).value s t in
-    strict_normal (outcomes (drop 1 v.here) s t) (fold_over p f) (outcomes_normal (drop 1 v.here) (dropped NormalSense 1 v.here r.here) s t g h)
-    (fold_over_normal p f (λ a b x y. (kid_normal p 0 (v.under (a ∷ b ∷ [])) (r.under (a ∷ b ∷ []) (x, (y, tt)))).value s t g h))
+    let f : Value → Value → Outcome = λ a b. (child p 0 (v.under (a ∷ b ∷ []))).value s t in
+    strict_normal (outcomes (drop 1 v.here) s t) (fold_over p f) (outcomes_normal (drop 1 v.here) (dropped NormalDenotation 1 v.here r.here) s t g h)
+    (fold_over_normal p f (λ a b x y. (child_normal p 0 (v.under (a ∷ b ∷ [])) (r.under (a ∷ b ∷ []) (x, (y, tt)))).value s t g h))
 value_normal w p (op.Name i primed) n v r s t g h = read_normal p i primed s t g h
 value_normal w p (op.Bound x) n v r s t g h = found_normal p v.held r.held
-value_normal w p op.Prime n v r s t g h = (kid_normal p 0 v.here r.here).value t t h h
-value_normal w p op.Unchanged n v r s t g h = (kid_normal p 0 v.here r.here).unchanged s t g h
-value_normal w p op.Boxed n v r s t g h = disjoined_normal p ((kid p 0 v.here).value s t ∷ (kid p 1 v.here).unchanged s t ∷ [])
-value_normal w p op.Angled n v r s t g h = conjoined_normal p ((kid p 0 v.here).value s t ∷ changed p ((kid p 1 v.here).unchanged s t) ∷ [])
-value_normal w p (op.Noted x) n v r s t g h = (kid_normal p 0 v.here r.here).value s t g h
+value_normal w p op.Prime n v r s t g h = (child_normal p 0 v.here r.here).value t t h h
+value_normal w p op.Unchanged n v r s t g h = (child_normal p 0 v.here r.here).unchanged s t g h
+value_normal w p op.Boxed n v r s t g h = disjoined_normal p ((child p 0 v.here).value s t ∷ (child p 1 v.here).unchanged s t ∷ [])
+value_normal w p op.Angled n v r s t g h = conjoined_normal p ((child p 0 v.here).value s t ∷ changed p ((child p 1 v.here).unchanged s t) ∷ [])
+value_normal w p (op.Noted x) n v r s t g h = (child_normal p 0 v.here r.here).value s t g h
 value_normal w p o n v r s t g h = strict_normal (outcomes v.here s t) (table w p o) (outcomes_normal v.here r.here s t g h) (table_normal w p o)
 
-kept_normal : (p : Place) (a b : Outcome) → NormalOutcome a → NormalOutcome b → NormalOutcome (kept_value p a b)
+kept_normal : (p : Place) (a b : Outcome) → IsNormalOutcome a → IsNormalOutcome b → IsNormalOutcome (kept_value p a b)
 kept_normal p a b h k = strict_normal (b ∷ a ∷ []) (table None p op.Eq) (k, (h, tt)) (table_normal None p op.Eq)
 
 pub keeps_normal : (w : Width) (p : Place) (o : Op) (n : ℕ) (v : View) → NormalView v → (s t : State) → Good s → Good t →
-    NormalOutcome (unchanged_of w p o n v s t)
-keeps_normal w p op.Tuple n v r s t g h = conjoined_normal p (map (λ (a : Sense). a.unchanged s t) v.here)
-keeps_normal w p (op.Noted x) n v r s t g h = (kid_normal p 0 v.here r.here).unchanged s t g h
+    IsNormalOutcome (unchanged_of w p o n v s t)
+keeps_normal w p op.Tuple n v r s t g h = conjoined_normal p (map (λ (a : Denotation). a.unchanged s t) v.here)
+keeps_normal w p (op.Noted x) n v r s t g h = (child_normal p 0 v.here r.here).unchanged s t g h
+keeps_normal w p op.Prime n v r s t g h = (child_normal p 0 v.here r.here).unchanged t t h h
 keeps_normal w p o n v r s t g h =
     kept_normal p (value_of w p o n v s t) (value_of w p o n v t t) (value_normal w p o n v r s t g h) (value_normal w p o n v r t t h h)
 
-meant_normal : (o : Option Sense) (a : Sense) → IfSomes NormalSense o → NormalSense a → NormalSense (meant o a)
+meant_normal : (o : Option Denotation) (a : Denotation) → IfSomes NormalDenotation o → NormalDenotation a → NormalDenotation (meant o a)
 meant_normal None a h k = k
 meant_normal (Some b) a h k = h
 
-pub sense_normal : (w : Width) (p : Place) (o : Op) (n : ℕ) (v : View) → NormalView v → NormalSense (sense_of w p o n v)
-sense_normal w p o n v r =
+pub denotation_normal : (w : Width) (p : Place) (o : Op) (n : ℕ) (v : View) → NormalView v → NormalDenotation (denotation_of w p o n v)
+denotation_normal w p o n v r =
     meant_normal v.whole _ r.whole (record { value = value_normal w p o n v r; unchanged = keeps_normal w p o n v r })

@@ -10,9 +10,9 @@ use Rattle.tla_meaning.specs.declared.op.Op.{Op}
 use Rattle.tla_meaning.specs.declared.op.Op.TheVariants as op
 use Rattle.tla_meaning.specs.declared.place.Place.{Place}
 use Rattle.tla_meaning.specs.Numbers.{Width}
-use Rattle.tla_meaning.specs.Scopes.{Scope, Sense, bound_to, pass, find_last, or_else, same_text}
+use Rattle.tla_meaning.specs.Scopes.{Scope, Denotation, bound_to, pass, find_last, or_else, same_text}
 use Rattle.tla_meaning.specs.Meaning.{Meaning, Role, Named, Held, Lets, Plain_role, role, View, view}
-use Rattle.tla_meaning.specs.Actions.{meaning, sense_of}
+use Rattle.tla_meaning.specs.Actions.{meaning, denotation_of}
 use Rattle.tla_meaning.specs.Substitution.{Test, each, binds_apart, put, Within}
 use Rattle.tla_meaning.specs.Renamings.{Renaming, OneToOne, rename_op, rename_role, rename_binds, rename_layer, rename, Renames}
 use Rattle.tla_meaning.proofs.MeaningLemmas.{meaning-roll}
@@ -36,9 +36,9 @@ length-rename ρ (Plain_role ms) xs = along xs
     along (x ∷ xs) = ap suc (along xs)
 
 -- the sense of a node does not depend on the name that it reads
-pub sense-rename : (w : Width) (p : Place) (ρ : Renaming) (o : Op) (n : ℕ) (v : View) → sense_of w p (rename_op ρ o) n v ≡ sense_of w p o n v
-sense-rename w p ρ (op.Bound x) n v = refl
-sense-rename w p ρ o n v = refl
+pub denotation-rename : (w : Width) (p : Place) (ρ : Renaming) (o : Op) (n : ℕ) (v : View) → denotation_of w p (rename_op ρ o) n v ≡ denotation_of w p o n v
+denotation-rename w p ρ (op.Bound x) n v = refl
+denotation-rename w p ρ o n v = refl
 
 renames-survives : (ρ : Renaming) → Survives none (Renames ρ)
 renames-survives ρ = record {
@@ -91,10 +91,10 @@ renaming w ρ c e = simulate w (Renames ρ) any (λ e. meaning w (rename ρ e)) 
     let ls : List Meaning = map (meaning w) x.args in
     ap (λ e. meaning w e a) (fold-roll-Expr Expr (λ x. roll-Expr (rename_layer ρ x)) x)
     ∙ ap (λ (m : Meaning). m a) (meaning-roll w (rename_layer ρ z))
-    ∙ sense-rename w x.place ρ x.op (length xs) (view x.place (role (rename_op ρ x.op) (length xs)) xs ks a)
-    ∙ ap (λ n. sense_of w x.place x.op n (view x.place (role (rename_op ρ x.op) n) xs ks a)) (length-rename ρ o x.binds)
-    ∙ ap (λ (o : Role). sense_of w x.place x.op (length x.binds) (view x.place o xs ks a)) (role-rename ρ x.op (length x.binds))
-    ∙ ap (sense_of w x.place x.op (length x.binds))
+    ∙ denotation-rename w x.place ρ x.op (length xs) (view x.place (role (rename_op ρ x.op) (length xs)) xs ks a)
+    ∙ ap (λ n. denotation_of w x.place x.op n (view x.place (role (rename_op ρ x.op) n) xs ks a)) (length-rename ρ o x.binds)
+    ∙ ap (λ (o : Role). denotation_of w x.place x.op (length x.binds) (view x.place o xs ks a)) (role-rename ρ x.op (length x.binds))
+    ∙ ap (denotation_of w x.place x.op (length x.binds))
     (view_same none (Renames ρ) (Renames ρ) (renames-survives ρ) x.place ks ls a b r
     (rename_role ρ o) o xs x.binds (names-rename ρ c o x.binds a b ks ls
     (subst (λ (ms : List Meaning). AllAgree (Renames ρ) ms ls) (meanings w (rename ρ) x.args) k) r))) e (each-any e)
@@ -102,18 +102,18 @@ renaming w ρ c e = simulate w (Renames ρ) any (λ e. meaning w (rename ρ e)) 
 -- ---- a use of a definition
 
 said-zip : (w : Width) (a : Scope) (x : List ℕ) (xs : List (List ℕ)) (es : List Expr) →
-    find_last x (zip xs (map (λ (m : Sense). λ (as' : List Sense). m) (map (λ e. meaning w e a) es))) ≡ said w a (find_last x (zip xs es))
+    find_last x (zip xs (map (λ (m : Denotation). λ (as' : List Denotation). m) (map (λ e. meaning w e a) es))) ≡ said w a (find_last x (zip xs es))
 said-zip w a x [] es = refl
 said-zip w a x (y ∷ ys) [] = refl
 said-zip w a x (y ∷ ys) (e ∷ es) =
-    ap (λ o. or_else o (if same_text x y then Some (λ (as' : List Sense). meaning w e a) else None)) (said-zip w a x ys es)
-    ∙ both-said (find_last x (zip ys es)) (same_text x y)
+    ap (λ o. or_else o (if same_text x y then Some (λ (as' : List Denotation). meaning w e a) else None)) (said-zip w a x ys es)
+    ∙ join_faults-said (find_last x (zip ys es)) (same_text x y)
   where
-    both-said : (o : Option Expr) (c : Bool) →
-        or_else (said w a o) (if c then Some (λ (as' : List Sense). meaning w e a) else None) ≡ said w a (or_else o (if c then Some e else None))
-    both-said (Some t) c = refl
-    both-said None true = refl
-    both-said None false = refl
+    join_faults-said : (o : Option Expr) (c : Bool) →
+        or_else (said w a o) (if c then Some (λ (as' : List Denotation). meaning w e a) else None) ≡ said w a (or_else o (if c then Some e else None))
+    join_faults-said (Some t) c = refl
+    join_faults-said None true = refl
+    join_faults-said None false = refl
 
 -- a body at its arguments: the body with their trees put in
 pub inlined : (w : Width) (S : List ℕ → Bool) (xs : List (List ℕ)) (es : List Expr) → Within S (zip xs es) →

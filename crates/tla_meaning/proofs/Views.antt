@@ -5,9 +5,9 @@ use Rattle.tla_values.specs.declared.value.Value.{Value}
 use Rattle.tla_meaning.specs.declared.op.Op.{Op}
 use Rattle.tla_meaning.specs.declared.place.Place.{Place}
 use Rattle.tla_meaning.specs.Numbers.{Width}
-use Rattle.tla_meaning.specs.Scopes.{Scope, Sense, nonsense, bind, define, pass, find_last, stands_for}
-use Rattle.tla_meaning.specs.Meaning.{Meaning, senses, kid, Role, Named, Held, Lets, Plain_role, role, view, outer, inner, let_scope}
-use Rattle.tla_meaning.specs.Actions.{node, sense_of}
+use Rattle.tla_meaning.specs.Scopes.{Scope, Denotation, absent, bind, define, pass, find_last, stands_for}
+use Rattle.tla_meaning.specs.Meaning.{Meaning, denotations, child, Role, Named, Held, Lets, Plain_role, role, view, outer, inner, let_scope}
+use Rattle.tla_meaning.specs.Actions.{node, denotation_of}
 use Rattle.tla_meaning.specs.Substitution.{apart, lets_apart}
 
 -- meanings that agree at related scopes
@@ -20,13 +20,13 @@ AllAgree R [] (l ∷ ls) = ⊥
 AllAgree R (k ∷ ks) [] = ⊥
 AllAgree R (k ∷ ks) (l ∷ ls) = Agree R k l × AllAgree R ks ls
 
-abbrev pub extend : List (List ℕ × (List Sense → Sense)) → Scope → Scope
+abbrev pub extend : List (List ℕ × (List Denotation → Denotation)) → Scope → Scope
 extend es sc = record sc { named = sc.named ++ es }
 
 -- a relation of scopes that survives new definitions outside of a set
 pub record Survives (S : List ℕ → Bool) (R : Scope → Scope → Type 0) : Type 0 where
-  pub passed : (xs : List (List ℕ)) (as' : List Sense) (a b : Scope) → IsTrue (apart S xs) → R a b → R (pass xs as' a) (pass xs as' b)
-  pub defined : (x : List ℕ) (d : List Sense → Sense) (a b : Scope) → IsTrue (not (S x)) → R a b → R (define x d a) (define x d b)
+  pub passed : (xs : List (List ℕ)) (as' : List Denotation) (a b : Scope) → IsTrue (apart S xs) → R a b → R (pass xs as' a) (pass xs as' b)
+  pub defined : (x : List ℕ) (d : List Denotation → Denotation) (a b : Scope) → IsTrue (not (S x)) → R a b → R (define x d a) (define x d b)
 
 -- the same, where the children that stand under bound names agree by a second relation
 abbrev pub Marked : (R Q : Scope → Scope → Type 0) → List Bool → List Meaning → List Meaning → Type 0
@@ -78,12 +78,12 @@ apart-drop S zero xs h = h
 apart-drop S (suc n) [] h = refl
 apart-drop S (suc n) (x ∷ xs) h = apart-drop S n xs (and_right (not (S x)) (apart S xs) h)
 
-pub senses_same : (R : Scope → Scope → Type 0) (ks ls : List Meaning) (a b : Scope) →
-    AllAgree R ks ls → R a b → senses ks a ≡ senses ls b
-senses_same R [] [] a b h r = refl
-senses_same R [] (l ∷ ls) a b h r = absurd h
-senses_same R (k ∷ ks) [] a b h r = absurd h
-senses_same R (k ∷ ks) (l ∷ ls) a b h r = ap₂ (λ (x : Sense) (xs : List Sense). x ∷ xs) (h.0 a b r) (senses_same R ks ls a b h.1 r)
+pub denotations_same : (R : Scope → Scope → Type 0) (ks ls : List Meaning) (a b : Scope) →
+    AllAgree R ks ls → R a b → denotations ks a ≡ denotations ls b
+denotations_same R [] [] a b h r = refl
+denotations_same R [] (l ∷ ls) a b h r = absurd h
+denotations_same R (k ∷ ks) [] a b h r = absurd h
+denotations_same R (k ∷ ks) (l ∷ ls) a b h r = ap₂ (λ (x : Denotation) (xs : List Denotation). x ∷ xs) (h.0 a b r) (denotations_same R ks ls a b h.1 r)
 
 lets_same : (S : List ℕ → Bool) (R : Scope → Scope → Type 0) → Survives S R →
     (ds : List (List ℕ × ℕ)) (xs : List (List ℕ)) (ks ls : List Meaning) (a b : Scope) →
@@ -95,54 +95,54 @@ lets_same S R c (d ∷ ds) xs [] (l ∷ ls) a b f g h r = absurd h
 lets_same S R c (d ∷ ds) xs (k ∷ ks) [] a b f g h r = absurd h
 lets_same S R c (d ∷ ds) xs (k ∷ ks) (l ∷ ls) a b f g h r =
     let p : List (List ℕ) = take d.1 xs in
-    let da : List Sense → Sense = λ as'. k (pass p as' a) in
-    let db : List Sense → Sense = λ as'. l (pass p as' b) in
+    let da : List Denotation → Denotation = λ as'. k (pass p as' a) in
+    let db : List Denotation → Denotation = λ as'. l (pass p as' b) in
     let q : da ≡ db = λ i. λ as'. h.0 (pass p as' a) (pass p as' b) (c.passed p as' a b (apart-take S d.1 xs g) r) i in
     let new : R (define d.0 da a) (define d.0 db b) =
-    subst (λ (e : List Sense → Sense). R (define d.0 da a) (define d.0 e b)) q
+    subst (λ (e : List Denotation → Denotation). R (define d.0 da a) (define d.0 e b)) q
     (c.defined d.0 da a b (and_left (not (S d.0)) (list_all (λ d. not (S d.0)) ds) f) r) in
     lets_same S R c ds (drop d.1 xs) ks ls (define d.0 da a) (define d.0 db b)
     (and_right (not (S d.0)) (list_all (λ d. not (S d.0)) ds) f) (apart-drop S d.1 xs g) h.1 new
 
-outer_same : (R Q : Scope → Scope → Type 0) (p : Place) (ms : List Bool) (ks ls : List Meaning) (a b : Scope) →
+pub outer_same : (R Q : Scope → Scope → Type 0) (p : Place) (ms : List Bool) (ks ls : List Meaning) (a b : Scope) →
     Marked R Q ms ks ls → R a b → outer p ms ks a ≡ outer p ms ls b
 outer_same R Q p ms [] [] a b h r = refl
 outer_same R Q p ms [] (l ∷ ls) a b h r = absurd h
 outer_same R Q p ms (k ∷ ks) [] a b h r = absurd h
-outer_same R Q p [] (k ∷ ks) (l ∷ ls) a b h r = ap₂ (λ (x : Sense) (xs : List Sense). x ∷ xs) (h.0 a b r) (outer_same R Q p [] ks ls a b h.1 r)
-outer_same R Q p (true ∷ ms) (k ∷ ks) (l ∷ ls) a b h r = ap (λ (xs : List Sense). nonsense p ∷ xs) (outer_same R Q p ms ks ls a b h.1 r)
-outer_same R Q p (false ∷ ms) (k ∷ ks) (l ∷ ls) a b h r = ap₂ (λ (x : Sense) (xs : List Sense). x ∷ xs) (h.0 a b r) (outer_same R Q p ms ks ls a b h.1 r)
+outer_same R Q p [] (k ∷ ks) (l ∷ ls) a b h r = ap₂ (λ (x : Denotation) (xs : List Denotation). x ∷ xs) (h.0 a b r) (outer_same R Q p [] ks ls a b h.1 r)
+outer_same R Q p (true ∷ ms) (k ∷ ks) (l ∷ ls) a b h r = ap (λ (xs : List Denotation). absent p ∷ xs) (outer_same R Q p ms ks ls a b h.1 r)
+outer_same R Q p (false ∷ ms) (k ∷ ks) (l ∷ ls) a b h r = ap₂ (λ (x : Denotation) (xs : List Denotation). x ∷ xs) (h.0 a b r) (outer_same R Q p ms ks ls a b h.1 r)
 
-inner_same : (R Q : Scope → Scope → Type 0) (p : Place) (ms : List Bool) (ks ls : List Meaning) (a b : Scope) →
+pub inner_same : (R Q : Scope → Scope → Type 0) (p : Place) (ms : List Bool) (ks ls : List Meaning) (a b : Scope) →
     Marked R Q ms ks ls → Q a b → inner p ms ks a ≡ inner p ms ls b
 inner_same R Q p ms [] [] a b h r = refl
 inner_same R Q p ms [] (l ∷ ls) a b h r = absurd h
 inner_same R Q p ms (k ∷ ks) [] a b h r = absurd h
-inner_same R Q p [] (k ∷ ks) (l ∷ ls) a b h r = ap (λ (xs : List Sense). nonsense p ∷ xs) (inner_same R Q p [] ks ls a b h.1 r)
-inner_same R Q p (true ∷ ms) (k ∷ ks) (l ∷ ls) a b h r = ap₂ (λ (x : Sense) (xs : List Sense). x ∷ xs) (h.0 a b r) (inner_same R Q p ms ks ls a b h.1 r)
-inner_same R Q p (false ∷ ms) (k ∷ ks) (l ∷ ls) a b h r = ap (λ (xs : List Sense). nonsense p ∷ xs) (inner_same R Q p ms ks ls a b h.1 r)
+inner_same R Q p [] (k ∷ ks) (l ∷ ls) a b h r = ap (λ (xs : List Denotation). absent p ∷ xs) (inner_same R Q p [] ks ls a b h.1 r)
+inner_same R Q p (true ∷ ms) (k ∷ ks) (l ∷ ls) a b h r = ap₂ (λ (x : Denotation) (xs : List Denotation). x ∷ xs) (h.0 a b r) (inner_same R Q p ms ks ls a b h.1 r)
+inner_same R Q p (false ∷ ms) (k ∷ ks) (l ∷ ls) a b h r = ap (λ (xs : List Denotation). absent p ∷ xs) (inner_same R Q p ms ks ls a b h.1 r)
 
 pub view_same : (S : List ℕ → Bool) (R Q : Scope → Scope → Type 0) → Survives S R →
     (p : Place) (ks ls : List Meaning) (a b : Scope) → R a b →
     (o q : Role) (xs ys : List (List ℕ)) → SameNames S R Q a b ks ls o q xs ys →
     view p o xs ks a ≡ view p q ys ls b
 view_same S R Q c p ks ls a b r _ _ _ _ (same-named h e) = λ i. record {
-  here = senses_same R ks ls a b h r i;
+  here = denotations_same R ks ls a b h r i;
   under = λ vs. [];
   held = None;
-  whole = Some (stands_for p (e i) (senses_same R ks ls a b h r i));
+  whole = Some (stands_for p (e i) (denotations_same R ks ls a b h r i));
 }
 view_same S R Q c p ks ls a b r _ _ _ _ (same-held h e) = λ i. record {
-  here = senses_same R ks ls a b h r i;
+  here = denotations_same R ks ls a b h r i;
   under = λ vs. [];
   held = e i;
   whole = None;
 }
 view_same S R Q c p ks ls a b r _ _ _ _ (same-lets {ds = ds} {xs = xs} h f g) = λ i. record {
-  here = senses_same R ks ls a b h r i;
+  here = denotations_same R ks ls a b h r i;
   under = λ vs. [];
   held = None;
-  whole = Some (kid p (length ds) (senses_same R ks ls (let_scope ds xs ks a) (let_scope ds xs ls b) h (lets_same S R c ds xs ks ls a b f g h r) i));
+  whole = Some (child p (length ds) (denotations_same R ks ls (let_scope ds xs ks a) (let_scope ds xs ls b) h (lets_same S R c ds xs ks ls a b f g h r) i));
 }
 view_same S R Q c p ks ls a b r _ _ _ _ (same-under {ms = ms} {xs = xs} {ys = ys} h u) = λ i. record {
   here = outer_same R Q p ms ks ls a b h r i;
@@ -157,4 +157,4 @@ pub node_same : (w : Width) (S : List ℕ → Bool) (R Q : Scope → Scope → T
     R a b → SameNames S R Q a b ks ls (role o (length xs)) (role o (length xs)) xs xs →
     node w (record { place = p; op = o; args = ks; binds = xs }) a ≡ node w (record { place = p; op = o; args = ls; binds = xs }) b
 node_same w S R Q c p o xs ks ls a b r n =
-    ap (sense_of w p o (length xs)) (view_same S R Q c p ks ls a b r (role o (length xs)) (role o (length xs)) xs xs n)
+    ap (denotation_of w p o (length xs)) (view_same S R Q c p ks ls a b r (role o (length xs)) (role o (length xs)) xs xs n)

@@ -9,7 +9,8 @@ use Rattle.tla_meaning.specs.declared.job.State.{State}
 use Rattle.tla_meaning.specs.declared.outcome.Outcome.{Outcome}
 use Rattle.tla_meaning.specs.declared.outcome.Outcome.TheVariants.{Val}
 use Rattle.tla_meaning.specs.Operators.{yes_no}
-use Rattle.tla_meaning.specs.Scopes.{Effect, Marks}
+use Rattle.tla_meaning.specs.declared.actions.Assigned.{Assigned}
+use Rattle.tla_meaning.specs.declared.actions.Effect.{Effect}
 use Rattle.tla_meaning.specs.Meaning.{Meaning, role}
 use Rattle.tla_meaning.specs.Actions.{val, act, meaning, node, effect_of}
 use Rattle.tla_meaning.specs.Executions.{scope_of, no_scope, in_cinit, in_init, in_next, assumptions, start, next, is_yes, IsYes, first_not_yes, invariant, AreSteps, IsExecution}
@@ -18,8 +19,8 @@ use Rattle.tla_meaning.proofs.MeaningLemmas.{meaning-roll}
 use Rattle.tla_meaning.proofs.Views.{false≢true}
 use Rattle.tla_meaning.proofs.Narrow.{narrow_same, AllNarrow, none_narrow, more_narrow, each_narrow}
 use Rattle.tla_meaning.proofs.NarrowEffects.{AllEffects, no_effects, more_effects, all_effects, effect_of_narrow, outcome_of_narrow, effects_and_narrow}
-use Rattle.tla_meaning.proofs.NarrowViews.{NarrowSense, NarrowScope, no_named, NarrowMeaning, AllMeanings, no_meanings, more_meanings, view_narrow}
-use Rattle.tla_meaning.proofs.NarrowNodes.{sense_narrow}
+use Rattle.tla_meaning.proofs.NarrowViews.{NarrowDenotation, NarrowScope, no_named, NarrowMeaning, AllMeanings, no_meanings, more_meanings, view_narrow}
+use Rattle.tla_meaning.proofs.NarrowNodes.{denotation_narrow}
 
 abbrev Narrows : ℕ → Expr → Type 0
 Narrows w e = NarrowMeaning (meaning (Some w) e) (meaning None e)
@@ -36,11 +37,11 @@ meaning_narrow w = ind-Expr (Narrows w) (λ x y is.
     let z : Expr-F Expr = map-Expr ((e : Expr) × Narrows w e) Expr (λ e. e.0) y in
     let k : Meaning = node (Some w) (map-Expr Expr Meaning (meaning (Some w)) z) in
     let l : Meaning = node None (map-Expr Expr Meaning (meaning None) z) in
-    let same : NarrowSense (k a) (l b) =
-    sense_narrow w z.place z.op (length z.binds) _ _
+    let same : NarrowDenotation (k a) (l b) =
+    denotation_narrow w z.place z.op (length z.binds) _ _
     (view_narrow z.place (role z.op (length z.binds)) z.binds a b (children_narrow w y.args) r) in
-    subst (λ (m : Meaning). NarrowSense (m a) (meaning None (roll-Expr z) b)) (sym (meaning-roll (Some w) z))
-    (subst (λ (m : Meaning). NarrowSense (k a) (m b)) (sym (meaning-roll None z)) same)))
+    subst (λ (m : Meaning). NarrowDenotation (m a) (meaning None (roll-Expr z) b)) (sym (meaning-roll (Some w) z))
+    (subst (λ (m : Meaning). NarrowDenotation (k a) (m b)) (sym (meaning-roll None z)) same)))
 
 closed_scope : (env : Env) → NarrowScope (scope_of env) (scope_of env)
 closed_scope env = record { bound = refl; named = no_named }
@@ -51,7 +52,7 @@ empty_scope = record { bound = refl; named = no_named }
 pub val_narrow : (w : ℕ) (e : Expr) (env : Env) (s t : State) → Narrow (val (Some w) e (scope_of env) s t) (val None e (scope_of env) s t)
 val_narrow w e env s t = (meaning_narrow w e (scope_of env) (scope_of env) (closed_scope env)).value s t
 
-pub act_narrow : (w : ℕ) (m : Marks) (e : Expr) (env : Env) (s t : State) →
+pub act_narrow : (w : ℕ) (m : Assigned) (e : Expr) (env : Env) (s t : State) →
     Narrow (act (Some w) m e (scope_of env) s t) (act None m e (scope_of env) s t)
 act_narrow w m e env s t =
     outcome_of_narrow ((meaning (Some w) e (scope_of env)).act m s t) ((meaning None e (scope_of env)).act m s t)

@@ -1,9 +1,12 @@
 -- The meaning of actions, and of whole expressions.
-use Rattle.std.specs.Prelude.{ℕ, Bool, true, false, ◌||◌, List, [], ◌∷◌, map, length, take, Option, Some, None, if◌then◌else◌}
+use Rattle.std.specs.Prelude.{ℕ, Bool, true, false, ◌&&◌, ◌||◌, nat_lt, nat_le, List, [], ◌∷◌, map, length, take, Option, Some, None, if◌then◌else◌}
 use Rattle.std.specs.List.{list_any}
 use Rattle.tla_values.specs.Order.{Layer}
 use Rattle.tla_values.specs.declared.value.Value.{Value, out-Value}
 use Rattle.tla_values.specs.declared.value.Value.TheOpen as layer
+use Rattle.tla_meaning.specs.declared.actions.Assigned.{Assigned}
+use Rattle.tla_meaning.specs.declared.actions.Assigned.TheVariants.{Every, Primed, Constants, Variables, PrimedVariables}
+use Rattle.tla_meaning.specs.declared.actions.Effect.{Effect}
 use Rattle.tla_meaning.specs.declared.op.Op.{Op}
 use Rattle.tla_meaning.specs.declared.op.Op.TheVariants as op
 use Rattle.tla_meaning.specs.declared.place.Place.{Place}
@@ -15,12 +18,12 @@ use Rattle.tla_meaning.specs.declared.outcome.Outcome.{Outcome}
 use Rattle.tla_meaning.specs.declared.outcome.Outcome.TheVariants.{Val, Wrong, Big}
 use Rattle.tla_meaning.specs.declared.outcome.Fault.{Fault}
 use Rattle.tla_meaning.specs.declared.outcome.Fault.TheVariants.{NoFault, IsWrong, IsBig}
-use Rattle.tla_meaning.specs.Outcomes.{both, joined, values, unless}
+use Rattle.tla_meaning.specs.Outcomes.{join_faults, joined, values, fault_or}
 use Rattle.tla_meaning.specs.Numbers.{Width}
 use Rattle.tla_meaning.specs.Shapes.{choices, all_set_items}
 use Rattle.tla_meaning.specs.Operators.{yes_no}
-use Rattle.tla_meaning.specs.Scopes.{Effect, Marks, Sense, Scope}
-use Rattle.tla_meaning.specs.Meaning.{Meaning, outcomes, kid, View, view, role, changed, value_of, form_of, unchanged_of}
+use Rattle.tla_meaning.specs.Scopes.{Denotation, Scope}
+use Rattle.tla_meaning.specs.Meaning.{Meaning, outcomes, child, View, view, role, changed, value_of, form_of, unchanged_of}
 
 abbrev pub fails_by : Fault → Effect
 fails_by g = record { holds = false; fault = g }
@@ -37,20 +40,20 @@ effect_of (Big p) = fails_by (IsBig p)
 
 -- the fault where there is one, else whether the action holds
 abbrev pub outcome_of : Effect → Outcome
-outcome_of e = unless e.fault (yes_no e.holds)
+outcome_of e = fault_or e.fault (yes_no e.holds)
 
 -- a conjunction goes on where the operands so far hold, even where they have a fault
 abbrev pub effects_and : List Effect → Effect
 effects_and [] = record { holds = true; fault = NoFault }
 effects_and (e ∷ es) =
     let rest = effects_and es in
-    elim e.holds [ true ↦ record { holds = rest.holds; fault = both e.fault rest.fault } | false ↦ e ]
+    elim e.holds [ true ↦ record { holds = rest.holds; fault = join_faults e.fault rest.fault } | false ↦ e ]
 
 -- a disjunction holds where one operand does, and has the faults of all
 abbrev pub effects_or : List Effect → Effect
 effects_or [] = fails_by NoFault
 effects_or (e ∷ es) =
-    let rest = effects_or es in record { holds = e.holds || rest.holds; fault = both e.fault rest.fault }
+    let rest = effects_or es in record { holds = e.holds || rest.holds; fault = join_faults e.fault rest.fault }
 
 -- goes on by the truth value of a guard
 abbrev pub guard : Place → Layer Value → Effect → Effect → Effect
@@ -73,7 +76,7 @@ abbrev pub if_effect : Place → List Outcome → List Effect → Effect
 if_effect p (c ∷ os) (e ∷ a ∷ b ∷ []) = guarded p c a b
 if_effect p os es = fails_by (IsWrong p)
 
-abbrev pub effects : Marks → List Sense → State → State → List Effect
+abbrev pub effects : Assigned → List Denotation → State → State → List Effect
 effects m as' s t = map (λ a. a.act m s t) as'
 
 -- a fault of the domains, or else the disjunction over all members
@@ -88,62 +91,81 @@ exists_effect p os body =
       | IsBig q ↦ fails_by (IsBig q)
     ]
 
--- whether a node holds a marked name, where u says that it stands under a prime
-abbrev pub any_holds : Marks → Bool → List Sense → Bool
-any_holds m u as' = list_any (λ a. a.holds m u) as'
+-- whether the name of this number counts as assigned, itself primed or not
+abbrev pub counts : Assigned → ℕ → Bool → Bool
+counts Every i primed = true
+counts Primed i primed = primed
+counts (Constants n) i primed = nat_lt i n
+counts (Variables n) i primed = nat_le n i
+counts (PrimedVariables n) i primed = primed && nat_le n i
+
+-- what counts under a prime, where every name is a primed one
+abbrev pub under_prime : Assigned → Assigned
+under_prime Every = Every
+under_prime Primed = Every
+under_prime (Constants n) = Constants n
+under_prime (Variables n) = Variables n
+under_prime (PrimedVariables n) = Variables n
+
+-- whether a node holds a name that counts
+abbrev pub any_mentions : Assigned → List Denotation → Bool
+any_mentions m as' = list_any (λ a. a.mentions m) as'
 
 -- `[A]_v` is `A \/ UNCHANGED v`, and `<<A>>_v` is `A /\ ~(UNCHANGED v)`
-abbrev pub holds_of : Place → Op → ℕ → View → Marks → Bool → Bool
-holds_of p (op.Name i primed) n v m u = m i (primed || u)
-holds_of p op.Prime n v m u = any_holds m true v.here
-holds_of p op.Unchanged n v m u = any_holds m u v.here || any_holds m true v.here
-holds_of p op.Boxed n v m u = any_holds m u v.here || (kid p 1 v.here).holds m true
-holds_of p op.Angled n v m u = any_holds m u v.here || (kid p 1 v.here).holds m true
-holds_of p o n v m u = any_holds m u v.here || any_holds m u (v.under [])
+abbrev pub mentions_of : Place → Op → ℕ → View → Assigned → Bool
+mentions_of p (op.Name i primed) n v m = counts m i primed
+mentions_of p op.Prime n v m = (child p 0 v.here).mentions (under_prime m)
+mentions_of p op.Unchanged n v m = (child p 0 v.here).mentions (under_prime m) || (child p 0 v.here).mentions m
+mentions_of p op.Boxed n v m =
+    (child p 0 v.here).mentions m || (child p 1 v.here).mentions (under_prime m) || (child p 1 v.here).mentions m
+mentions_of p op.Angled n v m =
+    (child p 0 v.here).mentions m || (child p 1 v.here).mentions (under_prime m) || (child p 1 v.here).mentions m
+mentions_of p o n v m = any_mentions m v.here || any_mentions m (v.under [])
 
 -- the effect of a node in an action position
-abbrev pub act_of : Width → Place → Op → ℕ → View → Marks → State → State → Effect
+abbrev pub act_of : Width → Place → Op → ℕ → View → Assigned → State → State → Effect
 act_of w p op.And n v m s t = effects_and (effects m v.here s t)
 act_of w p op.Or n v m s t =
-    if any_holds m false v.here
+    if any_mentions m v.here
     then effects_or (effects m v.here s t)
     else effect_of (value_of w p op.Or n v s t)
 act_of w p op.If n v m s t =
-    if any_holds m false v.here
+    if any_mentions m v.here
     then if_effect p (outcomes v.here s t) (effects m v.here s t)
     else effect_of (value_of w p op.If n v s t)
 act_of w p (op.Case other) n v m s t =
-    if any_holds m false v.here
+    if any_mentions m v.here
     then case_effect p (outcomes v.here s t) (effects m v.here s t)
     else effect_of (value_of w p (op.Case other) n v s t)
 act_of w p op.Exists n v m s t =
-    exists_effect p (outcomes (take (n) v.here) s t) (λ vs. (kid p (n) (v.under vs)).act m s t)
-act_of w p (op.Noted x) n v m s t = (kid p 0 v.here).act m s t
+    exists_effect p (outcomes (take (n) v.here) s t) (λ vs. (child p (n) (v.under vs)).act m s t)
+act_of w p (op.Noted x) n v m s t = (child p 0 v.here).act m s t
+act_of w p op.Prime n v m s t = (child p 0 v.here).act (under_prime m) t t
 act_of w p op.Boxed n v m s t =
-    if holds_of p op.Boxed n v m false
-    then effects_or ((kid p 0 v.here).act m s t ∷ effect_of ((kid p 1 v.here).unchanged s t) ∷ [])
+    if mentions_of p op.Boxed n v m
+    then effects_or ((child p 0 v.here).act m s t ∷ effect_of ((child p 1 v.here).unchanged s t) ∷ [])
     else effect_of (value_of w p op.Boxed n v s t)
 act_of w p op.Angled n v m s t =
-    effects_and ((kid p 0 v.here).act m s t ∷ effect_of (changed p ((kid p 1 v.here).unchanged s t)) ∷ [])
+    effects_and ((child p 0 v.here).act m s t ∷ effect_of (changed p ((child p 1 v.here).unchanged s t)) ∷ [])
 act_of w p o n v m s t = effect_of (value_of w p o n v s t)
 
-abbrev pub meant : Option Sense → Sense → Sense
+abbrev pub meant : Option Denotation → Denotation → Denotation
 meant None a = a
 meant (Some b) a = b
 
--- the sense of a node, by what it reads
-abbrev pub sense_of : Width → Place → Op → ℕ → View → Sense
-sense_of w p o n v = meant v.whole (record {
+-- what a node means, by what it reads
+abbrev pub denotation_of : Width → Place → Op → ℕ → View → Denotation
+denotation_of w p o n v = meant v.whole (record {
   value = value_of w p o n v;
   form = form_of w p o n v;
   act = act_of w p o n v;
   unchanged = unchanged_of w p o n v;
-  holds = holds_of p o n v;
+  mentions = mentions_of p o n v;
 })
 
--- the sense of a node in a scope
+-- what a node means in a scope
 abbrev pub node : Width → Expr-F Meaning → Meaning
-node w e sc = sense_of w e.place e.op (length e.binds) (view e.place (role e.op (length e.binds)) e.binds e.args sc)
+node w e sc = denotation_of w e.place e.op (length e.binds) (view e.place (role e.op (length e.binds)) e.binds e.args sc)
 
 -- the meaning of an expression
 unfoldable pub meaning : Width → Expr → Meaning
@@ -154,5 +176,5 @@ abbrev pub val : Width → Expr → Scope → State → State → Outcome
 val w e sc s t = (meaning w e sc).value s t
 
 -- the outcome of an action
-abbrev pub act : Width → Marks → Expr → Scope → State → State → Outcome
+abbrev pub act : Width → Assigned → Expr → Scope → State → State → Outcome
 act w m e sc s t = outcome_of ((meaning w e sc).act m s t)

@@ -5,19 +5,20 @@ use Rattle.tla_meaning.specs.declared.modules.Flat.{Flat}
 use Rattle.tla_meaning.specs.declared.place.Place.{Place}
 use Rattle.tla_meaning.specs.Actions.{meaning}
 use Rattle.tla_meaning.specs.Executions.{no_scope}
+use Rattle.tla_meaning.specs.Folds.{with_lambdas}
 use Rattle.tla_meaning.specs.Numbers.{Width}
-use Rattle.tla_meaning.specs.Scopes.{Scope, Sense, define, find_last, pass, stands_for}
+use Rattle.tla_meaning.specs.Scopes.{Scope, Denotation, define, find_last, pass, stands_for}
 
 -- each definition stands for its body, over the definitions before it and with its parameters for the arguments
 abbrev pub with_definitions : Width → List Def → Scope → Scope
 with_definitions w [] sc = sc
 with_definitions w (d ∷ ds) sc =
-    with_definitions w ds (define d.name (λ arguments. meaning w d.body (pass d.params arguments sc)) sc)
+    with_definitions w ds (define d.name (λ arguments. meaning w (with_lambdas d.body) (pass d.params arguments sc)) sc)
 
 -- the scope of a flat module
 abbrev pub scope_of_module : Width → Flat → Scope
 scope_of_module w flat = with_definitions w flat.defs no_scope
 
 -- what a name of the module stands for at a place
-abbrev pub defined_as : Width → Flat → Place → List ℕ → Sense
+abbrev pub defined_as : Width → Flat → Place → List ℕ → Denotation
 defined_as w flat p x = stands_for p (find_last x (scope_of_module w flat).named) []

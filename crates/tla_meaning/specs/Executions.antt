@@ -1,7 +1,10 @@
 -- The start, the executions and the errors of a job (Specifying Systems, sections 2.3 and 8.1).
-use Rattle.std.specs.Prelude.{ℕ, suc, ◌+◌, ◌≡◌, Bool, true, false, ◌&&◌, List, [], ◌∷◌, ◌++◌, map, filter, length, take, Option, Some, None, nat_lt, nat_le, IsTrue, ⊤, All}
+use Rattle.std.specs.Prelude.{ℕ, suc, ◌+◌, ◌≡◌, Bool, true, false, List, [], ◌∷◌, ◌++◌, map, filter, length, take, Option, Some, None, IsTrue, ⊤, All}
 use Rattle.tla_values.specs.Sets.{Normal}
 use Rattle.tla_values.specs.declared.value.Value.{out-Value}
+use Rattle.tla_meaning.specs.declared.actions.Assigned.{Assigned}
+use Rattle.tla_meaning.specs.declared.actions.Assigned.TheVariants.{Constants, Variables, PrimedVariables}
+use Rattle.tla_meaning.specs.declared.actions.Effect.{Effect}
 use Rattle.tla_meaning.specs.declared.expr.Decl.{Decl}
 use Rattle.tla_meaning.specs.declared.job.Env.{Env}
 use Rattle.tla_meaning.specs.declared.expr.Expr.{Expr}
@@ -14,7 +17,7 @@ use Rattle.tla_meaning.specs.declared.outcome.Outcome.{Outcome}
 use Rattle.tla_meaning.specs.declared.outcome.Outcome.TheVariants.{Val, Wrong, Big}
 use Rattle.tla_meaning.specs.Numbers.{Width}
 use Rattle.tla_meaning.specs.Operators.{yes_no}
-use Rattle.tla_meaning.specs.Scopes.{Effect, Marks, Scope}
+use Rattle.tla_meaning.specs.Scopes.{Scope}
 use Rattle.tla_meaning.specs.Actions.{val, act, meaning, effect_of, effects_and, outcome_of, is_true}
 
 -- the scope of an environment
@@ -28,15 +31,15 @@ no_scope = record { bound = []; named = [] }
 abbrev pub constants : Job → ℕ
 constants job = length (filter (λ (d : Decl). d.constant) job.names)
 
--- the names that count in CInit, in Init and in Next
-abbrev pub in_cinit : Job → Marks
-in_cinit job i primed = nat_lt i (constants job)
+-- the names that count as assigned in CInit, in Init and in Next
+abbrev pub in_cinit : Job → Assigned
+in_cinit job = Constants (constants job)
 
-abbrev pub in_init : Job → Marks
-in_init job i primed = nat_le (constants job) i
+abbrev pub in_init : Job → Assigned
+in_init job = Variables (constants job)
 
-abbrev pub in_next : Job → Marks
-in_next job i primed = primed && nat_le (constants job) i
+abbrev pub in_next : Job → Assigned
+in_next job = PrimedVariables (constants job)
 
 -- each assumption is one operand: those of a conjunction that stands for several
 abbrev pub assumptions : Op → Expr → List Expr → List Expr

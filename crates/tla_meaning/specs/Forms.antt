@@ -6,35 +6,25 @@ use Rattle.tla_values.specs.Sets.{member, arguments, apply}
 use Rattle.tla_values.specs.declared.value.Value.{Value, out-Value}
 use Rattle.tla_values.specs.declared.value.Value.TheVariants as value
 use Rattle.tla_values.specs.declared.value.Value.TheOpen as layer
+use Rattle.tla_meaning.specs.declared.forms.SetForm.{SetForm, out-SetForm}
+use Rattle.tla_meaning.specs.declared.forms.SetForm.TheOpen as form
+use Rattle.tla_meaning.specs.declared.forms.SetForm.TheFolds.{fold-SetForm}
 use Rattle.tla_meaning.specs.declared.outcome.Fault.{Fault}
 use Rattle.tla_meaning.specs.declared.outcome.Fault.TheVariants.{NoFault, IsWrong, IsBig}
-use Rattle.tla_meaning.specs.Outcomes.{both}
+use Rattle.tla_meaning.specs.Outcomes.{join_faults}
 use Rattle.tla_meaning.specs.Shapes.{items_of}
-
-mutual
-  pub data SetForm : Type 0 where
-    Plain : Value → SetForm
-    AllInts : SetForm
-    AllNats : SetForm
-    AllTexts : SetForm
-    Sequences : SetForm → SetForm
-    Functions : List Value → SetForm → SetForm
-    Subsets : SetForm → SetForm
-    Records : List (List ℕ) → SetForms → SetForm
-    Tuples : SetForms → SetForm
-
-  pub data SetForms : Type 0 where
-    no_forms : SetForms
-    more_forms : SetForm → SetForms → SetForms
 
 -- the value of a plain form is to be a set
 abbrev pub is_set : Layer Value → Bool
 is_set (layer.Set xs) = true
 is_set x = false
 
+abbrev pub is_plain_set : {X : Type 0} → form.SetForm-F X → Bool
+is_plain_set (form.Plain v) = is_set (out-Value v)
+is_plain_set x = true
+
 abbrev pub is_set_form : SetForm → Bool
-is_set_form (Plain v) = is_set (out-Value v)
-is_set_form f = true
+is_set_form f = is_plain_set (out-SetForm f)
 
 abbrev pub is_number : Layer Value → Bool
 is_number (layer.Int n) = true
@@ -74,27 +64,33 @@ fields_at names ps = filter_map (λ n. apply ps (value.Text n)) names
 abbrev pub has_fields : List (List ℕ) → List (Value × Value) → Bool
 has_fields names ps = same_set (map (λ n. value.Text n) names) (arguments ps)
 
--- whether a value belongs to a form
-abbrev mutual
-  pub belongs : SetForm → Value → Bool
-  belongs (Plain s) v = set_passes (member v) (out-Value s)
-  belongs AllInts v = is_number (out-Value v)
-  belongs AllNats v = is_natural (out-Value v)
-  belongs AllTexts v = is_text (out-Value v)
-  belongs (Sequences f) v = function_passes (λ ps. passes (list_all (belongs f)) (items_of ps)) (out-Value v)
-  belongs (Functions xs f) v =
-      function_passes (λ ps. same_set xs (arguments ps) && list_all (belongs f) (results ps)) (out-Value v)
-  belongs (Subsets f) v = set_passes (list_all (belongs f)) (out-Value v)
-  belongs (Records names fs) v =
-      function_passes (λ ps. has_fields names ps && all_belong fs (fields_at names ps)) (out-Value v)
-  belongs (Tuples fs) v = function_passes (λ ps. passes (all_belong fs) (items_of ps)) (out-Value v)
+-- each of the values passes its test
+abbrev pub each_passes : List (Value → Bool) → List Value → Bool
+each_passes [] [] = true
+each_passes [] (v ∷ vs) = false
+each_passes (b ∷ bs) [] = false
+each_passes (b ∷ bs) (v ∷ vs) = b v && each_passes bs vs
 
-  -- each of the values to its form
-  pub all_belong : SetForms → List Value → Bool
-  all_belong no_forms [] = true
-  all_belong no_forms (v ∷ vs) = false
-  all_belong (more_forms f fs) [] = false
-  all_belong (more_forms f fs) (v ∷ vs) = belongs f v && all_belong fs vs
+-- whether a value belongs to a form, by what belongs to its parts
+abbrev pub part_belongs : form.SetForm-F (Value → Bool) → Value → Bool
+part_belongs (form.Plain s) v = set_passes (member v) (out-Value s)
+part_belongs form.AllInts v = is_number (out-Value v)
+part_belongs form.AllNats v = is_natural (out-Value v)
+part_belongs form.AllTexts v = is_text (out-Value v)
+part_belongs (form.Sequences b) v = function_passes (λ ps. passes (list_all b) (items_of ps)) (out-Value v)
+part_belongs (form.Functions xs b) v =
+    function_passes (λ ps. same_set xs (arguments ps) && list_all b (results ps)) (out-Value v)
+part_belongs (form.Subsets b) v = set_passes (list_all b) (out-Value v)
+part_belongs (form.Records names bs) v =
+    function_passes (λ ps. has_fields names ps && each_passes bs (fields_at names ps)) (out-Value v)
+part_belongs (form.Tuples bs) v = function_passes (λ ps. passes (each_passes bs) (items_of ps)) (out-Value v)
+
+unfoldable pub belongs : SetForm → Value → Bool
+belongs = fold-SetForm (Value → Bool) part_belongs
+
+-- each of the values to its form
+abbrev pub all_belong : List SetForm → List Value → Bool
+all_belong fs vs = each_passes (map belongs fs) vs
 
 -- a form, or a fault on the way to it
 pub data Formed : Type 0 where
@@ -107,19 +103,18 @@ form_fault (Broken g) = g
 
 abbrev pub form_faults : List Formed → Fault
 form_faults [] = NoFault
-form_faults (f ∷ fs) = both (form_fault f) (form_faults fs)
+form_faults (f ∷ fs) = join_faults (form_fault f) (form_faults fs)
 
-abbrev pub made : List Formed → SetForms
-made [] = no_forms
-made (Made f ∷ fs) = more_forms f (made fs)
+abbrev pub made : List Formed → List SetForm
+made [] = []
+made (Made f ∷ fs) = f ∷ made fs
 made (Broken g ∷ fs) = made fs
 
-abbrev pub all_set_forms : SetForms → Bool
-all_set_forms no_forms = true
-all_set_forms (more_forms f fs) = is_set_form f && all_set_forms fs
+abbrev pub all_set_forms : List SetForm → Bool
+all_set_forms = list_all is_set_form
 
 -- the fault, or else the form
-abbrev pub form_unless : Fault → Formed → Formed
-form_unless NoFault f = f
-form_unless (IsWrong p) f = Broken (IsWrong p)
-form_unless (IsBig p) f = Broken (IsBig p)
+abbrev pub fault_or_form : Fault → Formed → Formed
+fault_or_form NoFault f = f
+fault_or_form (IsWrong p) f = Broken (IsWrong p)
+fault_or_form (IsBig p) f = Broken (IsBig p)

@@ -11,6 +11,7 @@ pub mod Strict
 pub mod FreeNames
 pub mod Substitution
 pub mod Renamings
+pub mod Folds
 pub mod Definitions
 pub mod Form1
 pub mod Inductive

@@ -6,6 +6,8 @@ use Rattle.tla_values.specs.Sets.{apply, override_at}
 use Rattle.tla_values.specs.declared.value.Value.{Value, out-Value}
 use Rattle.tla_values.specs.declared.value.Value.TheVariants as value
 use Rattle.tla_values.specs.declared.value.Value.TheOpen as layer
+use Rattle.tla_meaning.specs.declared.forms.SetForm.{SetForm}
+use Rattle.tla_meaning.specs.declared.forms.SetForm.TheVariants as form
 use Rattle.tla_meaning.specs.declared.op.Op.{Op}
 use Rattle.tla_meaning.specs.declared.op.Op.TheVariants as op
 use Rattle.tla_meaning.specs.declared.place.Place.{Place}
@@ -13,39 +15,39 @@ use Rattle.tla_meaning.specs.declared.job.State.{State}
 use Rattle.tla_meaning.specs.declared.outcome.Outcome.{Outcome}
 use Rattle.tla_meaning.specs.declared.outcome.Outcome.TheVariants.{Val, Wrong, Big}
 use Rattle.tla_meaning.specs.declared.outcome.Fault.TheVariants.{NoFault, IsWrong, IsBig}
-use Rattle.tla_meaning.specs.Outcomes.{both, fault_of, values, strict, with_value}
+use Rattle.tla_meaning.specs.Outcomes.{join_faults, fault_of, values, strict, with_value}
 use Rattle.tla_meaning.specs.Numbers.{Width, number}
 use Rattle.tla_meaning.specs.Shapes.{the_set, the_function, sequence, choices, items_of, set_items}
-use Rattle.tla_meaning.specs.Forms.{SetForm, SetForms, Plain, AllInts, AllNats, AllTexts, Sequences, Functions, Subsets, Records, Tuples, Formed, Made, Broken, form_fault, form_faults, made, is_set_form, all_set_forms, form_unless, belongs}
+use Rattle.tla_meaning.specs.Forms.{Formed, Made, Broken, form_fault, form_faults, made, is_set_form, all_set_forms, fault_or_form, belongs}
 use Rattle.tla_meaning.specs.Operators.{table, yes_no, on_all_sets, on_items}
-use Rattle.tla_meaning.specs.Scopes.{Sense, Scope, find_last, bind, define, pass, nonsense, stands_for, value_found}
+use Rattle.tla_meaning.specs.Scopes.{Denotation, Scope, find_last, bind, define, pass, absent, stands_for, value_found}
 
 -- a node means something in each scope
 abbrev pub Meaning : Type 0
-Meaning = Scope → Sense
+Meaning = Scope → Denotation
 
-abbrev pub outcomes : List Sense → State → State → List Outcome
+abbrev pub outcomes : List Denotation → State → State → List Outcome
 outcomes as' s t = map (λ a. a.value s t) as'
 
-abbrev pub senses : List Meaning → Scope → List Sense
-senses ks sc = map (λ k. k sc) ks
+abbrev pub denotations : List Meaning → Scope → List Denotation
+denotations ks sc = map (λ k. k sc) ks
 
 -- the n-th child
-abbrev pub kid : Place → ℕ → List Sense → Sense
-kid p n [] = nonsense p
-kid p zero (a ∷ as') = a
-kid p (suc n) (a ∷ as') = kid p n as'
+abbrev pub child : Place → ℕ → List Denotation → Denotation
+child p n [] = absent p
+child p zero (a ∷ as') = a
+child p (suc n) (a ∷ as') = child p n as'
 
 -- what a node reads of its scope and of its children
 pub record View : Type 0 where
   -- the children in the node's scope
-  pub here : List Sense
+  pub here : List Denotation
   -- and where the node's bound names have these values
-  pub under : List Value → List Sense
+  pub under : List Value → List Denotation
   -- the value of the bound name that the node reads
   pub held : Option Value
   -- what a use, a parameter or a LET stands for
-  pub whole : Option Sense
+  pub whole : Option Denotation
 
 -- goes on by a truth value
 abbrev pub by_truth : Place → Layer Value → Outcome → Outcome → Outcome
@@ -116,7 +118,7 @@ bound_table p o cs vs = Wrong p
 -- the domains join first, and then the body over all members
 abbrev pub over_members : Place → Op → ℕ → View → State → State → Outcome
 over_members p o n v s t =
-    let body : List Value → Outcome = λ vs. (kid p (n) (v.under vs)).value s t in
+    let body : List Value → Outcome = λ vs. (child p (n) (v.under vs)).value s t in
     strict
     (outcomes (take (n) v.here) s t)
     (on_all_sets p (λ xss. strict (map body (choices xss)) (bound_table p o (choices xss))))
@@ -171,21 +173,21 @@ updated p (u ∷ us) f =
     ]
 
 -- the children that are indexes, and the updates
-abbrev pub all_indexes : List ℕ → List Sense → List Sense
+abbrev pub all_indexes : List ℕ → List Denotation → List Denotation
 all_indexes [] ks = []
 all_indexes (n ∷ ns) ks = take n ks ++ all_indexes ns (drop (suc n) ks)
 
-abbrev pub updates : Place → List ℕ → List Sense → (List Value → List Sense) → State → State → List Update
+abbrev pub updates : Place → List ℕ → List Denotation → (List Value → List Denotation) → State → State → List Update
 updates p [] ks under s t = []
 updates p (n ∷ ns) ks under s t =
-    (values (outcomes (take n ks) s t), λ old. (kid p n (under (old ∷ []))).value s t)
+    (values (outcomes (take n ks) s t), λ old. (child p n (under (old ∷ []))).value s t)
     ∷ updates p ns (drop (suc n) ks) (λ vs. drop (suc n) (under vs)) s t
 
 abbrev pub first_updated : Place → List Update → List Value → Outcome
 first_updated p us [] = Wrong p
 first_updated p us (f ∷ vs) = updated p us f
 
-abbrev pub except : Place → List ℕ → List Sense → (List Value → List Sense) → State → State → Outcome
+abbrev pub except : Place → List ℕ → List Denotation → (List Value → List Denotation) → State → State → Outcome
 except p ns [] under s t = Wrong p
 except p ns (k ∷ ks) under s t =
     strict
@@ -206,13 +208,13 @@ fold_over p f vs = Wrong p
 
 -- ---- set forms
 
-abbrev pub forms : List Sense → State → State → List Formed
+abbrev pub forms : List Denotation → State → State → List Formed
 forms as' s t = map (λ a. a.form s t) as'
 
 -- the form of children that are forms, where each is one
-abbrev pub form_of_all : Place → (SetForms → SetForm) → List Formed → Formed
+abbrev pub form_of_all : Place → (List SetForm → SetForm) → List Formed → Formed
 form_of_all p make fs =
-    form_unless (form_faults fs) (if all_set_forms (made fs) then Made (make (made fs)) else Broken (IsWrong p))
+    fault_or_form (form_faults fs) (if all_set_forms (made fs) then Made (make (made fs)) else Broken (IsWrong p))
 
 abbrev pub form_of_one : Place → (SetForm → SetForm) → List Formed → Formed
 form_of_one p make (f ∷ []) =
@@ -228,16 +230,16 @@ layer_of (Big p) = None
 -- the functions from a set of these items
 abbrev pub functions_from : Place → Option (List Value) → List Formed → Formed
 functions_from p None fs = Broken (IsWrong p)
-functions_from p (Some xs) fs = form_of_one p (Functions xs) fs
+functions_from p (Some xs) fs = form_of_one p (form.Functions xs) fs
 
 -- the domain is evaluated, and the other side is a form; their faults join first
 abbrev pub function_form : Place → List Outcome → List Formed → Formed
 function_form p (o ∷ os) (d ∷ fs) =
-    form_unless (both (fault_of o) (form_faults fs)) (functions_from p (option_and_then set_items (layer_of o)) fs)
+    fault_or_form (join_faults (fault_of o) (form_faults fs)) (functions_from p (option_and_then set_items (layer_of o)) fs)
 function_form p os fs = Broken (IsWrong p)
 
 abbrev pub plain : Outcome → Formed
-plain (Val v) = Made (Plain v)
+plain (Val v) = Made (form.Plain v)
 plain (Wrong p) = Broken (IsWrong p)
 plain (Big p) = Broken (IsBig p)
 
@@ -245,7 +247,7 @@ plain (Big p) = Broken (IsBig p)
 abbrev pub in_form : Place → (Value → SetForm → Outcome) → List Outcome → List Formed → Outcome
 in_form p test (Val v ∷ os) (d ∷ Made f ∷ []) = if is_set_form f then test v f else Wrong p
 in_form p test (o ∷ os) (d ∷ f ∷ []) =
-    elim (both (fault_of o) (form_fault f)) [ NoFault ↦ Wrong p | IsWrong q ↦ Wrong q | IsBig q ↦ Big q ]
+    elim (join_faults (fault_of o) (form_fault f)) [ NoFault ↦ Wrong p | IsWrong q ↦ Wrong q | IsBig q ↦ Big q ]
 in_form p test os fs = Wrong p
 
 abbrev pub all_in : Place → Value → SetForm → Outcome
@@ -287,31 +289,31 @@ role (op.Except ns) n = Plain_role (false ∷ except_marks ns)
 role o n = Plain_role []
 
 -- the senses of the children outside and inside, each list with no sense at the places of the others
-abbrev pub outer : Place → List Bool → List Meaning → Scope → List Sense
+abbrev pub outer : Place → List Bool → List Meaning → Scope → List Denotation
 outer p ms [] sc = []
 outer p [] (k ∷ ks) sc = k sc ∷ outer p [] ks sc
-outer p (true ∷ ms) (k ∷ ks) sc = nonsense p ∷ outer p ms ks sc
+outer p (true ∷ ms) (k ∷ ks) sc = absent p ∷ outer p ms ks sc
 outer p (false ∷ ms) (k ∷ ks) sc = k sc ∷ outer p ms ks sc
 
-abbrev pub inner : Place → List Bool → List Meaning → Scope → List Sense
+abbrev pub inner : Place → List Bool → List Meaning → Scope → List Denotation
 inner p ms [] sc = []
-inner p [] (k ∷ ks) sc = nonsense p ∷ inner p [] ks sc
+inner p [] (k ∷ ks) sc = absent p ∷ inner p [] ks sc
 inner p (true ∷ ms) (k ∷ ks) sc = k sc ∷ inner p ms ks sc
-inner p (false ∷ ms) (k ∷ ks) sc = nonsense p ∷ inner p ms ks sc
+inner p (false ∷ ms) (k ∷ ks) sc = absent p ∷ inner p ms ks sc
 
 abbrev pub view : Place → Role → List (List ℕ) → List Meaning → Scope → View
 view p (Named x) xs ks sc = record {
-  here = senses ks sc;
+  here = denotations ks sc;
   under = λ vs. [];
   held = None;
-  whole = Some (stands_for p (find_last x sc.named) (senses ks sc));
+  whole = Some (stands_for p (find_last x sc.named) (denotations ks sc));
 }
-view p (Held x) xs ks sc = record { here = senses ks sc; under = λ vs. []; held = find_last x sc.bound; whole = None }
+view p (Held x) xs ks sc = record { here = denotations ks sc; under = λ vs. []; held = find_last x sc.bound; whole = None }
 view p (Lets ds) xs ks sc = record {
-  here = senses ks sc;
+  here = denotations ks sc;
   under = λ vs. [];
   held = None;
-  whole = Some (kid p (length ds) (senses ks (let_scope ds xs ks sc)));
+  whole = Some (child p (length ds) (denotations ks (let_scope ds xs ks sc)));
 }
 view p (Plain_role ms) xs ks sc = record {
   here = outer p ms ks sc;
@@ -352,29 +354,30 @@ value_of w p (op.Except ns) n v s t = except p ns v.here v.under s t
 value_of w p op.Fold n v s t =
     strict
     (outcomes (drop 1 v.here) s t)
-    (fold_over p (λ a b. (kid p 0 (v.under (a ∷ b ∷ []))).value s t))
+    (fold_over p (λ a b. (child p 0 (v.under (a ∷ b ∷ []))).value s t))
 value_of w p (op.Name i primed) n v s t = read p i (if primed then t else s)
 value_of w p (op.Bound x) n v s t = value_found p v.held
-value_of w p op.Prime n v s t = (kid p 0 v.here).value t t
-value_of w p op.Unchanged n v s t = (kid p 0 v.here).unchanged s t
-value_of w p op.Boxed n v s t = disjoined p ((kid p 0 v.here).value s t ∷ (kid p 1 v.here).unchanged s t ∷ [])
+value_of w p op.Prime n v s t = (child p 0 v.here).value t t
+value_of w p op.Unchanged n v s t = (child p 0 v.here).unchanged s t
+value_of w p op.Boxed n v s t = disjoined p ((child p 0 v.here).value s t ∷ (child p 1 v.here).unchanged s t ∷ [])
 value_of w p op.Angled n v s t =
-    conjoined p ((kid p 0 v.here).value s t ∷ changed p ((kid p 1 v.here).unchanged s t) ∷ [])
-value_of w p (op.Noted x) n v s t = (kid p 0 v.here).value s t
+    conjoined p ((child p 0 v.here).value s t ∷ changed p ((child p 1 v.here).unchanged s t) ∷ [])
+value_of w p (op.Noted x) n v s t = (child p 0 v.here).value s t
 value_of w p o n v s t = strict (outcomes v.here s t) (table w p o)
 
 -- ---- the form of a node
 
 abbrev pub form_of : Width → Place → Op → ℕ → View → State → State → Formed
-form_of w p op.IntSet n v s t = Made AllInts
-form_of w p op.NatSet n v s t = Made AllNats
-form_of w p op.StringSet n v s t = Made AllTexts
-form_of w p op.SeqSet n v s t = form_of_one p Sequences (forms v.here s t)
-form_of w p op.Powerset n v s t = form_of_one p Subsets (forms v.here s t)
+form_of w p op.IntSet n v s t = Made form.AllInts
+form_of w p op.NatSet n v s t = Made form.AllNats
+form_of w p op.StringSet n v s t = Made form.AllTexts
+form_of w p op.SeqSet n v s t = form_of_one p form.Sequences (forms v.here s t)
+form_of w p op.Powerset n v s t = form_of_one p form.Subsets (forms v.here s t)
 form_of w p op.FunSet n v s t = function_form p (outcomes v.here s t) (forms v.here s t)
-form_of w p (op.RecSet names) n v s t = form_of_all p (Records names) (forms v.here s t)
-form_of w p op.Product n v s t = form_of_all p Tuples (forms v.here s t)
-form_of w p (op.Noted x) n v s t = (kid p 0 v.here).form s t
+form_of w p (op.RecSet names) n v s t = form_of_all p (form.Records names) (forms v.here s t)
+form_of w p op.Product n v s t = form_of_all p form.Tuples (forms v.here s t)
+form_of w p (op.Noted x) n v s t = (child p 0 v.here).form s t
+form_of w p op.Prime n v s t = (child p 0 v.here).form t t
 form_of w p o n v s t = plain (value_of w p o n v s t)
 
 -- ---- UNCHANGED: of a tuple, the conjunction over its items
@@ -384,5 +387,6 @@ kept_value p a b = strict (b ∷ a ∷ []) (table None p op.Eq)
 
 abbrev pub unchanged_of : Width → Place → Op → ℕ → View → State → State → Outcome
 unchanged_of w p op.Tuple n v s t = conjoined p (map (λ a. a.unchanged s t) v.here)
-unchanged_of w p (op.Noted x) n v s t = (kid p 0 v.here).unchanged s t
+unchanged_of w p (op.Noted x) n v s t = (child p 0 v.here).unchanged s t
+unchanged_of w p op.Prime n v s t = (child p 0 v.here).unchanged t t
 unchanged_of w p o n v s t = kept_value p (value_of w p o n v s t) (value_of w p o n v t t)

@@ -1,5 +1,6 @@
 -- Whole numbers under a width.
-use Rattle.std.specs.Prelude.{ℕ, zero, suc, ◌+◌, ◌-◌, ◌/◌, ◌%◌, ◌^◌, Bool, true, nat_lt, if◌then◌else◌, List, [], ◌∷◌, Option, Some, None, ℤ, pos, negsuc, ◌+ℤ◌, ◌-ℤ◌, ◌*ℤ◌, nat_abs, int_le}
+use Rattle.std.specs.Prelude.{ℕ, zero, suc, ◌+◌, Bool, true, if◌then◌else◌, List, [], ◌∷◌, Option, Some, None, ℤ, pos, negsuc, ◌+ℤ◌, ◌-ℤ◌, ◌*ℤ◌, nat_abs, int_le}
+use Rattle.tla_values.specs.Integers.{fits_width, floor_quotient, floor_remainder}
 use Rattle.tla_values.specs.declared.value.Value.{Value}
 use Rattle.tla_values.specs.declared.value.Value.TheVariants as value
 use Rattle.tla_meaning.specs.declared.place.Place.{Place}
@@ -10,34 +11,24 @@ use Rattle.tla_meaning.specs.declared.outcome.Outcome.TheVariants.{Val, Wrong, B
 abbrev pub Width : Type 0
 Width = Option ℕ
 
--- from -2^(w-1) to 2^(w-1) - 1
+-- every number without a width, and else those that fit it
 abbrev pub in_width : Width → ℤ → Bool
 in_width None n = true
-in_width (Some w) (pos n) = nat_lt n (2 ^ (w - 1))
-in_width (Some w) (negsuc n) = nat_lt n (2 ^ (w - 1))
+in_width (Some w) n = fits_width w n
 
 -- a number, or Big where it is outside the width
 abbrev pub number : Width → Place → ℤ → Outcome
 number w p n = if in_width w n then Val (value.Int n) else Big p
 
--- the quotient towards minus infinity by a divisor above 0, and what is left
-abbrev pub div_floor : ℤ → ℕ → ℤ
-div_floor (pos a) b = pos (a / b)
-div_floor (negsuc a) b = negsuc (a / b)
-
-abbrev pub rem_floor : ℤ → ℕ → ℤ
-rem_floor (pos a) b = pos (a % b)
-rem_floor (negsuc a) b = pos (b - 1 - a % b)
-
 -- by a divisor of either sign: Wrong where it is at most 0
 abbrev pub quotient : Width → Place → ℤ → ℤ → Outcome
 quotient w p a (pos zero) = Wrong p
-quotient w p a (pos (suc b)) = number w p (div_floor a (suc b))
+quotient w p a (pos (suc b)) = number w p (floor_quotient a (suc b))
 quotient w p a (negsuc b) = Wrong p
 
 abbrev pub remainder : Width → Place → ℤ → ℤ → Outcome
 remainder w p a (pos zero) = Wrong p
-remainder w p a (pos (suc b)) = number w p (rem_floor a (suc b))
+remainder w p a (pos (suc b)) = number w p (floor_remainder a (suc b))
 remainder w p a (negsuc b) = Wrong p
 
 abbrev pub power_of : ℤ → ℕ → ℤ

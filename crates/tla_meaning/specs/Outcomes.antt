@@ -24,14 +24,14 @@ abbrev pub least : Place → Place → Place
 least p q = if before q p then q else p
 
 -- Wrong at the least place at which one is Wrong, else Big at the least place at which one is Big
-abbrev pub both : Fault → Fault → Fault
-both NoFault g = g
-both (IsWrong p) NoFault = IsWrong p
-both (IsWrong p) (IsWrong q) = IsWrong (least p q)
-both (IsWrong p) (IsBig q) = IsWrong p
-both (IsBig p) NoFault = IsBig p
-both (IsBig p) (IsWrong q) = IsWrong q
-both (IsBig p) (IsBig q) = IsBig (least p q)
+abbrev pub join_faults : Fault → Fault → Fault
+join_faults NoFault g = g
+join_faults (IsWrong p) NoFault = IsWrong p
+join_faults (IsWrong p) (IsWrong q) = IsWrong (least p q)
+join_faults (IsWrong p) (IsBig q) = IsWrong p
+join_faults (IsBig p) NoFault = IsBig p
+join_faults (IsBig p) (IsWrong q) = IsWrong q
+join_faults (IsBig p) (IsBig q) = IsBig (least p q)
 
 abbrev pub fault_of : Outcome → Fault
 fault_of (Val v) = NoFault
@@ -41,7 +41,7 @@ fault_of (Big p) = IsBig p
 -- the join of the faults of several outcomes
 abbrev pub joined : List Outcome → Fault
 joined [] = NoFault
-joined (o ∷ os) = both (fault_of o) (joined os)
+joined (o ∷ os) = join_faults (fault_of o) (joined os)
 
 -- the outcomes that are values
 abbrev pub values : List Outcome → List Value
@@ -51,14 +51,14 @@ values (Wrong p ∷ os) = values os
 values (Big p ∷ os) = values os
 
 -- the fault, or else the outcome
-abbrev pub unless : Fault → Outcome → Outcome
-unless NoFault o = o
-unless (IsWrong p) o = Wrong p
-unless (IsBig p) o = Big p
+abbrev pub fault_or : Fault → Outcome → Outcome
+fault_or NoFault o = o
+fault_or (IsWrong p) o = Wrong p
+fault_or (IsBig p) o = Big p
 
 -- the join of the operands, where there is no fault with the outcome of their values
 abbrev pub strict : List Outcome → (List Value → Outcome) → Outcome
-strict os f = unless (joined os) (f (values os))
+strict os f = fault_or (joined os) (f (values os))
 
 -- goes on with a value
 abbrev pub with_value : Outcome → (Value → Outcome) → Outcome

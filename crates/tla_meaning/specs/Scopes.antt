@@ -4,39 +4,31 @@ use Rattle.std.specs.Ordering.{is_eq}
 use Rattle.tla_values.specs.Order.{text_cmp}
 use Rattle.tla_values.specs.declared.value.Value.{Value}
 use Rattle.tla_values.specs.declared.value.Value.TheVariants as value
+use Rattle.tla_meaning.specs.declared.actions.Assigned.{Assigned}
+use Rattle.tla_meaning.specs.declared.actions.Effect.{Effect}
 use Rattle.tla_meaning.specs.declared.place.Place.{Place}
 use Rattle.tla_meaning.specs.declared.job.State.{State}
 use Rattle.tla_meaning.specs.declared.outcome.Outcome.{Outcome}
 use Rattle.tla_meaning.specs.declared.outcome.Outcome.TheVariants.{Val, Wrong}
-use Rattle.tla_meaning.specs.declared.outcome.Fault.{Fault}
 use Rattle.tla_meaning.specs.declared.outcome.Fault.TheVariants.{IsWrong}
 use Rattle.tla_meaning.specs.Forms.{Formed, Broken}
 
--- whether an action holds, and its fault
-pub record Effect : Type 0 where
-  pub holds : Bool
-  pub fault : Fault
-
--- the names that make a disjunction strict in an action position: by number and prime
-abbrev pub Marks : Type 0
-Marks = ℕ → Bool → Bool
-
 -- what an expression means in a state with a next state, where its names are known
-pub record Sense : Type 0 where
+pub record Denotation : Type 0 where
   pub value : State → State → Outcome
   -- as the right side of a membership
   pub form : State → State → Formed
   -- in an action position
-  pub act : Marks → State → State → Effect
+  pub act : Assigned → State → State → Effect
   -- under UNCHANGED
   pub unchanged : State → State → Outcome
-  -- whether it holds such a name, itself under a prime or not
-  pub holds : Marks → Bool → Bool
+  -- whether it holds a name that counts as assigned
+  pub mentions : Assigned → Bool
 
 -- bound names stand for values, and parameters and definitions for what they mean at their arguments
 pub record Scope : Type 0 where
   pub bound : List (List ℕ × Value)
-  pub named : List (List ℕ × (List Sense → Sense))
+  pub named : List (List ℕ × (List Denotation → Denotation))
 
 abbrev pub same_text : List ℕ → List ℕ → Bool
 same_text a b = is_eq (text_cmp a b)
@@ -61,25 +53,25 @@ abbrev pub bind : List (List ℕ) → List Value → Scope → Scope
 bind xs vs sc = record sc { bound = sc.bound ++ bound_to xs vs }
 
 -- the scope with one more definition
-abbrev pub define : List ℕ → (List Sense → Sense) → Scope → Scope
+abbrev pub define : List ℕ → (List Denotation → Denotation) → Scope → Scope
 define x d sc = record sc { named = sc.named ++ (x, d) ∷ [] }
 
 -- the scope in which parameters stand for arguments
-abbrev pub pass : List (List ℕ) → List Sense → Scope → Scope
+abbrev pub pass : List (List ℕ) → List Denotation → Scope → Scope
 pass xs as' sc = record sc { named = sc.named ++ zip xs (map (λ a. λ _. a) as') }
 
--- the sense of what is not there
-abbrev pub nonsense : Place → Sense
-nonsense p = record {
+-- what is not there
+abbrev pub absent : Place → Denotation
+absent p = record {
   value = λ s t. Wrong p;
   form = λ s t. Broken (IsWrong p);
   act = λ m s t. record { holds = false; fault = IsWrong p };
   unchanged = λ s t. Wrong p;
-  holds = λ m u. false;
+  mentions = λ m. false;
 }
 
-abbrev pub stands_for : Place → Option (List Sense → Sense) → List Sense → Sense
-stands_for p None as' = nonsense p
+abbrev pub stands_for : Place → Option (List Denotation → Denotation) → List Denotation → Denotation
+stands_for p None as' = absent p
 stands_for p (Some d) as' = d as'
 
 abbrev pub value_found : Place → Option Value → Outcome

@@ -1,9 +1,11 @@
 //! The trees of a module and what they mean.
 #![tactic(auto)]
 
+mod actions;
 mod boolean;
 mod copy;
 mod expr;
+mod forms;
 mod job;
 mod modules;
 mod op;
@@ -11,9 +13,11 @@ mod outcome;
 mod place;
 mod theorems;
 
+pub use actions::{Assigned, Effect};
 pub use boolean::{BooleanModule, Conjunct};
 pub use copy::copy_expr;
 pub use expr::{Decl, Def, Expr};
+pub use forms::SetForm;
 pub use job::{Env, Job, State};
 pub use modules::{Flat, Module, Unit};
 pub use op::{Form, Op};

@@ -5,7 +5,8 @@ ghost use Rattle.tla_meaning.specs.Executions.{IsExecution, invariant, next, sco
 ghost use Rattle.tla_meaning.specs.FreeNames.{SameOn, closed};
 ghost use Rattle.tla_meaning.specs.Numbers.{Width};
 ghost use Rattle.tla_meaning.specs.Renamings.{OneToOne, Renames, Renaming, rename};
-ghost use Rattle.tla_meaning.specs.Scopes.{Marks, Scope};
+ghost use Rattle.tla_meaning.specs.Scopes.{Scope};
+ghost use Rattle.tla_meaning.specs.declared.actions.Assigned.{Assigned};
 ghost use Rattle.tla_meaning.specs.Substitution.{Given, Within, binds_apart, each, give, put};
 ghost use Rattle.tla_meaning.specs.Widths.{Narrow};
 ghost use Rattle.tla_meaning.specs.declared.expr.Expr.{Expr};
@@ -16,24 +17,24 @@ ghost use Rattle.tla_meaning.specs.declared.outcome.Fault.{Fault};
 ghost use Rattle.tla_meaning.specs.declared.outcome.Fault.TheVariants.{NoFault};
 ghost use Rattle.tla_meaning.specs.declared.outcome.Outcome.{Outcome};
 ghost use Rattle.tla_meaning.specs.declared.outcome.Outcome.TheVariants.{Val};
-ghost use Rattle.tla_meaning.specs.Outcomes.{both, joined};
+ghost use Rattle.tla_meaning.specs.Outcomes.{join_faults, joined};
 ghost use Rattle.tla_values.specs.Sets.{Normal};
 ghost use Rattle.tla_values.specs.declared.value.Value.{Value};
 
 /// The faults of several operands may be joined in any order and as often as one likes.
 pub fn faults_join()
-    ensures commutative { (f g : Fault) → both f g ≡ both g f }
-    ensures associative { (f g h : Fault) → both (both f g) h ≡ both f (both g h) }
-    ensures idempotent { (f : Fault) → both f f ≡ f }
-    ensures unit { (f : Fault) → both f NoFault ≡ f }
-    ensures lists { (os more : List Outcome) → joined (os ++ more) ≡ both (joined os) (joined more) }
+    ensures commutative { (f g : Fault) → join_faults f g ≡ join_faults g f }
+    ensures associative { (f g h : Fault) → join_faults (join_faults f g) h ≡ join_faults f (join_faults g h) }
+    ensures idempotent { (f : Fault) → join_faults f f ≡ f }
+    ensures unit { (f : Fault) → join_faults f NoFault ≡ f }
+    ensures lists { (os more : List Outcome) → joined (os ++ more) ≡ join_faults (joined os) (joined more) }
 {}
 
 /// What comes out under a width is Big, or is what comes out without a width, or is Wrong where that is Wrong too,
 /// perhaps at another place.
 pub fn widths_agree()
     ensures values { (w : ℕ) (e : Expr) (env : Env) (s t : State) → Narrow (val (Some w) e (scope_of env) s t) (val None e (scope_of env) s t) }
-    ensures actions { (w : ℕ) (m : Marks) (e : Expr) (env : Env) (s t : State) → Narrow (act (Some w) m e (scope_of env) s t) (act None m e (scope_of env) s t) }
+    ensures actions { (w : ℕ) (m : Assigned) (e : Expr) (env : Env) (s t : State) → Narrow (act (Some w) m e (scope_of env) s t) (act None m e (scope_of env) s t) }
     ensures starts { (w : ℕ) (job : Job) (s : State) → Narrow (start (Some w) job s) (start None job s) }
     ensures steps { (w : ℕ) (job : Job) (s t : State) → Narrow (next (Some w) job s t) (next None job s t) }
     ensures invariants { (w : ℕ) (job : Job) (s : State) → Narrow (invariant (Some w) job s) (invariant None job s) }

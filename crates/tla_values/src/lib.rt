@@ -1,6 +1,7 @@
 //! Values of the language: truth values, whole numbers, texts, sets and functions.
 #![tactic(auto)]
 
+mod boxed;
 mod functions;
 mod list;
 mod names;
@@ -14,6 +15,7 @@ mod tests;
 mod text;
 mod value;
 
+pub use boxed::Boxed;
 pub use functions::{apply, domain_of, fun_of, override_at};
 pub use list::List;
 pub use names::is_name;
