@@ -7,14 +7,14 @@ use Rattle.tool_outside.specs.Outside.{Folder, Rose, file_at}
 use Rattle.tla_meaning.specs.declared.boolean.BooleanModule.{BooleanModule}
 use Rattle.tla_meaning.specs.declared.expr.Decl.{Decl}
 use Rattle.tla_meaning.specs.declared.job.Job.{Job}
-use Rattle.tla_meaning.specs.Form1.{IsBooleanModule, IsForm1, module_text, without_folder, declarations, job_of}
+use Rattle.tla_meaning.specs.BooleanLayout.{IsBooleanModule, IsBooleanLayout, module_text, without_folder, declarations, job_of}
 use Rattle.symbolic_mc.specs.declared.answer.Answer.{Answer}
 use Rattle.symbolic_mc.specs.declared.answer.Answer.TheVariants.{Usage, ReadFault, TooLong, Missing, NotBuilt, Checked}
 use Rattle.symbolic_mc.specs.declared.checking.Verdict.{Verdict}
 use Rattle.symbolic_mc.specs.declared.checking.Verdict.TheVariants.{Clean, Error}
 use Rattle.symbolic_mc.specs.Report.{error_report, report_of}
 use Rattle.symbolic_mc.specs.Naming.{IsModuleOf}
-use Rattle.symbolic_mc.specs.Top.{IsOnlyForm1, IsErrorReport, IsCleanReport, IsFileAnswer, IsAnswer, IsRefusal, NoFile, NoForm, IsReadFault, Failed, Longer, module_limit}
+use Rattle.symbolic_mc.specs.Top.{IsOnlyBooleanLayout, IsErrorReport, IsCleanReport, IsFileAnswer, IsAnswer, IsRefusal, NoFile, NoForm, IsReadFault, Failed, Longer, module_limit}
 use Rattle.symbolic_mc.specs.Verdicts.{IsVerdict}
 use Rattle.symbolic_mc.specs.Words.{request_of}
 
@@ -27,7 +27,7 @@ abbrev pub IsSource : BooleanModule → List ℕ → Type 0
 IsSource m bytes = (other : BooleanModule) → IsBooleanModule other → bytes ≡ module_text other → other ≡ m
 
 only_form : (m : BooleanModule) (file bytes : List ℕ) → IsBooleanModule m → without_folder file ≡ m.name ++ codes ".tla"
-    → bytes ≡ module_text m → IsSource m bytes → IsOnlyForm1 file (job_of file m) bytes
+    → bytes ≡ module_text m → IsSource m bytes → IsOnlyBooleanLayout file (job_of file m) bytes
 only_form m file bytes wf named spelled source = record {
   form = record { source = m; well_formed = wf; named = named; spelled = spelled; job_is = refl };
   only = λ other form. form.job_is ∙ ap (job_of file) (source form.source form.well_formed form.spelled);
@@ -56,12 +56,12 @@ file_verdict m file longest bytes (Error n states) wf named spelled source is = 
 
 -- a module of another name than the file's
 pub other_name : (m : BooleanModule) (file bytes : List ℕ) → IsSource m bytes → ((without_folder file ≡ m.name ++ codes ".tla") → ⊥)
-    → (job : Job) → IsForm1 file job bytes → ⊥
+    → (job : Job) → IsBooleanLayout file job bytes → ⊥
 other_name m file bytes source differs job form =
     differs (form.named ∙ ap (λ (x : BooleanModule). x.name ++ codes ".tla") (source form.source form.well_formed form.spelled))
 
 pub no_source : (file bytes : List ℕ) → ((m : BooleanModule) → IsBooleanModule m → bytes ≡ module_text m → ⊥)
-    → (job : Job) → IsForm1 file job bytes → ⊥
+    → (job : Job) → IsBooleanLayout file job bytes → ⊥
 no_source file bytes none job form = none form.source form.well_formed form.spelled
 
 -- ---- the bytes that were handed out
@@ -88,7 +88,7 @@ words_answer words held before now file longest bytes seen (ReadFault name) aske
 words_answer words held before now file longest bytes seen (TooLong name) asked handed same is = absurd is
 words_answer words held before now file longest bytes seen (Missing name) asked handed same is = absurd is
 words_answer words held before now file longest bytes seen NotBuilt asked handed same is =
-    NoForm file bytes longest asked handed (subst (λ (x : List ℕ). (job : Job) → IsForm1 file job x → ⊥) same is)
+    NoForm file bytes longest asked handed (subst (λ (x : List ℕ). (job : Job) → IsBooleanLayout file job x → ⊥) same is)
 words_answer words held before now file longest bytes seen (Checked names (Clean n)) asked handed same is = record {
   file = file;
   longest = longest;

@@ -22,8 +22,8 @@ use Rattle.tla_meaning.specs.declared.place.Place.{Place}
 use Rattle.tla_meaning.specs.Numbers.{Width}
 use Rattle.tla_meaning.specs.Operators.{yes_no}
 use Rattle.tla_meaning.specs.Actions.{val}
-use Rattle.tla_meaning.specs.Executions.{no_scope, start, next, invariant, is_yes, IsYes, IsWrongOutcome, IsState, AreSteps, IsExecution, last_of, Reaches, Errs, StartWrong, StepWrong, InvNotTrue}
-use Rattle.tla_meaning.specs.Form1.{leaf, tree, operator, operand, job_of, gives_each, is_guard, is_branch, IsBooleanModule}
+use Rattle.tla_meaning.specs.Executions.{no_scope, start, next, invariant, is_yes, IsYes, IsWrongOutcome, IsState, AreSteps, IsExecution, last_of, Reaches, Errs, StartIsWrong, StepIsWrong, InvariantIsNotTrue}
+use Rattle.tla_meaning.specs.BooleanLayout.{leaf, tree, operator, operand, job_of, gives_each, is_guard, is_branch, IsBooleanModule}
 use Rattle.tla_meaning.proofs.MeaningLemmas.{val-roll, sense-roll}
 use Rattle.symbolic_mc.specs.Boolean.{state_of, inv_holds, SpeakOf, RunsOn, IsRun}
 use Rattle.symbolic_mc.proofs.Meaning.{Says, AllSay, start_says, next_says, start_is, next_is, invariant_is, is_yes_as, yes_or_no, length-declarations, last_is}
@@ -254,12 +254,12 @@ not_true false h = refl
 -- an error of a level is a run that breaks the invariant
 pub errs_run : (file : List ℕ) (m : BooleanModule) (k : ℕ) → IsBooleanModule m → Errs (job_of file m) k
     → (runs : List (List Bool)) × IsRun m runs × (length runs ≡ k + 1) × (inv_holds m (get_or runs k []) ≡ false)
-errs_run file m zero wf (StartWrong s st wrong) = absurd (never_wrong _ _ (start_at None file m s wf (size_is file m s st)) wrong)
-errs_run file m (suc n) wf (StepWrong s t r st keeps wrong) =
+errs_run file m zero wf (StartIsWrong s st wrong) = absurd (never_wrong _ _ (start_at None file m s wf (size_is file m s st)) wrong)
+errs_run file m (suc n) wf (StepIsWrong s t r st keeps wrong) =
     let to : RunTo m n s = reached None file m n s wf r in
     let size : length s.vals ≡ length m.vars = ap (λ (x : State). length x.vals) (sym to.ends) ∙ length-map (get_or to.runs n []) (λ b. value.Bool b) ∙ to.size in
     absurd (never_wrong _ _ (next_at None file m s t wf size (size_is file m t st)) wrong)
-errs_run file m k wf (InvNotTrue s r not_yes) =
+errs_run file m k wf (InvariantIsNotTrue s r not_yes) =
     let to : RunTo m k s = reached None file m k s wf r in
     let last : List Bool = get_or to.runs k [] in
     let broken : IsYes (invariant None (job_of file m) (state_of last)) → ⊥ = subst (λ (x : State). IsYes (invariant None (job_of file m) x) → ⊥) (sym to.ends) not_yes in

@@ -11,7 +11,7 @@ use Rattle.tla_meaning.specs.declared.boolean.BooleanModule.{BooleanModule}
 use Rattle.tla_meaning.specs.declared.boolean.Conjunct.{Conjunct}
 use Rattle.tla_meaning.specs.declared.job.State.{State}
 use Rattle.tla_meaning.specs.Executions.{IsExecution, last_of}
-use Rattle.tla_meaning.specs.Form1.{IsBooleanModule, job_of}
+use Rattle.tla_meaning.specs.BooleanLayout.{IsBooleanModule, job_of}
 use Rattle.tla_meaning.specs.Operators.{yes_no}
 use Rattle.std.proofs.lemmas.Bool.{cases_lt}
 use Rattle.std.proofs.lemmas.List.{length-map, get_or-map}

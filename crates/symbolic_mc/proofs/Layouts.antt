@@ -9,7 +9,7 @@ use Rattle.std.proofs.lemmas.Option.{slice_get_read}
 use Rattle.std.proofs.lemmas.Slice.Eq.{bytes_eq-Decides}
 use Rattle.tla_meaning.specs.declared.boolean.BooleanModule.{BooleanModule}
 use Rattle.tla_meaning.specs.declared.boolean.Conjunct.{Conjunct}
-use Rattle.tla_meaning.specs.Form1.{module_text, keyword_text, variable_text, variables_text, conjunct_text, conjunction_text, branches_text, name_at, gives_each, is_branch, is_plain_name, is_among, are_different, IsBooleanModule}
+use Rattle.tla_meaning.specs.BooleanLayout.{module_text, keyword_text, variable_text, variables_text, conjunct_text, conjunction_text, branches_text, name_at, gives_each, is_branch, is_plain_name, is_among, are_different, IsBooleanModule}
 use Rattle.tla_values.specs.Names.{is_letter, is_name}
 use Rattle.symbolic_mc.specs.declared.reader.Definitions.{Definitions}
 use Rattle.symbolic_mc.specs.declared.reader.Head.{Head}

@@ -6,7 +6,7 @@ use Rattle.std.proofs.lemmas.Bool.{and_parts, eqb-true, ltb-true}
 use Rattle.std.proofs.lemmas.List.Elements.{All-nil, All-cons}
 use Rattle.tla_meaning.specs.declared.boolean.BooleanModule.{BooleanModule}
 use Rattle.tla_meaning.specs.declared.boolean.Conjunct.{Conjunct}
-use Rattle.tla_meaning.specs.Form1.{gives_each, is_guard, is_branch, IsBooleanModule}
+use Rattle.tla_meaning.specs.BooleanLayout.{gives_each, is_guard, is_branch, IsBooleanModule}
 use Rattle.symbolic_mc.specs.Boolean.{SpeakOf}
 
 abbrev Below : ℕ → Conjunct → Type 0

@@ -7,7 +7,7 @@ use Rattle.std.proofs.lemmas.List.{append-nil, append_cancel_right, take_all, le
 use Rattle.std.proofs.lemmas.Bool.{or_right, eq-eqb}
 use Rattle.std.proofs.lemmas.Option.{slice_get_read}
 use Rattle.std.proofs.lemmas.Slice.Eq.{bytes_eq-Decides}
-use Rattle.tla_meaning.specs.Form1.{is_slash, without_folder, name_at}
+use Rattle.tla_meaning.specs.BooleanLayout.{is_slash, without_folder, name_at}
 
 -- a piece behind a separator leaves less
 pub shrinks : (rest separator middle text behind : List ℕ) → 0 < length separator → rest ≡ separator ++ middle → middle ≡ text ++ behind → length behind < length rest

@@ -6,13 +6,13 @@ use Rattle.std.specs.Io.KnownBytes.{Appends}
 use Rattle.tool_outside.specs.Causes.{Holds, IsLong, WritesPrefix, Stayed}
 use Rattle.tool_outside.specs.Outside.{Folder, Rose, file_at}
 use Rattle.tool_outside.proofs.Prefixes.{all_of}
-use Rattle.tla_meaning.specs.Form1.{IsForm1}
+use Rattle.tla_meaning.specs.BooleanLayout.{IsBooleanLayout}
 use Rattle.symbolic_mc.specs.declared.answer.Answer.{Answer}
 use Rattle.symbolic_mc.specs.declared.answer.Answer.TheVariants.{Usage, ReadFault, TooLong, Missing, NotBuilt, Checked}
 use Rattle.symbolic_mc.specs.declared.checking.Verdict.TheVariants.{Clean, Error}
 use Rattle.symbolic_mc.specs.Report.{status_of, report_of, memory_line}
 use Rattle.symbolic_mc.specs.Told.{IsTold}
-use Rattle.symbolic_mc.specs.Top.{IsRefusal, NoFile, NoForm, IsReadFault, Failed, Longer, IsAnswer, AsksForForm1, WritesError, WritesClean, WritesPart, module_limit}
+use Rattle.symbolic_mc.specs.Top.{IsRefusal, NoFile, NoForm, IsReadFault, Failed, Longer, IsAnswer, AsksForBooleanLayout, WritesError, WritesClean, WritesPart, module_limit}
 use Rattle.symbolic_mc.specs.Words.{request_of}
 
 -- a report, whole or in part
@@ -91,17 +91,17 @@ memory_told words held before now old new sink_before sink_now result answer is 
 the_same : (a b : List ℕ) → Some a ≡ Some b → a ≡ b
 the_same a b e = ap (λ (o : Option (List ℕ)). unwrap_or o a) e
 
-same_file : (words : List (String Global)) (held : Option Folder) (form : AsksForForm1 words held) (file : List ℕ) (longest : ℕ)
+same_file : (words : List (String Global)) (held : Option Folder) (form : AsksForBooleanLayout words held) (file : List ℕ) (longest : ℕ)
     → request_of words ≡ Some (file, longest) → form.file ≡ file
 same_file words held form file longest asked = ap (λ (r : Option (List ℕ × ℕ)). (unwrap_or r (file, longest)).0) (sym form.asked ∙ asked)
 
-held_there : (words : List (String Global)) (held : Option Folder) (form : AsksForForm1 words held) (file : List ℕ) (there : Option (List ℕ))
+held_there : (words : List (String Global)) (held : Option Folder) (form : AsksForBooleanLayout words held) (file : List ℕ) (there : Option (List ℕ))
     → form.file ≡ file → Holds held file there → there ≡ Some form.bytes
 held_there words held form file there same holds =
     let known : file_at form.folder file ≡ there = subst (λ (h : Option Folder). Holds h file there) form.told holds in
     sym known ∙ ap (file_at form.folder) (sym same) ∙ form.there
 
-refused_not : (words : List (String Global)) (held : Option Folder) (answer : Answer) → AsksForForm1 words held → IsRefusal words held answer → ⊥
+refused_not : (words : List (String Global)) (held : Option Folder) (answer : Answer) → AsksForBooleanLayout words held → IsRefusal words held answer → ⊥
 refused_not words held _ form (NoFile file name longest asked none is) =
     none_is (held_there words held form file None (same_file words held form file longest asked) none)
   where
@@ -110,9 +110,9 @@ refused_not words held _ form (NoFile file name longest asked none is) =
 refused_not words held _ form (NoForm file bytes longest asked handed none) =
     let same = same_file words held form file longest asked in
     let read : bytes ≡ form.bytes = the_same bytes form.bytes (held_there words held form file (Some bytes) same handed.told) in
-    none form.job (subst (λ (x : List ℕ). IsForm1 x form.job bytes) same (subst (λ (x : List ℕ). IsForm1 form.file form.job x) (sym read) form.form))
+    none form.job (subst (λ (x : List ℕ). IsBooleanLayout x form.job bytes) same (subst (λ (x : List ℕ). IsBooleanLayout form.file form.job x) (sym read) form.form))
 
-fault_not : (words : List (String Global)) (held : Option Folder) (before now : ℕ) (answer : Answer) → AsksForForm1 words held → Stayed before now
+fault_not : (words : List (String Global)) (held : Option Folder) (before now : ℕ) (answer : Answer) → AsksForBooleanLayout words held → Stayed before now
     → IsReadFault words held before now answer → ⊥
 fault_not words held before now _ form stayed (Failed file longest asked rose) = omega arith
 fault_not words held before now _ form stayed (Longer file longest asked long) =
@@ -124,7 +124,7 @@ fault_not words held before now _ form stayed (Longer file longest asked long) =
     let short = form.short in
     omega arith
 
-verdict_status : (words : List (String Global)) (held : Option Folder) (before now : ℕ) (answer : Answer) → AsksForForm1 words held → Stayed before now
+verdict_status : (words : List (String Global)) (held : Option Folder) (before now : ℕ) (answer : Answer) → AsksForBooleanLayout words held → Stayed before now
     → IsAnswer words held before now answer → (status_of answer ≡ 0) ⊎ (status_of answer ≡ 12)
 verdict_status words held before now Usage form stayed is = absurd (none_some (sym is ∙ form.asked))
   where
@@ -138,7 +138,7 @@ verdict_status words held before now (Checked names (Clean n)) form stayed is = 
 verdict_status words held before now (Checked names (Error n states)) form stayed is = inr refl
 
 pub in_form_told : (words : List (String Global)) (held : Option Folder) (before now : ℕ) (old new : Option (List ℕ)) (sink_before sink_now result : ℕ) (answer : Answer)
-    → IsAnswer words held before now answer → IsTold answer old new sink_before sink_now result → AsksForForm1 words held → Stayed before now
+    → IsAnswer words held before now answer → IsTold answer old new sink_before sink_now result → AsksForBooleanLayout words held → Stayed before now
     → Stayed sink_before sink_now → (result ≡ 0) ⊎ (result ≡ 12) ⊎ (result ≡ 50)
 in_form_told words held before now old new sink_before sink_now result answer is (inl all) form stayed sink_stayed =
     elim (verdict_status words held before now answer form stayed is) [

@@ -2,7 +2,7 @@
 use Rattle.std.specs.Prelude.{◌≡◌, ℕ, ◌<◌, Bool, true, List, ◌++◌, length, codes, Option, All, if◌then◌else◌}
 use Rattle.std.specs.List.{list_all}
 use Rattle.tla_meaning.specs.declared.boolean.Conjunct.{Conjunct}
-use Rattle.tla_meaning.specs.Form1.{keyword_text, variables_text, conjunction_text, branches_text, operator_text, operand_text, are_different}
+use Rattle.tla_meaning.specs.BooleanLayout.{keyword_text, variables_text, conjunction_text, branches_text, operator_text, operand_text, are_different}
 use Rattle.tla_values.specs.Names.{is_letter}
 use Rattle.symbolic_mc.specs.declared.reader.Head.{Head}
 use Rattle.symbolic_mc.specs.declared.reader.Definitions.{Definitions}

@@ -8,7 +8,7 @@ use Rattle.tla_meaning.specs.declared.expr.Decl.{Decl}
 use Rattle.tla_meaning.specs.declared.job.Job.{Job}
 use Rattle.tla_meaning.specs.declared.job.State.{State}
 use Rattle.tla_meaning.specs.Executions.{Errs}
-use Rattle.tla_meaning.specs.Form1.{IsForm1}
+use Rattle.tla_meaning.specs.BooleanLayout.{IsBooleanLayout}
 use Rattle.symbolic_mc.specs.declared.answer.Answer.{Answer}
 use Rattle.symbolic_mc.specs.declared.answer.Answer.TheVariants.{Usage, ReadFault, TooLong, Missing, NotBuilt, Checked}
 use Rattle.symbolic_mc.specs.declared.checking.Verdict.TheVariants.{Clean, Error}
@@ -22,9 +22,9 @@ abbrev pub module_limit : ℕ
 module_limit = 4194304
 
 -- the bytes say this job, and no other
-pub record IsOnlyForm1 (file : List ℕ) (job : Job) (bytes : List ℕ) : Type 0 where
-  pub form : IsForm1 file job bytes
-  pub only : (other : Job) → IsForm1 file other bytes → other ≡ job
+pub record IsOnlyBooleanLayout (file : List ℕ) (job : Job) (bytes : List ℕ) : Type 0 where
+  pub form : IsBooleanLayout file job bytes
+  pub only : (other : Job) → IsBooleanLayout file other bytes → other ≡ job
 
 -- ---- an error
 
@@ -32,7 +32,7 @@ pub record IsOnlyForm1 (file : List ℕ) (job : Job) (bytes : List ℕ) : Type 0
 -- invariant FALSE, where no lower level errs
 pub record IsErrorReport (file : List ℕ) (longest : ℕ) (bytes report : List ℕ) : Type 0 where
   pub job : Job
-  pub form : IsOnlyForm1 file job bytes
+  pub form : IsOnlyBooleanLayout file job bytes
   pub level : ℕ
   pub states : List State
   pub within : level ≤ longest
@@ -58,7 +58,7 @@ WritesError words held old new = (report : List ℕ) × FindsError words held re
 -- the report of a module's text where no level up to the longest errs
 pub record IsCleanReport (file : List ℕ) (longest : ℕ) (bytes report : List ℕ) : Type 0 where
   pub job : Job
-  pub form : IsOnlyForm1 file job bytes
+  pub form : IsOnlyBooleanLayout file job bytes
   pub none : (k : ℕ) → k ≤ longest → Errs job k → ⊥
   pub written : report ≡ clean_report longest
 
@@ -82,7 +82,7 @@ pub data IsRefusal (words : List (String Global)) (held : Option Folder) : Answe
   NoFile : (file name : List ℕ) (longest : ℕ) → request_of words ≡ Some (file, longest)
       → Holds held file None → IsModuleOf file name → IsRefusal words held (Missing name)
   NoForm : (file bytes : List ℕ) (longest : ℕ) → request_of words ≡ Some (file, longest)
-      → HandedOut held file module_limit bytes → ((job : Job) → IsForm1 file job bytes → ⊥) → IsRefusal words held NotBuilt
+      → HandedOut held file module_limit bytes → ((job : Job) → IsBooleanLayout file job bytes → ⊥) → IsRefusal words held NotBuilt
 
 -- its line was written
 abbrev pub WritesRefusal : List (String Global) → Option Folder → Option (List ℕ) → Option (List ℕ) → Type 0
@@ -120,7 +120,7 @@ IsFileAnswer file longest bytes Usage = ⊥
 IsFileAnswer file longest bytes (ReadFault name) = ⊥
 IsFileAnswer file longest bytes (TooLong name) = ⊥
 IsFileAnswer file longest bytes (Missing name) = ⊥
-IsFileAnswer file longest bytes NotBuilt = (job : Job) → IsForm1 file job bytes → ⊥
+IsFileAnswer file longest bytes NotBuilt = (job : Job) → IsBooleanLayout file job bytes → ⊥
 IsFileAnswer file longest bytes (Checked names (Clean n)) = IsCleanReport file longest bytes (report_of (Checked names (Clean n)))
 IsFileAnswer file longest bytes (Checked names (Error n states)) =
     IsErrorReport file longest bytes (report_of (Checked names (Error n states)))
@@ -133,7 +133,7 @@ WritesPart words held before now old new =
 -- ---- when which status comes
 
 -- the words name a file that the files are told to hold, of at most so many bytes as a module may have, in the layout
-pub record AsksForForm1 (words : List (String Global)) (held : Option Folder) : Type 0 where
+pub record AsksForBooleanLayout (words : List (String Global)) (held : Option Folder) : Type 0 where
   pub folder : Folder
   pub told : held ≡ Some folder
   pub file : List ℕ
@@ -143,7 +143,7 @@ pub record AsksForForm1 (words : List (String Global)) (held : Option Folder) : 
   pub there : file_at folder file ≡ Some bytes
   pub short : length bytes ≤ module_limit
   pub job : Job
-  pub form : IsForm1 file job bytes
+  pub form : IsBooleanLayout file job bytes
 
 -- a write failed, or memory ran out
 abbrev pub IsCutStatus : ℕ → Type 0

@@ -4,7 +4,7 @@ use Rattle.tla_meaning.specs.declared.boolean.BooleanModule.{BooleanModule}
 use Rattle.tla_meaning.specs.declared.job.Job.{Job}
 use Rattle.tla_meaning.specs.declared.job.State.{State}
 use Rattle.tla_meaning.specs.Executions.{IsExecution, Errs, invariant, last_of}
-use Rattle.tla_meaning.specs.Form1.{job_of}
+use Rattle.tla_meaning.specs.BooleanLayout.{job_of}
 use Rattle.tla_meaning.specs.Operators.{yes_no}
 use Rattle.symbolic_mc.specs.declared.checking.Verdict.{Verdict}
 use Rattle.symbolic_mc.specs.declared.checking.Verdict.TheVariants.{Clean, Error}

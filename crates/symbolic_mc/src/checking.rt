@@ -1,7 +1,7 @@
 // The levels in order, up to the first that errs.
 ghost use Rattle.std.specs.Prelude.{◌≡◌, ◌<◌, All, map, length, IfOk, IfSome, IfNone};
 ghost use Rattle.sat_formula.specs.Lit.{IsBelow};
-ghost use Rattle.tla_meaning.specs.Form1.{IsBooleanModule};
+ghost use Rattle.tla_meaning.specs.BooleanLayout.{IsBooleanModule};
 ghost use Rattle.symbolic_mc.specs.Boolean.{state_of};
 ghost use Rattle.symbolic_mc.specs.Levels.{values_of};
 ghost use Rattle.symbolic_mc.specs.Verdicts.{Breaks, IsVerdict, NoError};

@@ -1,6 +1,6 @@
 // The names of files and those of the modules in them.
 ghost use Rattle.std.specs.Prelude.{◌≡◌, ◌↔◌, ◌++◌, codes, IfSome, IfNone, IsTrue};
-ghost use Rattle.tla_meaning.specs.Form1.{without_folder};
+ghost use Rattle.tla_meaning.specs.BooleanLayout.{without_folder};
 ghost use Rattle.symbolic_mc.specs.Naming.{EndsNot, IsModuleOf};
 
 /// Whether the file, without its folder, is this name and `.tla`.

@@ -1,7 +1,7 @@
 // Whether what was read is a module of Boolean variables.
 ghost use Rattle.std.specs.Prelude.{◌≡◌, ◌↔◌, ◌∷◌, ◌&&◌, not, nat_eq, if◌then◌else◌, IsTrue};
 ghost use Rattle.std.specs.List.{list_all};
-ghost use Rattle.tla_meaning.specs.Form1.{IsBooleanModule, gives_each, is_guard, is_branch, is_plain_name, are_different, is_among, defined_names};
+ghost use Rattle.tla_meaning.specs.BooleanLayout.{IsBooleanModule, gives_each, is_guard, is_branch, is_plain_name, are_different, is_among, defined_names};
 ghost use Rattle.tla_values.specs.Names.{is_letter};
 
 use crate::pieces::is_letter;

@@ -6,7 +6,7 @@ ghost use Rattle.tool_outside.specs.Outside.{Rose};
 ghost use Rattle.symbolic_mc.specs.declared.answer.Answer.TheVariants.{Usage};
 ghost use Rattle.symbolic_mc.specs.Report.{report_of, status_of, memory_line};
 ghost use Rattle.symbolic_mc.specs.Told.{IsTold};
-ghost use Rattle.symbolic_mc.specs.Top.{WritesError, WritesClean, WritesRefusal, WritesReadFault, WritesPart, IsAnswer, IsFileAnswer, AsksForForm1, IsStatus, IsCutStatus};
+ghost use Rattle.symbolic_mc.specs.Top.{WritesError, WritesClean, WritesRefusal, WritesReadFault, WritesPart, IsAnswer, IsFileAnswer, AsksForBooleanLayout, IsStatus, IsCutStatus};
 ghost use Rattle.symbolic_mc.specs.Words.{request_of};
 
 use crate::answer::Answer;
@@ -41,7 +41,7 @@ pub fn run<F: Files, K: Sink>(alloc: Global, words: &[String], files: &mut F, ou
         ⊎ WritesPrefix (K.written out.old) (K.written out.new) memory_line }
     ensures statuses { IsStatus result }
     ensures usage { request_of words.now ≡ None → (result ≡ 31) ⊎ IsCutStatus result }
-    ensures in_form { AsksForForm1 words.now (F.held files.old) → Stayed (F.faults files.old) (F.faults files.new)
+    ensures in_form { AsksForBooleanLayout words.now (F.held files.old) → Stayed (F.faults files.old) (F.faults files.new)
         → Stayed (K.faults out.old) (K.faults out.new) → (result ≡ 0) ⊎ (result ≡ 12) ⊎ (result ≡ 50) }
     ensures faults_of_files { F.faults files.old < F.faults files.new → (result ≡ 40) ⊎ IsCutStatus result }
     ensures faults_of_sink { K.faults out.old < K.faults out.new → IsCutStatus result }

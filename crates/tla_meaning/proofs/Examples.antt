@@ -1,17 +1,30 @@
 -- Meanings of small trees, by computation.
-use Rattle.std.proofs.Common.{◌≡◌, ℕ, true, false, List, [], ◌∷◌, pos, Some, None}
+use Rattle.std.proofs.Common.{◌≡◌, ◌∙◌, ap, ℕ, true, false, List, [], ◌∷◌, pos, Some, None}
 use Rattle.tla_values.proofs.OrderLemmas.{value_cmp_out}
 use Rattle.tla_values.specs.declared.value.Value.{Value}
 use Rattle.tla_values.specs.declared.value.Value.TheVariants as value
-use Rattle.tla_meaning.specs.declared.expr.Expr.{Expr, roll-Expr}
+use Rattle.tla_meaning.specs.declared.actions.Assigned.TheVariants.{Primed}
+use Rattle.tla_meaning.specs.declared.expr.Def.{Def}
+use Rattle.tla_meaning.specs.declared.expr.Expr.{Expr, out-roll-Expr, roll-Expr}
 use Rattle.tla_meaning.specs.declared.job.State.{State}
+use Rattle.tla_meaning.specs.declared.forms.SetForm.TheVariants as form
+use Rattle.tla_meaning.specs.declared.modules.Flat.{Flat}
 use Rattle.tla_meaning.specs.declared.place.Place.{Place}
 use Rattle.tla_meaning.specs.declared.op.Op.{Op}
 use Rattle.tla_meaning.specs.declared.op.Op.TheVariants as op
+use Rattle.tla_values.specs.declared.value.Value.TheOpen as layer
+use Rattle.tla_meaning.specs.declared.outcome.Outcome.{Outcome}
 use Rattle.tla_meaning.specs.declared.outcome.Outcome.TheVariants.{Val, Wrong, Big}
-use Rattle.tla_meaning.specs.Executions.{no_scope}
-use Rattle.tla_meaning.specs.Actions.{val}
-use Rattle.tla_meaning.proofs.MeaningLemmas.{denotation-roll, val-roll}
+use Rattle.tla_meaning.specs.Executions.{assumptions, no_scope}
+use Rattle.tla_meaning.specs.Actions.{act, meaning, val}
+use Rattle.tla_meaning.specs.Definitions.{defined_as}
+use Rattle.tla_meaning.specs.Folds.{with_lambdas}
+use Rattle.tla_meaning.specs.Forms.{belongs}
+use Rattle.tla_meaning.specs.Meaning.{fold_over, folded}
+use Rattle.tla_meaning.specs.Operators.{on_items}
+use Rattle.tla_meaning.specs.Scopes.{Scope, bind, define, pass}
+use Rattle.tla_meaning.specs.Shapes.{items_of, sequence}
+use Rattle.tla_meaning.proofs.MeaningLemmas.{belongs-out, denotation-roll, val-roll, with_lambdas-roll}
 
 abbrev pub at : ℕ → Place
 at n = record { file = 0; line = 1; col = n }
@@ -64,3 +77,115 @@ right_wrong = simp (divides, one, val-roll)
 
 stopped : val None step no_scope (state_at (value.Bool true)) (state_at (value.Bool false)) ≡ Val (value.Bool true)
 stopped = simp (left_holds, value.outs-Bool, val-roll)
+
+-- ---- a prime stands for its operand in the next state
+
+-- (x \/ 1 \div 0)'
+abbrev primed_choice : Expr
+primed_choice = tree 20 op.Prime (tree 5 op.Or (leaf 3 (op.Name 0 false) ∷ tree 12 op.Div (leaf 10 (op.Int (pos 1)) ∷ leaf 14 (op.Int (pos 0)) ∷ []) ∷ []) ∷ [])
+
+-- as an action it is strict in both operands
+primed_action : act None Primed primed_choice no_scope (state_at (value.Bool true)) (state_at (value.Bool true)) ≡ Wrong (at 12)
+primed_action = simp (denotation-roll, value.outs-Bool, value.outs-Int)
+
+-- as a value it stops at the first operand that decides
+primed_value : val None primed_choice no_scope (state_at (value.Bool true)) (state_at (value.Bool true)) ≡ Val (value.Bool true)
+primed_value = simp (val-roll, denotation-roll, value.outs-Bool)
+
+-- x' \in (Int)'
+in_primed_form : val None (tree 3 op.In (leaf 1 (op.Name 0 true) ∷ tree 12 op.Prime (leaf 8 op.IntSet ∷ []) ∷ [])) no_scope
+    (state_at (value.Bool true)) (state_at (value.Int (pos 7))) ≡ Val (value.Bool true)
+in_primed_form = simp (val-roll, denotation-roll, belongs-out, form.outs-AllInts, value.outs-Int)
+
+-- ---- an operator's name in a fold
+
+abbrev defined : List ℕ → List (List ℕ) → Expr → Def
+defined x xs e = record { name = x; place = at 1; params = xs; note = []; body = e }
+
+-- Second(a, b) == b; Folded == ApaFoldSeqLeft(Second, 0, <<5>>)
+abbrev second : Def
+second = defined (83 ∷ []) ((97 ∷ []) ∷ (98 ∷ []) ∷ []) (leaf 18 (op.Param (98 ∷ [])))
+
+abbrev folding : Def
+folding = defined (70 ∷ []) [] (tree 8 op.Fold (leaf 9 (op.Use (83 ∷ [])) ∷ leaf 12 (op.Int (pos 0)) ∷ tree 15 op.Tuple (leaf 17 (op.Int (pos 5)) ∷ []) ∷ []))
+
+abbrev folded_module : Flat
+folded_module = record { files = []; decls = []; defs = second ∷ folding ∷ []; assumes = []; aliases = [] }
+
+-- the body that stands for LAMBDA a, b: Second(a, b)
+abbrev second_used : Expr
+second_used = tree 9 (op.Use (83 ∷ [])) (leaf 9 (op.Bound (97 ∷ [])) ∷ leaf 9 (op.Bound (98 ∷ [])) ∷ [])
+
+abbrev folding_written : Expr
+folding_written = roll-Expr (record {
+  place = at 8;
+  op = op.Fold;
+  args = second_used ∷ leaf 12 (op.Int (pos 0)) ∷ tree 15 op.Tuple (leaf 17 (op.Int (pos 5)) ∷ []) ∷ [];
+  binds = (97 ∷ []) ∷ (98 ∷ []) ∷ [];
+})
+
+written : with_lambdas folding.body ≡ folding_written
+written = simp (with_lambdas-roll, out-roll-Expr)
+
+-- where Second is defined
+abbrev with_second : Scope
+with_second = define (83 ∷ []) (λ arguments. meaning None (with_lambdas second.body) (pass second.params arguments no_scope)) no_scope
+
+second_value : (v u : Value) (s t : State) → val None second_used (bind ((97 ∷ []) ∷ (98 ∷ []) ∷ []) (v ∷ u ∷ []) with_second) s t ≡ Val u
+second_value v u s t = simp (with_lambdas-roll, val-roll, denotation-roll)
+
+five : (s t : State) → val None (tree 15 op.Tuple (leaf 17 (op.Int (pos 5)) ∷ [])) with_second s t ≡ Val (sequence (value.Int (pos 5) ∷ []))
+five s t = simp (val-roll, denotation-roll)
+
+one_item : (v x : Value) → on_items (at 8) (λ xs. folded (λ a b. Val b) xs v) (items_of ((value.Int (pos 1), x) ∷ [])) ≡ Val x
+one_item v x = simp (value.outs-Int)
+
+second_item : (v x : Value) → fold_over (at 8) (λ a b. Val b) (v ∷ sequence (x ∷ []) ∷ []) ≡ Val x
+second_item v x =
+    ap (λ l. elim l as (λ _. Outcome) [ layer.Fun ps ↦ on_items (at 8) (λ xs. folded (λ a b. Val b) xs v) (items_of ps) | _ ↦ Wrong (at 8) ])
+    (value.outs-Fun ((value.Int (pos 1), x) ∷ [])) ∙ one_item v x
+
+-- a fold over one item whose body gives its second name
+module _ (body first items : Expr) (sc : Scope) (s t : State) (v x : Value) where
+  second_of_one : ((a b : Value) → val None body (bind ((97 ∷ []) ∷ (98 ∷ []) ∷ []) (a ∷ b ∷ []) sc) s t ≡ Val b) →
+      val None first sc s t ≡ Val v → val None items sc s t ≡ Val (sequence (x ∷ [])) →
+      val None (roll-Expr (record { place = at 8; op = op.Fold; args = body ∷ first ∷ items ∷ []; binds = (97 ∷ []) ∷ (98 ∷ []) ∷ [] })) sc s t ≡ Val x
+  second_of_one h f i = simp (val-roll, h, f, i) (second_item v x)
+
+zero_value : (s t : State) → val None (leaf 12 (op.Int (pos 0))) with_second s t ≡ Val (value.Int (pos 0))
+zero_value s t = simp (val-roll)
+
+folded_five : (s t : State) → val None folding_written with_second s t ≡ Val (value.Int (pos 5))
+folded_five s t =
+    second_of_one second_used (leaf 12 (op.Int (pos 0))) (tree 15 op.Tuple (leaf 17 (op.Int (pos 5)) ∷ [])) with_second s t
+    (value.Int (pos 0)) (value.Int (pos 5)) (λ a b. second_value a b s t) (zero_value s t) (five s t)
+
+fold_by_name : (s t : State) → (defined_as None folded_module (at 1) (70 ∷ [])).value s t ≡ Val (value.Int (pos 5))
+fold_by_name s t = ap (λ e. val None e with_second s t) written ∙ folded_five s t
+
+-- ---- assumptions
+
+abbrev two_truths : List Expr
+two_truths = leaf 2 (op.Bool true) ∷ leaf 4 (op.Bool false) ∷ []
+
+-- an assumption that is a conjunction is one operand
+conjunction_is_one : assumptions (tree 3 op.And two_truths) ≡ tree 3 op.And two_truths ∷ []
+conjunction_is_one = simp (out-roll-Expr)
+
+-- what was made of several assumptions has each of them as an operand
+made_of_two : assumptions (tree 1 op.And two_truths) ≡ two_truths
+made_of_two = simp (out-roll-Expr)
+
+-- ---- a form behind a definition, under a prime: q' \in T' where T == Seq(Int)
+
+abbrev with_sequences : Scope
+with_sequences = define (84 ∷ []) (λ arguments. meaning None (tree 6 op.SeqSet (leaf 10 op.IntSet ∷ [])) no_scope) no_scope
+
+abbrev in_defined : Expr
+in_defined = tree 3 op.In (leaf 1 (op.Name 0 true) ∷ tree 9 op.Prime (leaf 8 (op.Use (84 ∷ [])) ∷ []) ∷ [])
+
+empty_belongs : belongs (form.Sequences form.AllInts) (sequence []) ≡ true
+empty_belongs = simp (belongs-out, form.outs-Sequences, form.outs-AllInts, value.outs-Fun)
+
+in_primed_definition : val None in_defined with_sequences (state_at (value.Bool true)) (state_at (sequence [])) ≡ Val (value.Bool true)
+in_primed_definition = simp (val-roll, denotation-roll, form.outs-Sequences, form.outs-AllInts) (ap (λ b. Val (value.Bool b)) empty_belongs)

@@ -14,95 +14,97 @@ use Rattle.tla_meaning.specs.declared.actions.Effect.{Effect}
 use Rattle.tla_meaning.specs.Meaning.{Meaning, role}
 use Rattle.tla_meaning.specs.Actions.{val, act, meaning, node, effect_of}
 use Rattle.tla_meaning.specs.Executions.{scope_of, no_scope, in_cinit, in_init, in_next, assumptions, start, next, is_yes, IsYes, first_not_yes, invariant, AreSteps, IsExecution}
+use Rattle.tla_meaning.specs.Numbers.{Width}
+use Rattle.tla_meaning.specs.Shapes.{truth}
 use Rattle.tla_meaning.specs.Widths.{Narrow, SameValue, BothWrong, TooBig}
 use Rattle.tla_meaning.proofs.MeaningLemmas.{meaning-roll}
 use Rattle.tla_meaning.proofs.Views.{false≢true}
-use Rattle.tla_meaning.proofs.Narrow.{narrow_same, AllNarrow, none_narrow, more_narrow, each_narrow}
+use Rattle.tla_meaning.proofs.Narrow.{AllNarrow, none_narrow, more_narrow, each_narrow}
 use Rattle.tla_meaning.proofs.NarrowEffects.{AllEffects, no_effects, more_effects, all_effects, effect_of_narrow, outcome_of_narrow, effects_and_narrow}
 use Rattle.tla_meaning.proofs.NarrowViews.{NarrowDenotation, NarrowScope, no_named, NarrowMeaning, AllMeanings, no_meanings, more_meanings, view_narrow}
 use Rattle.tla_meaning.proofs.NarrowNodes.{denotation_narrow}
 
-abbrev Narrows : ℕ → Expr → Type 0
-Narrows w e = NarrowMeaning (meaning (Some w) e) (meaning None e)
+abbrev Narrows : Width → Expr → Type 0
+Narrows w e = NarrowMeaning w (meaning w e) (meaning None e)
 
-children_narrow : (w : ℕ) (ys : List ((e : Expr) × Narrows w e)) →
-    AllMeanings (map (meaning (Some w)) (map (λ y. y.0) ys)) (map (meaning None) (map (λ y. y.0) ys))
+children_narrow : (w : Width) (ys : List ((e : Expr) × Narrows w e)) →
+    AllMeanings w (map (meaning w) (map (λ y. y.0) ys)) (map (meaning None) (map (λ y. y.0) ys))
 children_narrow w [] = no_meanings
-children_narrow w (y ∷ ys) = more_meanings (meaning (Some w) y.0) (meaning None y.0) y.1 (children_narrow w ys)
+children_narrow w (y ∷ ys) = more_meanings (meaning w y.0) (meaning None y.0) y.1 (children_narrow w ys)
 
 -- in scopes that are themselves related
-pub meaning_narrow : (w : ℕ) (e : Expr) → Narrows w e
+pub meaning_narrow : (w : Width) (e : Expr) → Narrows w e
 meaning_narrow w = ind-Expr (Narrows w) (λ x y is.
     subst (λ (z : Expr-F Expr). Narrows w (roll-Expr z)) is (λ a b r.
     let z : Expr-F Expr = map-Expr ((e : Expr) × Narrows w e) Expr (λ e. e.0) y in
-    let k : Meaning = node (Some w) (map-Expr Expr Meaning (meaning (Some w)) z) in
+    let k : Meaning = node w (map-Expr Expr Meaning (meaning w) z) in
     let l : Meaning = node None (map-Expr Expr Meaning (meaning None) z) in
-    let same : NarrowDenotation (k a) (l b) =
+    let same : NarrowDenotation w (k a) (l b) =
     denotation_narrow w z.place z.op (length z.binds) _ _
     (view_narrow z.place (role z.op (length z.binds)) z.binds a b (children_narrow w y.args) r) in
-    subst (λ (m : Meaning). NarrowDenotation (m a) (meaning None (roll-Expr z) b)) (sym (meaning-roll (Some w) z))
-    (subst (λ (m : Meaning). NarrowDenotation (k a) (m b)) (sym (meaning-roll None z)) same)))
+    subst (λ (m : Meaning). NarrowDenotation w (m a) (meaning None (roll-Expr z) b)) (sym (meaning-roll w z))
+    (subst (λ (m : Meaning). NarrowDenotation w (k a) (m b)) (sym (meaning-roll None z)) same)))
 
-closed_scope : (env : Env) → NarrowScope (scope_of env) (scope_of env)
+closed_scope : {w : Width} → (env : Env) → NarrowScope w (scope_of env) (scope_of env)
 closed_scope env = record { bound = refl; named = no_named }
 
-empty_scope : NarrowScope no_scope no_scope
+empty_scope : {w : Width} → NarrowScope w no_scope no_scope
 empty_scope = record { bound = refl; named = no_named }
 
-pub val_narrow : (w : ℕ) (e : Expr) (env : Env) (s t : State) → Narrow (val (Some w) e (scope_of env) s t) (val None e (scope_of env) s t)
+pub val_narrow : (w : Width) (e : Expr) (env : Env) (s t : State) → Narrow w (val w e (scope_of env) s t) (val None e (scope_of env) s t)
 val_narrow w e env s t = (meaning_narrow w e (scope_of env) (scope_of env) (closed_scope env)).value s t
 
-pub act_narrow : (w : ℕ) (m : Assigned) (e : Expr) (env : Env) (s t : State) →
-    Narrow (act (Some w) m e (scope_of env) s t) (act None m e (scope_of env) s t)
+pub act_narrow : (w : Width) (m : Assigned) (e : Expr) (env : Env) (s t : State) →
+    Narrow w (act w m e (scope_of env) s t) (act None m e (scope_of env) s t)
 act_narrow w m e env s t =
-    outcome_of_narrow ((meaning (Some w) e (scope_of env)).act m s t) ((meaning None e (scope_of env)).act m s t)
+    outcome_of_narrow ((meaning w e (scope_of env)).act m s t) ((meaning None e (scope_of env)).act m s t)
     ((meaning_narrow w e (scope_of env) (scope_of env) (closed_scope env)).act m s t)
 
-effects_append : {es fs gs hs : List Effect} → AllEffects es fs → AllEffects gs hs → AllEffects (es ++ gs) (fs ++ hs)
+effects_append : {w : Width} → {es fs gs hs : List Effect} → AllEffects w es fs → AllEffects w gs hs → AllEffects w (es ++ gs) (fs ++ hs)
 effects_append no_effects qs = qs
 effects_append (more_effects e f r rs) qs = more_effects e f r (effects_append rs qs)
 
-value_alone : (w : ℕ) (e : Expr) (s t : State) → Narrow (val (Some w) e no_scope s t) (val None e no_scope s t)
+value_alone : (w : Width) (e : Expr) (s t : State) → Narrow w (val w e no_scope s t) (val None e no_scope s t)
 value_alone w e s t = (meaning_narrow w e no_scope no_scope empty_scope).value s t
 
-pub start_narrow : (w : ℕ) (job : Job) (s : State) → Narrow (start (Some w) job s) (start None job s)
+pub start_narrow : (w : Width) (job : Job) (s : State) → Narrow w (start w job s) (start None job s)
 start_narrow w job s =
     outcome_of_narrow _ _ (effects_and_narrow (effects_append
-    (more_effects ((meaning (Some w) job.cinit no_scope).act (in_cinit job) s s) ((meaning None job.cinit no_scope).act (in_cinit job) s s)
+    (more_effects ((meaning w job.cinit no_scope).act (in_cinit job) s s) ((meaning None job.cinit no_scope).act (in_cinit job) s s)
     ((meaning_narrow w job.cinit no_scope no_scope empty_scope).act (in_cinit job) s s)
-    (all_effects (λ e. effect_of (val (Some w) e no_scope s s)) (λ e. effect_of (val None e no_scope s s))
-    (λ e. effect_of_narrow (value_alone w e s s)) (assumptions (out-Expr job.assume).op job.assume (out-Expr job.assume).args)))
-    (more_effects ((meaning (Some w) job.init no_scope).act (in_init job) s s) ((meaning None job.init no_scope).act (in_init job) s s)
+    (all_effects (λ e. effect_of (val w e no_scope s s)) (λ e. effect_of (val None e no_scope s s))
+    (λ e. effect_of_narrow (value_alone w e s s)) (assumptions job.assume)))
+    (more_effects ((meaning w job.init no_scope).act (in_init job) s s) ((meaning None job.init no_scope).act (in_init job) s s)
     ((meaning_narrow w job.init no_scope no_scope empty_scope).act (in_init job) s s) no_effects)))
 
-pub next_narrow : (w : ℕ) (job : Job) (s t : State) → Narrow (next (Some w) job s t) (next None job s t)
+pub next_narrow : (w : Width) (job : Job) (s t : State) → Narrow w (next w job s t) (next None job s t)
 next_narrow w job s t =
-    outcome_of_narrow ((meaning (Some w) job.next no_scope).act (in_next job) s t) ((meaning None job.next no_scope).act (in_next job) s t)
+    outcome_of_narrow ((meaning w job.next no_scope).act (in_next job) s t) ((meaning None job.next no_scope).act (in_next job) s t)
     ((meaning_narrow w job.next no_scope no_scope empty_scope).act (in_next job) s t)
 
-first_narrow : {os qs : List Outcome} → AllNarrow os qs → Narrow (first_not_yes os) (first_not_yes qs)
-first_narrow none_narrow = narrow_same (yes_no true)
+first_narrow : {w : Width} → {os qs : List Outcome} → AllNarrow w os qs → Narrow w (first_not_yes os) (first_not_yes qs)
+first_narrow none_narrow = SameValue (truth true)
 first_narrow (more_narrow {os = os} {qs = qs} (SameValue v) rs) = by_truth (first_narrow rs) (is_yes (Val v))
   where
-    by_truth : Narrow (first_not_yes os) (first_not_yes qs) → (b : Bool) →
-        Narrow (elim b [ true ↦ first_not_yes os | false ↦ Val v ]) (elim b [ true ↦ first_not_yes qs | false ↦ Val v ])
+    by_truth : {w : Width} → Narrow w (first_not_yes os) (first_not_yes qs) → (b : Bool) →
+        Narrow w (elim b [ true ↦ first_not_yes os | false ↦ Val v ]) (elim b [ true ↦ first_not_yes qs | false ↦ Val v ])
     by_truth r true = r
     by_truth r false = SameValue v
 first_narrow (more_narrow (BothWrong p q) rs) = BothWrong p q
 first_narrow (more_narrow {qs = qs} (TooBig p o) rs) = TooBig p (first_not_yes (o ∷ qs))
 
-pub invariant_narrow : (w : ℕ) (job : Job) (s : State) → Narrow (invariant (Some w) job s) (invariant None job s)
+pub invariant_narrow : (w : Width) (job : Job) (s : State) → Narrow w (invariant w job s) (invariant None job s)
 invariant_narrow w job s =
-    first_narrow (each_narrow (λ e. val (Some w) e.1 no_scope s s) (λ e. val None e.1 no_scope s s) (λ e. value_alone w e.1 s s) job.invs)
+    first_narrow (each_narrow (λ e. val w e.1 no_scope s s) (λ e. val None e.1 no_scope s s) (λ e. value_alone w e.1 s s) job.invs)
 
 -- ---- executions
 
-yes_narrow : {o q : Outcome} → Narrow o q → IsYes o → IsYes q
+yes_narrow : {w : Width} → {o q : Outcome} → Narrow w o q → IsYes o → IsYes q
 yes_narrow (SameValue v) h = h
 yes_narrow (BothWrong p q) h = h
 yes_narrow (TooBig p o) h = absurd (false≢true h)
 
-steps_narrow : (w : ℕ) (job : Job) (s : State) (ss : List State) → AreSteps (Some w) job s ss → AreSteps None job s ss
+steps_narrow : (w : Width) (job : Job) (s : State) (ss : List State) → AreSteps w job s ss → AreSteps None job s ss
 steps_narrow w job s [] h = tt
 steps_narrow w job s (t ∷ ts) h = (
   record { state = h.0.state; keeps = h.0.keeps; steps = yes_narrow (next_narrow w job s t) h.0.steps },
@@ -110,6 +112,6 @@ steps_narrow w job s (t ∷ ts) h = (
 )
 
 -- an execution under a width is one
-pub execution_narrow : (w : ℕ) (job : Job) (ss : List State) → IsExecution (Some w) job ss → IsExecution None job ss
+pub execution_narrow : (w : Width) (job : Job) (ss : List State) → IsExecution w job ss → IsExecution None job ss
 execution_narrow w job [] h = h
 execution_narrow w job (s ∷ ss) h = (h.0, yes_narrow (start_narrow w job s) h.1, steps_narrow w job s ss h.2)

@@ -1,5 +1,5 @@
 -- The start, the executions and the errors of a job (Specifying Systems, sections 2.3 and 8.1).
-use Rattle.std.specs.Prelude.{ℕ, suc, ◌+◌, ◌≡◌, Bool, true, false, List, [], ◌∷◌, ◌++◌, map, filter, length, take, Option, Some, None, IsTrue, ⊤, All}
+use Rattle.std.specs.Prelude.{ℕ, suc, ◌+◌, ◌==◌, ◌≡◌, Bool, true, false, ◌&&◌, if◌then◌else◌, List, [], ◌∷◌, ◌++◌, map, filter, length, take, Option, Some, None, IsTrue, ⊤, All}
 use Rattle.tla_values.specs.Sets.{Normal}
 use Rattle.tla_values.specs.declared.value.Value.{out-Value}
 use Rattle.tla_meaning.specs.declared.actions.Assigned.{Assigned}
@@ -13,6 +13,7 @@ use Rattle.tla_meaning.specs.declared.job.Job.{Job}
 use Rattle.tla_meaning.specs.declared.op.Op.{Op}
 use Rattle.tla_meaning.specs.declared.op.Op.TheVariants as op
 use Rattle.tla_meaning.specs.declared.job.State.{State}
+use Rattle.tla_meaning.specs.declared.place.Place.{Place}
 use Rattle.tla_meaning.specs.declared.outcome.Outcome.{Outcome}
 use Rattle.tla_meaning.specs.declared.outcome.Outcome.TheVariants.{Val, Wrong, Big}
 use Rattle.tla_meaning.specs.Numbers.{Width}
@@ -41,14 +42,20 @@ in_init job = Variables (constants job)
 abbrev pub in_next : Job → Assigned
 in_next job = PrimedVariables (constants job)
 
--- each assumption is one operand: those of a conjunction that stands for several
-abbrev pub assumptions : Op → Expr → List Expr → List Expr
-assumptions op.And e es = es
-assumptions o e es = e ∷ []
+-- the place of what a job has in no text: no tree of a module stands at the first byte of the root
+abbrev pub is_made : Place → Bool
+is_made p = p.file == 0 && p.line == 1 && p.col == 1
+
+abbrev pub is_conjunction : Op → Bool
+is_conjunction op.And = true
+is_conjunction o = false
+
+-- each assumption is one operand: those of the conjunction that was made of several, or else the one that there is
+abbrev pub assumptions : Expr → List Expr
+assumptions e = if is_made (out-Expr e).place && is_conjunction (out-Expr e).op then (out-Expr e).args else e ∷ []
 
 abbrev pub assume_effects : Width → Job → State → List Effect
-assume_effects w job s =
-    map (λ e. effect_of (val w e no_scope s s)) (assumptions (out-Expr job.assume).op job.assume (out-Expr job.assume).args)
+assume_effects w job s = map (λ e. effect_of (val w e no_scope s s)) (assumptions job.assume)
 
 -- the start: CInit, the assumptions and Init
 abbrev pub start : Width → Job → State → Outcome
@@ -123,7 +130,7 @@ invariant w job s = first_not_yes (map (λ e. val w e.1 no_scope s s) job.invs)
 -- level n errs: the start or a step from an execution applies an operator outside its domain, or an invariant is
 -- not TRUE at the end of an execution of n steps
 pub data Errs (job : Job) : ℕ → Type 0 where
-  StartWrong : (s : State) → IsState job s → IsWrongOutcome (start None job s) → Errs job 0
-  StepWrong : {n : ℕ} (s t : State) → Reaches None job n s → IsState job t → Keeps job s t →
+  StartIsWrong : (s : State) → IsState job s → IsWrongOutcome (start None job s) → Errs job 0
+  StepIsWrong : {n : ℕ} (s t : State) → Reaches None job n s → IsState job t → Keeps job s t →
       IsWrongOutcome (next None job s t) → Errs job (suc n)
-  InvNotTrue : {n : ℕ} (s : State) → Reaches None job n s → (IsYes (invariant None job s) → ⊥) → Errs job n
+  InvariantIsNotTrue : {n : ℕ} (s : State) → Reaches None job n s → (IsYes (invariant None job s) → ⊥) → Errs job n

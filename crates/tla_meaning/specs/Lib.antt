@@ -7,13 +7,14 @@ pub mod Scopes
 pub mod Meaning
 pub mod Actions
 pub mod Executions
-pub mod Strict
+pub mod Jobs
+pub mod inner
 pub mod FreeNames
 pub mod Substitution
 pub mod Renamings
 pub mod Folds
 pub mod Definitions
-pub mod Form1
+pub mod BooleanLayout
 pub mod Inductive
 pub mod Questions
 pub mod Widths

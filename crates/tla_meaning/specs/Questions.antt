@@ -1,5 +1,5 @@
 -- The questions that are asked of a level under a width, and the errors of a level by them.
-use Rattle.std.specs.Prelude.{ℕ, zero, suc}
+use Rattle.std.specs.Prelude.{ℕ, zero, suc, ◌<◌, List, [], ◌∷◌, All}
 use Rattle.tla_meaning.specs.declared.job.Job.{Job}
 use Rattle.tla_meaning.specs.declared.job.State.{State}
 use Rattle.tla_meaning.specs.declared.outcome.Outcome.{Outcome}
@@ -42,3 +42,24 @@ Holds StepWrong w job n = StepIs IsWrongOutcome w job n
 Holds StepBig w job n = StepIs IsBigOutcome w job n
 Holds InvNotTrue w job n = InvariantIs IsNotTrue w job n
 Holds InvBig w job n = InvariantIs IsBigOutcome w job n
+
+-- the questions of a level that are asked before
+abbrev pub asked_before : Question → List Question
+asked_before StepWrong = []
+asked_before StepBig = StepWrong ∷ []
+asked_before InvNotTrue = StepWrong ∷ StepBig ∷ []
+asked_before InvBig = StepWrong ∷ StepBig ∷ InvNotTrue ∷ []
+
+-- no question holds at the level
+abbrev pub NoneHolds : Width → Job → ℕ → Type 0
+NoneHolds w job n = (q : Question) → Holds q w job n → ⊥
+
+-- nor at a lower one
+abbrev pub NoneBelow : Width → Job → ℕ → Type 0
+NoneBelow w job n = (m : ℕ) → m < n → NoneHolds w job m
+
+-- the first question that holds, over the levels in order and over the questions of a level in theirs
+pub record IsFirst (w : Width) (job : Job) (n : ℕ) (q : Question) : Type 0 where
+  pub holds : Holds q w job n
+  pub before : All (λ r. Holds r w job n → ⊥) (asked_before q)
+  pub below : NoneBelow w job n

@@ -1,14 +1,17 @@
 // Laws of the definitions, each as the contract of a function that does nothing.
-ghost use Rattle.std.specs.Prelude.{◌≡◌, ◌++◌, All, Bool, IsTrue, List, None, Some, ℕ};
+ghost use Rattle.std.specs.Prelude.{◌≡◌, ◌≤◌, ◌↔◌, ◌++◌, All, Bool, IsTrue, List, None, Some, length, nat_lt, slice_get, suc, ℕ};
 ghost use Rattle.tla_meaning.specs.Actions.{act, meaning, val};
-ghost use Rattle.tla_meaning.specs.Executions.{IsExecution, invariant, next, scope_of, start};
+ghost use Rattle.tla_meaning.specs.Executions.{Errs, IsExecution, constants, invariant, next, scope_of, start};
 ghost use Rattle.tla_meaning.specs.FreeNames.{SameOn, closed};
+ghost use Rattle.tla_meaning.specs.Jobs.{IsJob};
 ghost use Rattle.tla_meaning.specs.Numbers.{Width};
+ghost use Rattle.tla_meaning.specs.Questions.{InvNotTrue, IsBigOutcome, IsFirst, NoneBelow, StepWrong};
 ghost use Rattle.tla_meaning.specs.Renamings.{OneToOne, Renames, Renaming, rename};
 ghost use Rattle.tla_meaning.specs.Scopes.{Scope};
 ghost use Rattle.tla_meaning.specs.declared.actions.Assigned.{Assigned};
 ghost use Rattle.tla_meaning.specs.Substitution.{Given, Within, binds_apart, each, give, put};
 ghost use Rattle.tla_meaning.specs.Widths.{Narrow};
+ghost use Rattle.tla_meaning.specs.declared.expr.Decl.{Decl};
 ghost use Rattle.tla_meaning.specs.declared.expr.Expr.{Expr};
 ghost use Rattle.tla_meaning.specs.declared.job.Env.{Env};
 ghost use Rattle.tla_meaning.specs.declared.job.Job.{Job};
@@ -33,12 +36,36 @@ pub fn faults_join()
 /// What comes out under a width is Big, or is what comes out without a width, or is Wrong where that is Wrong too,
 /// perhaps at another place.
 pub fn widths_agree()
-    ensures values { (w : ℕ) (e : Expr) (env : Env) (s t : State) → Narrow (val (Some w) e (scope_of env) s t) (val None e (scope_of env) s t) }
-    ensures actions { (w : ℕ) (m : Assigned) (e : Expr) (env : Env) (s t : State) → Narrow (act (Some w) m e (scope_of env) s t) (act None m e (scope_of env) s t) }
-    ensures starts { (w : ℕ) (job : Job) (s : State) → Narrow (start (Some w) job s) (start None job s) }
-    ensures steps { (w : ℕ) (job : Job) (s t : State) → Narrow (next (Some w) job s t) (next None job s t) }
-    ensures invariants { (w : ℕ) (job : Job) (s : State) → Narrow (invariant (Some w) job s) (invariant None job s) }
-    ensures executions { (w : ℕ) (job : Job) (ss : List State) → IsExecution (Some w) job ss → IsExecution None job ss }
+    ensures values { (w : Width) (e : Expr) (env : Env) (s t : State) → Narrow w (val w e (scope_of env) s t) (val None e (scope_of env) s t) }
+    ensures actions { (w : Width) (m : Assigned) (e : Expr) (env : Env) (s t : State) → Narrow w (act w m e (scope_of env) s t) (act None m e (scope_of env) s t) }
+    ensures starts { (w : Width) (job : Job) (s : State) → Narrow w (start w job s) (start None job s) }
+    ensures steps { (w : Width) (job : Job) (s t : State) → Narrow w (next w job s t) (next None job s t) }
+    ensures invariants { (w : Width) (job : Job) (s : State) → Narrow w (invariant w job s) (invariant None job s) }
+    ensures executions { (w : Width) (job : Job) (ss : List State) → IsExecution w job ss → IsExecution None job ss }
+{}
+
+/// Without a width no integer is too big.
+pub fn nothing_is_big_without_a_width()
+    ensures values { (e : Expr) (env : Env) (s t : State) → IsBigOutcome (val None e (scope_of env) s t) → ⊥ }
+    ensures actions { (m : Assigned) (e : Expr) (env : Env) (s t : State) → IsBigOutcome (act None m e (scope_of env) s t) → ⊥ }
+    ensures starts { (job : Job) (s : State) → IsBigOutcome (start None job s) → ⊥ }
+    ensures steps { (job : Job) (s t : State) → IsBigOutcome (next None job s t) → ⊥ }
+    ensures invariants { (job : Job) (s : State) → IsBigOutcome (invariant None job s) → ⊥ }
+{}
+
+/// Where no question holds below a level, the executions that lead to states below it are those under the width. A
+/// level errs where an operator is outside its domain or an invariant is not TRUE under the width, and does not err
+/// where no question holds at it or below it.
+pub fn questions_tell_errors()
+    ensures executions { (w n : ℕ) (job : Job) (ss : List State) → NoneBelow (Some w) job n → length ss ≤ n → IsExecution None job ss ↔ IsExecution (Some w) job ss }
+    ensures step_wrong { (w n : ℕ) (job : Job) → IsFirst (Some w) job n StepWrong → Errs job n }
+    ensures not_true { (w n : ℕ) (job : Job) → IsFirst (Some w) job n InvNotTrue → Errs job n }
+    ensures none { (w n : ℕ) (job : Job) → NoneBelow (Some w) job (suc n) → Errs job n → ⊥ }
+{}
+
+/// A declared name is a constant exactly where its number is below the number of constants.
+pub fn constants_stand_first()
+    ensures { (job : Job) (i : ℕ) (d : Decl) → IsJob job → slice_get job.names i ≡ Some d → d.constant ≡ nat_lt i (constants job) }
 {}
 
 /// Every value of a tree over normal states and normal bound values is normal.

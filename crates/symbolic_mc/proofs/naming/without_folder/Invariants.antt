@@ -1,6 +1,6 @@
 use Rattle.std.proofs.Common.{◌≡◌, drop, false}
 use Rattle.std.specs.List.{list_any}
-use Rattle.tla_meaning.specs.Form1.{is_slash}
+use Rattle.tla_meaning.specs.BooleanLayout.{is_slash}
 use Rattle.symbolic_mc.proofs.naming.without_folder.Given as goal
 
 abbrev pub invariant-loop-at : goal.invariant-loop-at

@@ -1,5 +1,5 @@
 use Rattle.std.proofs.Common.{◌≢◌, ℕ, ◌<◌}
-use Rattle.tla_meaning.specs.Form1.{name_at}
+use Rattle.tla_meaning.specs.BooleanLayout.{name_at}
 use Rattle.symbolic_mc.proofs.reader.index_of.Given as goal
 
 abbrev pub invariant-loop-var : goal.invariant-loop-var

@@ -1,7 +1,7 @@
 use Rattle.std.proofs.Common.{rules, sym, ◌∙◌, subst, length, true≢false}
 use Rattle.std.proofs.lemmas.Bool.{eqb-true}
 use Rattle.std.proofs.lemmas.List.{nil_from_length}
-use Rattle.tla_meaning.specs.Form1.{IsBooleanModule}
+use Rattle.tla_meaning.specs.BooleanLayout.{IsBooleanModule}
 use Rattle.symbolic_mc.proofs.Layouts.{no_head, definitions_read, no_definitions, end_there, nothing_left, not_empty, module_spelled}
 use Rattle.symbolic_mc.proofs.reader.read_module.Goals as goal
 

@@ -1,5 +1,5 @@
 use Rattle.std.proofs.Common.{◌≡◌, drop}
-use Rattle.tla_meaning.specs.Form1.{gives_each}
+use Rattle.tla_meaning.specs.BooleanLayout.{gives_each}
 use Rattle.symbolic_mc.proofs.shape.gives_each.Given as goal
 
 abbrev pub invariant-loop-i : goal.invariant-loop-i

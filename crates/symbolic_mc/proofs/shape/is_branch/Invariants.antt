@@ -1,5 +1,5 @@
 use Rattle.std.proofs.Common.{◌≡◌, drop}
-use Rattle.tla_meaning.specs.Form1.{is_branch}
+use Rattle.tla_meaning.specs.BooleanLayout.{is_branch}
 use Rattle.symbolic_mc.proofs.shape.is_branch.Given as goal
 
 abbrev pub invariant-loop-i : goal.invariant-loop-i

@@ -1,5 +1,5 @@
 use Rattle.std.proofs.Common.{rules, sym, ◌∙◌, ◌++◌, append_assoc, codes}
-use Rattle.tla_meaning.specs.Form1.{keyword_text, variables_text}
+use Rattle.tla_meaning.specs.BooleanLayout.{keyword_text, variables_text}
 use Rattle.symbolic_mc.proofs.Layouts.{head_begins, head_is}
 use Rattle.symbolic_mc.proofs.reader.HeadsSpellingHead.read.Goals as goal
 

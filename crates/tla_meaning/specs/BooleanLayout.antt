@@ -191,7 +191,7 @@ without_folder [] = []
 without_folder (b ∷ bs) = if list_any is_slash (b ∷ bs) then without_folder bs else b ∷ bs
 
 -- these bytes of a file of this name are in the layout, and say this job
-pub record IsForm1 (file : List ℕ) (job : Job) (bytes : List ℕ) : Type 0 where
+pub record IsBooleanLayout (file : List ℕ) (job : Job) (bytes : List ℕ) : Type 0 where
   pub source : BooleanModule
   pub well_formed : IsBooleanModule source
   pub named : without_folder file ≡ source.name ++ codes ".tla"
