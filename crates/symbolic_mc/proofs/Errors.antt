@@ -15,6 +15,7 @@ use Rattle.tla_values.specs.declared.value.Value.{Value}
 use Rattle.tla_values.specs.declared.value.Value.TheVariants as value
 use Rattle.tla_meaning.specs.declared.boolean.BooleanModule.{BooleanModule}
 use Rattle.tla_meaning.specs.declared.boolean.Conjunct.{Conjunct}
+use Rattle.tla_meaning.specs.declared.forms.SetForm.TheVariants as form
 use Rattle.tla_meaning.specs.declared.job.State.{State}
 use Rattle.tla_meaning.specs.declared.op.Op.TheVariants as op
 use Rattle.tla_meaning.specs.declared.outcome.Outcome.{Outcome}
@@ -24,7 +25,7 @@ use Rattle.tla_meaning.specs.Operators.{yes_no}
 use Rattle.tla_meaning.specs.Actions.{val}
 use Rattle.tla_meaning.specs.Executions.{no_scope, start, next, invariant, is_yes, IsYes, IsWrongOutcome, IsState, AreSteps, IsExecution, last_of, Reaches, Errs, StartIsWrong, StepIsWrong, InvariantIsNotTrue}
 use Rattle.tla_meaning.specs.BooleanLayout.{leaf, tree, operator, operand, job_of, gives_each, is_guard, is_branch, IsBooleanModule}
-use Rattle.tla_meaning.proofs.MeaningLemmas.{val-roll, sense-roll}
+use Rattle.tla_meaning.proofs.MeaningLemmas.{belongs-out, val-roll, denotation-roll}
 use Rattle.symbolic_mc.specs.Boolean.{state_of, inv_holds, SpeakOf, RunsOn, IsRun}
 use Rattle.symbolic_mc.proofs.Meaning.{Says, AllSay, start_says, next_says, start_is, next_is, invariant_is, is_yes_as, yes_or_no, length-declarations, last_is}
 use Rattle.symbolic_mc.proofs.Shapes.{init_below, next_below, inv_below}
@@ -45,11 +46,11 @@ holds_in s t c = asks_for c.choice (value_at (if c.primed then t else s).vals c.
 
 equal_says : (w : Width) (p q r : Place) (i : ℕ) (primed b : Bool) (v : Value) (s t : State) → slice_get (if primed then t else s).vals i ≡ Some v
     → val w (tree p op.Eq (leaf q (op.Name i primed) ∷ leaf r (op.Bool b) ∷ [])) no_scope s t ≡ yes_no (asks_for (Some b) v)
-equal_says w p q r i primed b v s t e = simp (val-roll, sense-roll, e)
+equal_says w p q r i primed b v s t e = simp (val-roll, denotation-roll, e)
 
 in_says : (w : Width) (p q r : Place) (i : ℕ) (primed : Bool) (v : Value) (s t : State) → slice_get (if primed then t else s).vals i ≡ Some v
     → val w (tree p op.In (leaf q (op.Name i primed) ∷ leaf r op.BooleanSet ∷ [])) no_scope s t ≡ yes_no (asks_for None v)
-in_says w p q r i primed v s t e = simp (val-roll, sense-roll, e, value.outs-Set)
+in_says w p q r i primed v s t e = simp (val-roll, denotation-roll, e, value.outs-Set, form.outs-Plain, belongs-out)
 
 reads : (s t : State) (i : ℕ) (primed : Bool) → i < length s.vals → length t.vals ≡ length s.vals
     → slice_get (if primed then t else s).vals i ≡ Some (value_at (if primed then t else s).vals i)

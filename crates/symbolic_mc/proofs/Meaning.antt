@@ -16,6 +16,7 @@ use Rattle.tla_meaning.specs.declared.boolean.Conjunct.{Conjunct}
 use Rattle.tla_meaning.specs.declared.expr.Expr.{Expr, out-roll-Expr}
 use Rattle.tla_meaning.specs.declared.expr.Expr.TheOpen.{Expr-F}
 use Rattle.tla_meaning.specs.declared.expr.Decl.{Decl}
+use Rattle.tla_meaning.specs.declared.forms.SetForm.TheVariants as form
 use Rattle.tla_meaning.specs.declared.job.State.{State}
 use Rattle.tla_meaning.specs.declared.op.Op.TheVariants as op
 use Rattle.tla_meaning.specs.declared.place.Place.{Place}
@@ -30,7 +31,7 @@ use Rattle.tla_meaning.specs.Meaning.{outcomes, outer, conjoined, disjoined}
 use Rattle.tla_meaning.specs.Actions.{val, meaning, effects, effects_and, effects_or, effect_of, outcome_of, any_mentions}
 use Rattle.tla_meaning.specs.Executions.{no_scope, start, next, invariant, first_not_yes, is_yes, IsYes, IsState, AreSteps, IsExecution, last_of, assume_effects, assumptions, in_init, in_cinit, in_next}
 use Rattle.tla_meaning.specs.BooleanLayout.{behind, leaf, tree, operator, operand, conjunct_text, conjunct_tree, conjunct_trees, conjunction_tree, branch_trees, next_tree, declarations, job_of, no_part, place_at, init_line}
-use Rattle.tla_meaning.proofs.MeaningLemmas.{val-roll, denotation-roll}
+use Rattle.tla_meaning.proofs.MeaningLemmas.{belongs-out, val-roll, denotation-roll}
 use Rattle.symbolic_mc.specs.Boolean.{state_of, allows, holds_at, all_hold, some_holds, init_holds, next_holds, inv_holds, SpeakOf, RunsOn, IsRun}
 
 -- ---- one conjunct
@@ -49,8 +50,8 @@ same_truth w p q r i primed false false s t e = simp (val-roll, denotation-roll,
 
 is_truth : (w : Width) (p q r : Place) (i : ℕ) (primed x : Bool) (s t : State) → slice_get (if primed then t else s).vals i ≡ Some (value.Bool x)
     → val w (tree p op.In (leaf q (op.Name i primed) ∷ leaf r op.BooleanSet ∷ [])) no_scope s t ≡ yes_no true
-is_truth w p q r i primed true s t e = simp (val-roll, denotation-roll, e, value_cmp_out, value.outs-Bool, value.outs-Set)
-is_truth w p q r i primed false s t e = simp (val-roll, denotation-roll, e, value_cmp_out, value.outs-Bool, value.outs-Set)
+is_truth w p q r i primed true s t e = simp (val-roll, denotation-roll, e, value_cmp_out, value.outs-Bool, value.outs-Set, form.outs-Plain, belongs-out)
+is_truth w p q r i primed false s t e = simp (val-roll, denotation-roll, e, value_cmp_out, value.outs-Bool, value.outs-Set, form.outs-Plain, belongs-out)
 
 -- the variable that a conjunct reads
 reads_at : (now next : List Bool) (i : ℕ) (primed : Bool) → i < length now → length next ≡ length now
