@@ -20,7 +20,7 @@ pub fn check(alloc: Global, formula: &Cnf, log: &Log) -> Result<Check, AllocErro
     ensures exact { IfOk result (λ c. IsAnswer formula.now.clauses log.now c) }
     ensures refuted { IfOk result (λ c. c ≡ Check.Yes → IsUnsatisfiable formula.now.clauses) }
 {
-    let steps = log.steps();
+    let steps = log.as_slice();
     let clauses = formula.clauses.clauses();
     let named = room_in_clauses(clauses)?;
     let room = room_in_steps(named, steps)?;

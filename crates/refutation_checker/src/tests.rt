@@ -373,7 +373,7 @@ fn printed_again(alloc: Global, text: &[u8]) -> Result<Option<Vec<u8>>, AllocErr
         return Ok(None);
     };
     let mut bytes = Vec::from_slice(alloc, certificate_head())?;
-    for s in certificate.sections() {
+    for s in certificate.as_slice() {
         bytes.extend_from_slice(print_section(alloc, s)?.as_slice())?;
     }
     Ok(Some(bytes))

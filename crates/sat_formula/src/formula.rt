@@ -122,16 +122,16 @@ impl Formula {
     }
 
     /// The variables and clauses of the formula, with the clause of this one literal last.
-    pub fn with_unit(&self, l: Lit) -> Result<Cnf, AllocError>
+    pub fn with_unit(&self, alloc: Global, l: Lit) -> Result<Cnf, AllocError>
         requires { l.var < self.now.vars }
         ensures same { IfOk result (λ c. c ≡ record self.now { clauses = self.now.clauses ++ (l ∷ []) ∷ [] }) }
         ensures within { IfOk result (λ c. NamesBelow c.vars c.clauses) }
     {
-        let mut clauses = Clauses::new(self.alloc);
+        let mut clauses = Clauses::new(alloc);
         for c in self.clauses.clauses() {
-            clauses.push(Clause::from_vec(Vec::from_slice(self.alloc, c.lits())?))?;
+            clauses.push(Clause::from_vec(Vec::from_slice(alloc, c.lits())?))?;
         }
-        clauses.push(Clause::from_vec(Vec::from_slice(self.alloc, &[l])?))?;
+        clauses.push(Clause::from_vec(Vec::from_slice(alloc, &[l])?))?;
         Ok(Cnf {
             vars: self.vars(),
             clauses,

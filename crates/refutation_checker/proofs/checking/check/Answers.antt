@@ -19,4 +19,4 @@ loop-i-preserved c = record {
 
 pub returns-clause-refuted : goal.returns-clause-refuted
 returns-clause-refuted c = λ said a sat.
-    Refutes-sound c.clauses-clauses.result.now c.steps-steps.result.now (λ k lt. c.loop-i.invariant.follow k (omega arith)) (verdict_yes _ _ c.verdict.ensures said) a (rw c.clauses-clauses.ensures sat)
+    Refutes-sound c.clauses-clauses.result.now c.as_slice-steps.result.now (λ k lt. c.loop-i.invariant.follow k (omega arith)) (verdict_yes _ _ c.verdict.ensures said) a (rw c.clauses-clauses.ensures sat)
