@@ -388,3 +388,18 @@ fn what_is_read_is_printed_again(rt: HostRuntime) -> Result<(), Fail> {
     assert_eq!(rt; again.as_slice(), text.as_slice());
     Ok(())
 }
+
+#[test]
+fn ten_thousand_sections_on_the_greatest_variable_are_checked_at_once(
+    rt: HostRuntime,
+) -> Result<(), Fail> {
+    let alloc = rt.alloc();
+    let section =
+        b"query 0 inv-false\np cnf 2147483647 2\n2147483647 0\n-2147483647 0\nlog\n3 0 1 2 0\nend\n";
+    let mut bytes = Vec::from_slice(alloc, certificate_head())?;
+    for _ in 0..10_000 {
+        bytes.extend_from_slice(section)?;
+    }
+    assert_eq!(rt; recheck(alloc, &bytes)?, Recheck::Accepted(10_000, 0));
+    Ok(())
+}
