@@ -71,7 +71,7 @@ pub fn equal(alloc: Global, f: &mut Formula, x: &Word, y: &Word) -> Result<Lit, 
 /// Over free words it adds 16, 64 and 128 variables, and 63, 255 and 511 clauses, at
 /// widths 8, 32 and 64.
 #[tactic(auto, using(sat_formula::proofs::Extension::gates, crate::proofs::Words::words))]
-pub fn less(f: &mut Formula, x: &Word, y: &Word) -> Result<Lit, AllocError>
+pub fn less(_alloc: Global, f: &mut Formula, x: &Word, y: &Word) -> Result<Lit, AllocError>
     requires some { 0 < length x.now }
     requires same { length x.now ≡ length y.now }
     requires x_below { WordBelow f.old.vars x.now }
