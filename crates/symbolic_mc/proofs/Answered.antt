@@ -7,7 +7,8 @@ use Rattle.tool_outside.specs.Outside.{Folder, Rose, file_at}
 use Rattle.tla_meaning.specs.declared.boolean.BooleanModule.{BooleanModule}
 use Rattle.tla_meaning.specs.declared.expr.Decl.{Decl}
 use Rattle.tla_meaning.specs.declared.job.Job.{Job}
-use Rattle.tla_meaning.specs.BooleanLayout.{IsBooleanModule, IsBooleanLayout, module_text, without_folder, declarations, job_of}
+use Rattle.tla_values.specs.FileNames.{without_folder}
+use Rattle.tla_meaning.specs.BooleanLayout.{IsBooleanModule, IsBooleanLayout, module_text, declarations, job_of}
 use Rattle.symbolic_mc.specs.declared.answer.Answer.{Answer}
 use Rattle.symbolic_mc.specs.declared.answer.Answer.TheVariants.{Usage, ReadFault, TooLong, Missing, NotBuilt, Checked}
 use Rattle.symbolic_mc.specs.declared.checking.Verdict.{Verdict}

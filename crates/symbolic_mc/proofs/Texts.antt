@@ -7,7 +7,8 @@ use Rattle.std.proofs.lemmas.List.{append-nil, append_cancel_right, take_all, le
 use Rattle.std.proofs.lemmas.Bool.{or_right, eq-eqb}
 use Rattle.std.proofs.lemmas.Option.{slice_get_read}
 use Rattle.std.proofs.lemmas.Slice.Eq.{bytes_eq-Decides}
-use Rattle.tla_meaning.specs.BooleanLayout.{is_slash, without_folder, name_at}
+use Rattle.tla_values.specs.FileNames.{without_folder}
+use Rattle.tla_meaning.specs.BooleanLayout.{name_at}
 
 -- a piece behind a separator leaves less
 pub shrinks : (rest separator middle text behind : List ℕ) → 0 < length separator → rest ≡ separator ++ middle → middle ≡ text ++ behind → length behind < length rest
@@ -25,40 +26,6 @@ one_more f separator bytes rest middle behind (y ∷ ys) x some whole first seco
   where
     regroup : (a b s t u : List ℕ) → (a ++ b) ++ (s ++ (t ++ u)) ≡ (a ++ (b ++ ((s ++ t) ++ []))) ++ u
     regroup a b s t u = simp (append_assoc, append-nil)
-
--- ---- folders
-
-no_folder : (xs : List ℕ) → list_any is_slash xs ≡ false → without_folder xs ≡ xs
-no_folder [] none = refl
-no_folder (b ∷ bs) none = ap (λ (t : Bool). if t then without_folder bs else b ∷ bs) none
-
-slash_inside : (xs : List ℕ) (at : ℕ) → at < length xs → is_slash (get_or xs at 0) ≡ true → list_any is_slash xs ≡ true
-slash_inside [] at lt h = absurd (omega arith)
-slash_inside (b ∷ bs) zero lt h = ap (λ (t : Bool). t || list_any is_slash bs) h
-slash_inside (b ∷ bs) (suc at) lt h = or_right (is_slash b) (list_any is_slash bs) (slash_inside bs at (omega arith) h)
-
-pub folder_at : (xs : List ℕ) (at : ℕ) → at < length xs → is_slash (get_or xs at 0) ≡ true → list_any is_slash (drop (suc at) xs) ≡ false → without_folder xs ≡ drop (suc at) xs
-folder_at [] at lt here none = absurd (omega arith)
-folder_at (b ∷ bs) zero lt here none =
-    ap (λ (t : Bool). if t then without_folder bs else b ∷ bs) (slash_inside (b ∷ bs) 0 lt here) ∙ no_folder bs none
-folder_at (b ∷ bs) (suc at) lt here none =
-    ap (λ (t : Bool). if t then without_folder bs else b ∷ bs) (slash_inside (b ∷ bs) (suc at) lt here) ∙ folder_at bs at (omega arith) here none
-
--- the bytes behind the last slash
-pub behind_slash : (xs : List ℕ) (at : ℕ) → 0 < at → at ≤ length xs → get_or xs (at - 1) 0 ≡ 47 → list_any is_slash (drop at xs) ≡ false
-    → take (length xs - ((at - 1) + 1)) (drop ((at - 1) + 1) xs) ≡ without_folder xs
-behind_slash xs at some le here none =
-    let same : (at - 1) + 1 ≡ at = omega arith in
-    let next : suc (at - 1) ≡ at = omega arith in
-    let all : length (drop at xs) ≤ length xs - at = omega (arith, length-drop at xs) in
-    let none_behind : list_any is_slash (drop (suc (at - 1)) xs) ≡ false = subst (λ (n : ℕ). list_any is_slash (drop n xs) ≡ false) (sym next) none in
-    ap (λ (n : ℕ). take (length xs - n) (drop n xs)) same ∙ take_all (length xs - at) (drop at xs) all
-    ∙ ap (λ (n : ℕ). drop n xs) (sym next) ∙ sym (folder_at xs (at - 1) (omega arith) (eq-eqb (get_or xs (at - 1) 0) 47 here) none_behind)
-
-pub no_slash : (xs : List ℕ) (at : ℕ) → at ≤ 0 → list_any is_slash (drop at xs) ≡ false → xs ≡ without_folder xs
-no_slash xs at none all =
-    let same : at ≡ 0 = omega arith in
-    sym (no_folder xs (subst (λ (n : ℕ). list_any is_slash (drop n xs) ≡ false) same all))
 
 -- ---- beginnings and ends
 

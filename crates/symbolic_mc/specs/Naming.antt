@@ -1,6 +1,6 @@
 -- The names of files and those of the modules in them.
 use Rattle.std.specs.Prelude.{◌≡◌, ◌⊎◌, List, ℕ, ◌++◌, codes}
-use Rattle.tla_meaning.specs.BooleanLayout.{without_folder}
+use Rattle.tla_values.specs.FileNames.{without_folder}
 
 -- the bytes do not end with this text
 abbrev pub EndsNot : List ℕ → List ℕ → Type 0

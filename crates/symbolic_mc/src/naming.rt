@@ -1,7 +1,9 @@
 // The names of files and those of the modules in them.
 ghost use Rattle.std.specs.Prelude.{◌≡◌, ◌↔◌, ◌++◌, codes, IfSome, IfNone, IsTrue};
-ghost use Rattle.tla_meaning.specs.BooleanLayout.{without_folder};
+ghost use Rattle.tla_values.specs.FileNames.{without_folder};
 ghost use Rattle.symbolic_mc.specs.Naming.{EndsNot, IsModuleOf};
+
+use tla_values::without_folder;
 
 /// Whether the file, without its folder, is this name and `.tla`.
 pub(crate) fn has_name(file: &str, name: &[u8]) -> bool
@@ -30,15 +32,4 @@ fn stem(name: &[u8]) -> Option<&[u8]>
     ensures none { IfNone result (EndsNot name.now (codes ".tla")) }
 {
     name.strip_suffix(b".tla")
-}
-
-fn without_folder(file: &[u8]) -> &[u8]
-    ensures { result.now ≡ without_folder file.now }
-{
-    for at in (0..file.len()).rev() {
-        if file[at] == b'/' {
-            return &file[at + 1..];
-        }
-    }
-    file
 }

@@ -2,6 +2,7 @@
 use Rattle.std.specs.Prelude.{◌≡◌, ℕ, ◌+◌, ◌*◌, ◌<◌, ◌≤◌, Bool, true, false, not, ◌&&◌, List, [], ◌∷◌, ◌++◌, length, codes, Option, Some, None, nat_lt, nat_eq, is_some, IsTrue, slice_get, unwrap_or, if◌then◌else◌}
 use Rattle.std.specs.List.{list_all, list_any, join_by}
 use Rattle.std.specs.Str.{bytes_eq}
+use Rattle.tla_values.specs.FileNames.{without_folder}
 use Rattle.tla_values.specs.Names.{is_letter, is_name}
 use Rattle.tla_meaning.specs.declared.boolean.BooleanModule.{BooleanModule}
 use Rattle.tla_meaning.specs.declared.boolean.Conjunct.{Conjunct}
@@ -181,14 +182,6 @@ pub record IsBooleanModule (m : BooleanModule) : Type 0 where
   pub inv : IsTrue (list_all (is_guard (length m.vars)) m.inv)
 
 -- ---- the file
-
-abbrev pub is_slash : ℕ → Bool
-is_slash b = nat_eq b 47
-
--- the name of a file without its folder
-abbrev pub without_folder : List ℕ → List ℕ
-without_folder [] = []
-without_folder (b ∷ bs) = if list_any is_slash (b ∷ bs) then without_folder bs else b ∷ bs
 
 -- these bytes of a file of this name are in the layout, and say this job
 pub record IsBooleanLayout (file : List ℕ) (job : Job) (bytes : List ℕ) : Type 0 where

@@ -9,3 +9,4 @@ pub mod SetLaws
 pub mod NormalLemmas
 pub mod FunLaws
 pub mod SortLaws
+pub mod FileLemmas

@@ -2,6 +2,7 @@
 #![tactic(auto)]
 
 mod boxed;
+mod file_names;
 mod functions;
 mod list;
 mod names;
@@ -16,6 +17,7 @@ mod text;
 mod value;
 
 pub use boxed::Boxed;
+pub use file_names::{module_name, without_folder};
 pub use functions::{apply, domain_of, fun_of, override_at};
 pub use list::List;
 pub use names::is_name;
