@@ -5,7 +5,7 @@ use Rattle.sat_formula.specs.declared.lit.Lit.{Lit}
 use Rattle.sat_formula.specs.declared.cnf.Cnf.{Cnf}
 use Rattle.sat_formula.specs.Lit.{lit_value}
 use Rattle.sat_formula.specs.Clause.{AllTrue}
-use Rattle.sat_formula.specs.Formula.{Satisfies, Extends, HasValue}
+use Rattle.sat_formula.specs.Formula.{Satisfies, Grows, HasValue}
 use Rattle.sat_formula.proofs.Extension.{Satisfies-older}
 use Rattle.tla_meaning.specs.declared.boolean.BooleanModule.{BooleanModule}
 use Rattle.tla_meaning.specs.declared.boolean.Conjunct.{Conjunct}
@@ -50,7 +50,7 @@ false_there l n a same holds = flip l.neg (get_or a l.var false) (sym (ap (λ (x
 pub found : (m : BooleanModule) (steps : ℕ) (f g question : Cnf) (codes seen : List (List Lit)) (last index d : List Lit) (inv : List Conjunct) (holds negated : Lit)
     (a : List Bool) (states : List State) → IsBooleanModule m
     → IsLevel m f codes → length codes ≡ steps + 1 → last ≡ index → index ≡ get_or seen steps d → seen ≡ codes → inv ≡ m.inv
-    → Extends f g → HasValue g holds (λ x. all_hold inv (values_of x last) (values_of x last))
+    → Grows f g → HasValue g holds (λ x. all_hold inv (values_of x last) (values_of x last))
     → negated ≡ record { var = holds.var; neg = not holds.neg }
     → question ≡ record { vars = g.vars; clauses = g.clauses ++ (negated ∷ []) ∷ [] }
     → AllTrue a question.clauses → states ≡ map (λ code. state_of (values_of a code)) codes → Breaks m steps states
@@ -79,7 +79,7 @@ some_of {X = X} o x P e h = subst (λ (y : Option X). IfSome y P) e h
 -- an error of the level would be decoded by an assignment that answers its question
 pub not_found : (m : BooleanModule) (steps : ℕ) (f g question : Cnf) (codes seen : List (List Lit)) (last index d : List Lit) (inv : List Conjunct) (holds negated : Lit)
     → IsBooleanModule m → IsLevel m f codes → length codes ≡ steps + 1 → last ≡ index → index ≡ get_or seen steps d → seen ≡ codes → inv ≡ m.inv
-    → Extends f g → HasValue g holds (λ x. all_hold inv (values_of x last) (values_of x last))
+    → Grows f g → HasValue g holds (λ x. all_hold inv (values_of x last) (values_of x last))
     → negated ≡ record { var = holds.var; neg = not holds.neg }
     → question ≡ record { vars = g.vars; clauses = g.clauses ++ (negated ∷ []) ∷ [] }
     → ((a : List Bool) → length a ≡ question.vars → AllTrue a question.clauses → ⊥) → NoError m steps

@@ -10,7 +10,7 @@ use Rattle.sat_formula.specs.Clause.{clause_true, AllTrue}
 use Rattle.sat_formula.specs.declared.lit.Lit.{Lit}
 use Rattle.sat_formula.specs.declared.cnf.Cnf.{Cnf}
 use Rattle.sat_formula.specs.Lit.{lit_value}
-use Rattle.sat_formula.specs.Formula.{Extends, HasValue, Satisfies}
+use Rattle.sat_formula.specs.Formula.{Grows, HasValue, Satisfies}
 use Rattle.sat_formula.proofs.Extension.{HasValue-same, Satisfies-older, AllTrue-older, AllTrue-newer}
 use Rattle.tla_values.specs.declared.value.Value.{Value}
 use Rattle.tla_values.specs.declared.value.Value.TheVariants as value
@@ -25,7 +25,7 @@ and_true false = refl
 
 -- one more operand of a conjunction
 pub and_step : (f g : Cnf) (all out : Lit) (lits : List Lit) (i : ℕ) (d : Lit) → i < length lits
-    → HasValue f all (λ a. list_all (λ x. lit_value x a) (take i lits)) → Extends f g
+    → HasValue f all (λ a. list_all (λ x. lit_value x a) (take i lits)) → Grows f g
     → HasValue g out (λ a. lit_value all a && lit_value (get_or lits i d) a)
     → HasValue g out (λ a. list_all (λ x. lit_value x a) (take (i + 1) lits))
 and_step f g all out lits i d lt before grown now =
@@ -35,8 +35,8 @@ and_step f g all out lits i d lt before grown now =
 
 -- one more operand of a disjunction
 pub or_step : {X : Type 0} (f g h : Cnf) (some holds out : Lit) (xs : List X) (i : ℕ) (d x : X) (value : X → List Bool → Bool) → i < length xs
-    → HasValue f some (λ a. list_any (λ y. value y a) (take i xs)) → Extends f g
-    → HasValue g holds (value x) → x ≡ get_or xs i d → Extends g h
+    → HasValue f some (λ a. list_any (λ y. value y a) (take i xs)) → Grows f g
+    → HasValue g holds (value x) → x ≡ get_or xs i d → Grows g h
     → HasValue h out (λ a. lit_value some a || lit_value holds a)
     → HasValue h out (λ a. list_any (λ y. value y a) (take (i + 1) xs))
 or_step f g h some holds out xs i d x value lt before grown here same more now =

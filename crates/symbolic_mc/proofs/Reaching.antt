@@ -10,7 +10,7 @@ use Rattle.sat_formula.specs.declared.lit.Lit.{Lit}
 use Rattle.sat_formula.specs.declared.cnf.Cnf.{Cnf}
 use Rattle.sat_formula.specs.Lit.{lit_value, IsBelow}
 use Rattle.sat_formula.specs.Clause.{clause_true, AllTrue}
-use Rattle.sat_formula.specs.Formula.{Satisfies, Extends, EitherExtends, HasValue}
+use Rattle.sat_formula.specs.Formula.{Satisfies, Extends, Grows, EitherExtends, HasValue}
 use Rattle.sat_formula.proofs.Extension.{lit_value-append}
 use Rattle.tla_meaning.specs.declared.boolean.BooleanModule.{BooleanModule}
 use Rattle.tla_meaning.specs.declared.boolean.Conjunct.{Conjunct}
@@ -99,9 +99,9 @@ required_parts lits i d a lt all =
 
 -- ---- the calls of the encoding
 
-pub extended : (f g : Cnf) (a : List Bool) → Extends f g → length a ≡ f.vars → Satisfies a f → (more : List Bool) × (length (a ++ more) ≡ g.vars) × Satisfies (a ++ more) g
+pub extended : (f g : Cnf) (a : List Bool) → Grows f g → length a ≡ f.vars → Satisfies a f → (more : List Bool) × (length (a ++ more) ≡ g.vars) × Satisfies (a ++ more) g
 unfolding Extends Satisfies
-extended f g a grown size sat = let s = grown.law a size sat in (s.0, s.1.0, s.1.1)
+extended f g a grown size sat = let s = grown.extends.law a size sat in (s.0, s.1.0, s.1.1)
 
 pub start_reaches : (m : BooleanModule) (f g h : Cnf) (n : ℕ) (code code2 code3 asked seen : List Lit) (init : List Conjunct)
     → IsFree f g n code → n ≡ length m.vars → init ≡ m.init → code2 ≡ code → code3 ≡ code → seen ≡ asked
@@ -118,7 +118,7 @@ start_reaches m f g h n code code2 code3 asked seen init free count is_init same
     (required (a ++ bits) given.0 (ap (list_all (λ l. lit_value l (a ++ bits))) same ∙ value (a ++ bits) ∙ told), given.1)
 
 pub follow_reaches : (m : BooleanModule) (f0 f1 f2 f3 : Cnf) (n : ℕ) (now next next2 : List Lit) (some : Lit) (branches : List (List Conjunct))
-    → IsCode f0 (length m.vars) now → IsCode f1 n next → IsFree f0 f1 n next → f1.vars ≡ f0.vars + n → n ≡ length m.vars → Extends f1 f2
+    → IsCode f0 (length m.vars) now → IsCode f1 n next → IsFree f0 f1 n next → f1.vars ≡ f0.vars + n → n ≡ length m.vars → Grows f1 f2
     → HasValue f2 some (λ a. some_holds branches (values_of a now) (values_of a next2)) → branches ≡ m.next → next2 ≡ next
     → ((a : List Bool) → Satisfies a f2 → list_all (λ l. lit_value l a) (some ∷ []) ≡ true → Satisfies a f3) → f3.vars ≡ f2.vars
     → (a bits : List Bool) → length a ≡ f0.vars → Satisfies a f0 → length bits ≡ length m.vars → next_holds m (values_of a now) bits ≡ true

@@ -1,7 +1,8 @@
 // The order of values.
-ghost use Rattle.std.specs.Prelude.{◌≡◌, ◌↔◌, IsTrue, map};
+ghost use Rattle.std.specs.Prelude.{◌≡◌, ◌⊎◌, ◌↔◌, IsTrue, map};
 ghost use Rattle.std.specs.declared.cmp.Ordering.TheVariants.{Equal};
-ghost use Rattle.tla_values.specs.Order.{same_value, value_cmp, items_cmp, pairs_cmp};
+ghost use Rattle.tla_values.specs.Order.{IsAtMost, same_value, value_cmp, items_cmp, pairs_cmp};
+ghost use Rattle.tla_values.specs.declared.value.Value.{Value};
 
 use crate::value::Value;
 use std::cmp::Ordering;
@@ -14,6 +15,13 @@ pub fn cmp_values(a: &Value, b: &Value) -> Ordering
 {
     compare(a, b)
 }
+
+/// The laws of the order of values: it is total, reflexive, antisymmetric and transitive. It does nothing.
+pub fn order_is_total()
+    ensures total { (a b : Value) → IsAtMost a b ⊎ IsAtMost b a }
+    ensures antisymmetric { (a b : Value) → IsAtMost a b → IsAtMost b a → a ≡ b }
+    ensures transitive { (a b c : Value) → IsAtMost a b → IsAtMost b c → IsAtMost a c }
+{}
 
 #[cycle(cmp)]
 pub(crate) fn compare(a: &Value, b: &Value) -> Ordering

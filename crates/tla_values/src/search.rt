@@ -20,8 +20,8 @@ pub(crate) fn find_member(members: &[Value], v: &Value) -> Result<usize, usize>
     members.binary_search_by(|member| compare(member, v))
 }
 
-// The place of the pair with an argument, or else the place at which it would stand.
-pub(crate) fn find_argument(pairs: &[(Value, Value)], a: &Value) -> Result<usize, usize>
+/// The place of the pair with an argument, or else the place at which it would stand. Takes no memory.
+pub fn find_argument(pairs: &[(Value, Value)], a: &Value) -> Result<usize, usize>
     requires { IsTrue (increasing (arguments pairs.now)) }
     ensures bound { MatchResult result (λ i. i < length pairs.now) (λ i. i ≤ length pairs.now) }
     ensures place { MatchResult result

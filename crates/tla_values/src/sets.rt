@@ -101,7 +101,8 @@ pub fn union_of(alloc: Global, a: &List<Value>, b: &List<Value>) -> Result<Value
     Ok(union)
 }
 
-fn copy_onto(alloc: Global, items: &[Value], out: &mut Vec<Value>) -> Result<(), AllocError>
+/// Adds equal values at the end. After a refusal some of them may be there.
+pub fn copy_onto(alloc: Global, items: &[Value], out: &mut Vec<Value>) -> Result<(), AllocError>
     ensures { OnOk result (out.new.items ≡ out.old.items ++ items.now) }
 {
     for item in items {

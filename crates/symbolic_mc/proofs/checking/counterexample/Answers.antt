@@ -11,7 +11,7 @@ returns-clause-found c =
     found c.args.source.now c.args.steps c.in_ok-formula.field-0.formula c.conjunction.new.formula c.in_ok-question.question c.in_ok-formula.field-0.states _ _ _ _ _ c.in_ok-holds.holds _
     c.in-Some.assignment c.in_ok-states-in-Some.states c.requires c.in_ok-formula.ensures.level c.in_ok-formula.ensures.steps
     c.as_slice-last.ensures c.index-as_slice-steps.is c.as_slice.ensures c.as_slice-2.ensures
-    c.in_ok-holds.ensures.extends c.in_ok-holds.ensures.value c.negated.ensures c.in_ok-question.ensures.same
+    c.in_ok-holds.ensures.grows c.in_ok-holds.ensures.value c.negated.ensures c.in_ok-question.ensures.same
     (some_of _ _ (λ a. AllTrue a c.in_ok-question.question.clauses) c.in-Some.is c.in_ok-search.ensures.satisfies)
     (c.in_ok-states-in-Some.ensures ∙ ap (λ (x : List (List Lit)). map (λ code. state_of (values_of c.in-Some.assignment code)) x) c.as_slice-in-Some.ensures)
 
@@ -20,5 +20,5 @@ returns-in-None-clause-none c =
     not_found c.args.source.now c.args.steps c.in_ok-formula.field-0.formula c.conjunction.new.formula c.in_ok-question.question c.in_ok-formula.field-0.states _ _ _ _ _ c.in_ok-holds.holds _
     c.requires c.in_ok-formula.ensures.level c.in_ok-formula.ensures.steps
     c.as_slice-last.ensures c.index-as_slice-steps.is c.as_slice.ensures c.as_slice-2.ensures
-    c.in_ok-holds.ensures.extends c.in_ok-holds.ensures.value c.negated.ensures c.in_ok-question.ensures.same
+    c.in_ok-holds.ensures.grows c.in_ok-holds.ensures.value c.negated.ensures c.in_ok-question.ensures.same
     (none_of c.in_ok-search.field-0 _ c.in-None.is c.in_ok-search.ensures.none)

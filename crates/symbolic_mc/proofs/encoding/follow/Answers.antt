@@ -10,7 +10,7 @@ some_branch-requires-clause-within c = next_below c.args.source.now _ _ c.requir
 pub returns-clause-real : goal.returns-clause-real
 returns-clause-real c = λ a sat.
     let facts = c.in_ok-require_all.ensures.real a sat in (
-      Satisfies-older _ _ a c.in_ok-next.ensures.extends (Satisfies-older _ _ a c.in_ok-some.ensures.extends facts.0),
+      Satisfies-older _ _ a c.in_ok-next.ensures.grows (Satisfies-older _ _ a c.in_ok-some.ensures.grows facts.0),
       some_holds_as a c.args.source.now.next _ c.args.now.now c.in_ok-next.next _ _ c.as_slice.ensures c.as_slice-2.ensures
           (c.in_ok-some.ensures.value.value a facts.0) (one_true _ facts.1),
     )
@@ -19,5 +19,5 @@ pub returns-clause-reached : goal.returns-clause-reached
 returns-clause-reached c =
     follow_reaches c.args.source.now _ _ _ _ _ c.args.now.now c.in_ok-next.next _ c.in_ok-some.some _
     c.requires.now c.in_ok-next.ensures.code c.in_ok-next.ensures.free c.in_ok-next.ensures.size c.len.ensures
-    c.in_ok-some.ensures.extends c.in_ok-some.ensures.value c.as_slice.ensures c.as_slice-2.ensures
+    c.in_ok-some.ensures.grows c.in_ok-some.ensures.value c.as_slice.ensures c.as_slice-2.ensures
     c.in_ok-require_all.ensures.reached c.in_ok-require_all.ensures.vars

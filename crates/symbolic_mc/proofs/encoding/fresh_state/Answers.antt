@@ -1,6 +1,6 @@
 use Rattle.std.proofs.Common.{ap, ◌∷◌, [], arith, length, length-append}
 use Rattle.sat_formula.specs.declared.cnf.Cnf.{Cnf}
-use Rattle.sat_formula.proofs.Extension.{Extends-refl, Extends-trans}
+use Rattle.sat_formula.proofs.Extension.{Grows-refl, Grows-trans}
 use Rattle.symbolic_mc.proofs.Reaching.{free_none, free_more, below_push}
 use Rattle.symbolic_mc.proofs.encoding.fresh_state.Goals as goal
 
@@ -10,8 +10,7 @@ loop-made-init c = record {
   below = λ k d lt. absurd (omega (arith, ap length c.new-state.ensures.items));
   size = omega arith;
   free = free_none c.args.formula.now c.new-state.result.items c.new-state.ensures.items;
-  extends = Extends-refl c.args.formula.now;
-  grown = omega arith;
+  grows = Grows-refl c.args.formula.now;
 }
 
 pub loop-made-preserved : goal.loop-made-preserved
@@ -29,6 +28,5 @@ loop-made-preserved c =
       free =
           free_more c.args.formula.now c.loop-made.formula c.fresh.new.self c.loop-made._made c.loop-made.state.items _ c.in_ok-fresh.field-0
           was c.loop-made.invariant.below c.loop-made.invariant.free c.in_ok-fresh.ensures.free c.in_ok-fresh.ensures.lit c.in_ok-push.ensures.items;
-      extends = Extends-trans _ _ _ c.loop-made.invariant.extends c.in_ok-fresh.ensures.extends;
-      grown = let grown = c.loop-made.invariant.grown in omega arith;
+      grows = Grows-trans _ _ _ c.loop-made.invariant.grows c.in_ok-fresh.ensures.grows;
     }

@@ -1,5 +1,5 @@
 use Rattle.std.proofs.Common.{◌≡◌, ◌+◌, ◌≤◌, length, All}
-use Rattle.sat_formula.specs.Formula.{Extends}
+use Rattle.sat_formula.specs.Formula.{Grows}
 use Rattle.sat_formula.specs.Lit.{IsBelow}
 use Rattle.symbolic_mc.proofs.Reaching.{IsFree}
 use Rattle.symbolic_mc.proofs.encoding.fresh_state.Given as goal
@@ -10,6 +10,5 @@ invariant-loop-made l = record {
   below : All (IsBelow l.formula.vars) l.state.items;
   size : l.formula.vars ≡ l.initial.formula.vars + l._made;
   free : IsFree l.initial.formula l.formula l._made l.state.items;
-  extends : Extends l.initial.formula l.formula;
-  grown : l.initial.formula.vars ≤ l.formula.vars;
+  grows : Grows l.initial.formula l.formula;
 }

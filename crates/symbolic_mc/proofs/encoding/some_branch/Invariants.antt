@@ -1,5 +1,5 @@
 use Rattle.std.proofs.Common.{take, ◌≤◌}
-use Rattle.sat_formula.specs.Formula.{Extends, HasValue}
+use Rattle.sat_formula.specs.Formula.{Grows, HasValue}
 use Rattle.symbolic_mc.specs.Boolean.{some_holds}
 use Rattle.symbolic_mc.specs.Levels.{values_of}
 use Rattle.symbolic_mc.proofs.encoding.some_branch.Given as goal
@@ -7,6 +7,5 @@ use Rattle.symbolic_mc.proofs.encoding.some_branch.Given as goal
 abbrev pub invariant-loop-branch : goal.invariant-loop-branch
 invariant-loop-branch l = record {
   value : HasValue l.formula l.some (λ a. some_holds (take l.branch-index l.branches) (values_of a l.now) (values_of a l.next));
-  extends : Extends l.initial.formula l.formula;
-  grown : l.initial.formula.vars ≤ l.formula.vars;
+  grows : Grows l.initial.formula l.formula;
 }

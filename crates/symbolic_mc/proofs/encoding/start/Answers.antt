@@ -12,7 +12,7 @@ literals-requires-clause-within c =
 pub returns-clause-real : goal.returns-clause-real
 returns-clause-real c = λ a sat.
     let facts = c.in_ok-require_all.ensures.real a sat in (
-      Satisfies-older _ _ a c.in_ok-state.ensures.extends facts.0,
+      Satisfies-older _ _ a c.in_ok-state.ensures.grows facts.0,
       all_hold_as a _ _ c.args.source.now.init _ c.in_ok-state.state c.in_ok-state.state _ _
           c.deref.ensures.value c.as_slice.ensures c.as_slice-2.ensures c.as_slice-3.ensures (c.in_ok-asked.ensures.value a) facts.1,
     )
