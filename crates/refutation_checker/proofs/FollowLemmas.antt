@@ -1,27 +1,12 @@
-use Rattle.std.proofs.Common.{◌≡◌, ℕ, ◌+◌, ◌<◌, ◌≤◌, ◌↔◌, inl, inr, Bool, true, false, List, [], ◌∷◌, ◌++◌, length, take, map, IsTrue, All, refl, sym, ◌∙◌, arith, length-append}
+use Rattle.std.proofs.Common.{◌≡◌, ℕ, ◌+◌, ◌≤◌, ◌↔◌, inl, inr, Bool, true, false, List, [], ◌∷◌, ◌++◌, length, take, map, IsTrue, refl, sym, ◌∙◌, arith, length-append}
 use Rattle.std.specs.Prelude.{if◌then◌else◌}
 use Rattle.std.proofs.lemmas.Bool.{false≢true, cases_lt}
 use Rattle.std.proofs.lemmas.List.{take_all, take-append-le, get_or_append_left, get_or_push, length_push, length-map}
-use Rattle.std.proofs.lemmas.List.Elements.{All-weaker, All-append, All-map, All-take}
 use Rattle.sat_formula.specs.declared.lit.Lit.{Lit}
-use Rattle.sat_formula.specs.Lit.{IsBelow}
 use Rattle.refutation_checker.specs.declared.log.Step.{Step}
 use Rattle.refutation_checker.specs.declared.answers.Check.{Check}
 use Rattle.refutation_checker.specs.declared.answers.Check.TheVariants.{Yes, Open}
 use Rattle.refutation_checker.specs.Follows.{negation, Propagates, HasNoOpposites, known, Follows, EachFollows}
-
-pub All-below_more : (n m : ℕ) (lits : List Lit) → n ≤ m → All (IsBelow n) lits → All (IsBelow m) lits
-All-below_more n m lits le h = All-weaker (IsBelow n) (IsBelow m) (λ l lt. let below : l.var < n = lt in omega arith) lits h
-
-pub All-steps_more : (n m : ℕ) (steps : List Step) → n ≤ m → All (λ s. All (IsBelow n) s.lits) steps → All (λ s. All (IsBelow m) s.lits) steps
-All-steps_more n m steps le h = All-weaker (λ s. All (IsBelow n) s.lits) (λ s. All (IsBelow m) s.lits) (λ s p. All-below_more n m s.lits le p) steps h
-
-pub All-known : (n m k : ℕ) (formula : List (List Lit)) (steps : List Step) → n ≤ m → All (λ c. All (IsBelow n) c) formula → All (λ s. All (IsBelow m) s.lits) steps
-    → All (λ c. All (IsBelow m) c) (known formula (take k steps))
-All-known n m k formula steps le f s =
-    All-append (λ c. All (IsBelow m) c) formula (map (λ s. s.lits) (take k steps))
-    (All-weaker (λ c. All (IsBelow n) c) (λ c. All (IsBelow m) c) (λ c p. All-below_more n m c le p) formula f)
-    (All-map (λ c. All (IsBelow m) c) (λ s. s.lits) (take k steps) (All-take (λ s. All (IsBelow m) s.lits) k steps s))
 
 pub length-known : (formula : List (List Lit)) (steps : List Step) → length (known formula steps) ≡ length formula + length steps
 length-known formula steps = omega (arith, length-append formula (map (λ (s : Step). s.lits) steps), length-map steps (λ (s : Step). s.lits))

@@ -1,3 +1,4 @@
+pub mod MarksLemmas
 pub mod TrailLemmas
 pub mod StatusLemmas
 pub mod HintLemmas

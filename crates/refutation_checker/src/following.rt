@@ -1,7 +1,6 @@
 //! Whether one step follows from the clauses before it.
 
-ghost use Rattle.std.specs.Prelude.{◌≡◌, ◌↔◌, [], IsTrue, IfOk, OnOk, All, map, MatchBool};
-ghost use Rattle.sat_formula.specs.Lit.{IsBelow};
+ghost use Rattle.std.specs.Prelude.{◌≡◌, ◌↔◌, [], IsTrue, IfOk, map, MatchBool};
 ghost use Rattle.refutation_checker.specs.Follows.{negation, HasNoOpposites, Propagates, known, Follows};
 ghost use Rattle.refutation_checker.specs.Status.{IsStatus, IsClauseAt};
 
@@ -38,8 +37,7 @@ enum Status {
 }
 
 fn status_of(clause: &[Lit], trail: &Trail) -> Status
-    requires { All (IsBelow trail.now.room) clause.now }
-    ensures { IsStatus trail.now.lits clause.now result }
+    ensures { IsStatus trail.now clause.now result }
 {
     let mut found: Option<Lit> = None;
     for l in clause {
@@ -70,10 +68,7 @@ fn hints_work(
     hints: &[u64],
     trail: &mut Trail,
 ) -> Result<bool, AllocError>
-    requires { All (λ c. All (IsBelow trail.old.room) c) (known formula.now steps.now) }
-    ensures exact { IfOk result (λ b.
-        IsTrue b ↔ Propagates (known formula.now steps.now) trail.old.lits hints.now) }
-    ensures room { trail.new.room ≡ trail.old.room }
+    ensures { IfOk result (λ b. IsTrue b ↔ Propagates (known formula.now steps.now) trail.old hints.now) }
 {
     for (i, h) in hints.iter().enumerate() {
         let last = i + 1 == hints.len();
@@ -96,13 +91,11 @@ fn hints_work(
 
 // Makes each literal false, unless one stands beside its negation.
 fn assume_false(lits: &[Lit], trail: &mut Trail) -> Result<bool, AllocError>
-    requires empty { trail.old.lits ≡ [] }
-    requires below { All (IsBelow trail.old.room) lits.now }
-    ensures made { IfOk result (λ b.
+    requires { trail.old ≡ [] }
+    ensures { IfOk result (λ b.
         MatchBool b
-        (trail.new.lits ≡ map negation lits.now × HasNoOpposites lits.now)
+        (trail.new ≡ map negation lits.now × HasNoOpposites lits.now)
         (HasNoOpposites lits.now → ⊥)) }
-    ensures room { trail.new.room ≡ trail.old.room }
 {
     for l in lits {
         if trail.is_true(*l) {
@@ -113,26 +106,40 @@ fn assume_false(lits: &[Lit], trail: &mut Trail) -> Result<bool, AllocError>
     Ok(true)
 }
 
-/// Whether a step follows from the formula and the steps before it. The trail is empty and has
-/// room for the variables that the three name; it is so again at the return. The time is in
-/// proportion to the literals of the step and of the clauses that its hints name.
+/// Whether a step follows from the formula and the steps before it. The trail is empty, and is so
+/// again at the return, also where memory ran out. The time goes by the literals of the step and of
+/// the clauses that its hints name.
 pub fn follows(
     formula: &[Clause],
     steps: &[Step],
     step: &Step,
     trail: &mut Trail,
 ) -> Result<bool, AllocError>
-    requires empty { trail.old.lits ≡ [] }
-    requires within { All (λ c. All (IsBelow trail.old.room) c) (known formula.now steps.now) }
-    requires below { All (IsBelow trail.old.room) step.now.lits }
+    requires { trail.old ≡ [] }
     ensures exact { IfOk result (λ b. IsTrue b ↔ Follows (known formula.now steps.now) step.now) }
-    ensures trail { OnOk result (trail.new ≡ trail.old) }
+    ensures trail { trail.new ≡ [] }
+{
+    let followed = is_forced(formula, steps, step, trail);
+    trail.clear();
+    followed
+}
+
+// What `follows` answers. What it made true is left on the trail.
+fn is_forced(
+    formula: &[Clause],
+    steps: &[Step],
+    step: &Step,
+    trail: &mut Trail,
+) -> Result<bool, AllocError>
+    requires { trail.old ≡ [] }
+    ensures { IfOk result (λ b. IsTrue b ↔ Follows (known formula.now steps.now) step.now) }
 {
     if step.id as usize != formula.len() + steps.len() + 1 {
         return Ok(false);
     }
     let apart = assume_false(step.lits.lits(), trail)?;
-    let works = apart && hints_work(formula, steps, step.hints.as_slice(), trail)?;
-    trail.clear();
-    Ok(works)
+    if !apart {
+        return Ok(false);
+    }
+    hints_work(formula, steps, step.hints.as_slice(), trail)
 }

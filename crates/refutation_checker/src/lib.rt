@@ -15,6 +15,7 @@ mod faults;
 mod following;
 mod lines;
 mod log;
+mod marks;
 mod printing;
 mod reading;
 mod rechecking;

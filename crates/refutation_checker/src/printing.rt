@@ -28,7 +28,7 @@ pub fn print_section(alloc: Global, section: &Section) -> Result<Vec<u8>, AllocE
     print_header(section.formula.vars, clauses.len(), &mut out)?;
     print_clauses(clauses, &mut out)?;
     append(b"log\n", &mut out)?;
-    print_steps(section.log.steps(), &mut out)?;
+    print_steps(section.log.as_slice(), &mut out)?;
     print_end(section.is_open, &mut out)?;
     Ok(out)
 }

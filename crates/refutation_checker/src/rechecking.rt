@@ -17,7 +17,7 @@ pub fn recheck(alloc: Global, bytes: &[u8]) -> Result<Recheck, AllocError>
     ensures refuted { IfOk result (λ r. WhereAccepted r (RefutesClosed bytes.now)) }
 {
     match read_certificate(alloc, bytes) {
-        Ok(certificate) => check_sections(alloc, certificate.sections()),
+        Ok(certificate) => check_sections(alloc, certificate.as_slice()),
         Err(CertFault::BadLine(n)) => Ok(Recheck::BadLine(n)),
         Err(CertFault::Memory(fail)) => Err(fail),
     }

@@ -1,10 +1,8 @@
 //! Certificates: a section for each question that was put to the solver.
 
-ghost use Rattle.std.specs.Prelude.{◌≡◌};
-
 use crate::log::Log;
 use sat_formula::Cnf;
-use std::marker::Model;
+use tla_values::List;
 
 /// What a section's formula asks: whether some execution makes a step that is no value or leaves
 /// the range of the integers, or whether it reaches a state at which the invariant is not true or
@@ -36,41 +34,5 @@ pub struct Section {
     pub is_open: bool,
 }
 
-/// A list of sections. Contracts see it as that list.
-#[derive(Drop)]
-pub struct Certificate {
-    sections: Vec<Section>,
-}
-
-impl Model for Certificate {
-    ghost use Rattle.std.specs.Prelude.{List};
-    ghost use Rattle.refutation_checker.specs.declared.section.Section.{Section};
-
-    ghost Value = { List Section };
-
-    ghost view = { λ c. c.sections.items };
-}
-
-impl Certificate {
-    /// The certificate of these sections, which takes no memory.
-    pub fn from_vec(sections: Vec<Section>) -> Certificate
-        ensures { result ≡ sections.items }
-    {
-        Certificate { sections }
-    }
-
-    /// The sections, which takes no memory.
-    pub fn into_vec(self) -> Vec<Section>
-        ensures { result.items ≡ self }
-    {
-        let Certificate { sections } = self;
-        sections
-    }
-
-    /// The sections.
-    pub fn sections(&self) -> &[Section]
-        ensures { result.now ≡ self.now }
-    {
-        self.sections.as_slice()
-    }
-}
+/// The sections of a certificate in their order.
+pub type Certificate = List<Section>;

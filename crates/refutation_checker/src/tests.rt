@@ -373,7 +373,7 @@ fn printed_again(alloc: Global, text: &[u8]) -> Result<Option<Vec<u8>>, AllocErr
         return Ok(None);
     };
     let mut bytes = Vec::from_slice(alloc, certificate_head())?;
-    for s in certificate.sections() {
+    for s in certificate.as_slice() {
         bytes.extend_from_slice(print_section(alloc, s)?.as_slice())?;
     }
     Ok(Some(bytes))
@@ -386,5 +386,20 @@ fn what_is_read_is_printed_again(rt: HostRuntime) -> Result<(), Fail> {
     let text = spliced(alloc, 11, typed, 11)?;
     let again = printed_again(alloc, &text)?.ok_or("no certificate")?;
     assert_eq!(rt; again.as_slice(), text.as_slice());
+    Ok(())
+}
+
+#[test]
+fn ten_thousand_sections_on_the_greatest_variable_are_checked_at_once(
+    rt: HostRuntime,
+) -> Result<(), Fail> {
+    let alloc = rt.alloc();
+    let section =
+        b"query 0 inv-false\np cnf 2147483647 2\n2147483647 0\n-2147483647 0\nlog\n3 0 1 2 0\nend\n";
+    let mut bytes = Vec::from_slice(alloc, certificate_head())?;
+    for _ in 0..10_000 {
+        bytes.extend_from_slice(section)?;
+    }
+    assert_eq!(rt; recheck(alloc, &bytes)?, Recheck::Accepted(10_000, 0));
     Ok(())
 }

@@ -1,51 +1,51 @@
 //! The literals that are true, in the order in which they became so.
 
-ghost use Rattle.std.specs.Prelude.{◌≡◌, ◌+◌, ◌-◌, ◌<◌, ◌↔◌, ◌++◌, ◌∷◌, [], length, IsTrue, IfOk, OnOk, OnErr, Contains, true, false};
+ghost use Rattle.std.specs.Prelude.{◌≡◌, ◌↔◌, ◌++◌, ◌∷◌, [], IsTrue, IfOk, OnOk, OnErr, Contains};
 ghost use Rattle.refutation_checker.specs.Follows.{negation};
-ghost use Rattle.refutation_checker.specs.Marks.{Marks, TellsValue};
+ghost use Rattle.refutation_checker.specs.Marks.{AreMarks, TellsValue};
 
+use crate::marks::Marks;
 use sat_formula::Lit;
 use std::alloc::{AllocError, Global};
 use std::marker::Model;
 
-/// True literals over variables below a fixed number, with each variable's value at hand.
-/// Contracts see the number, `room`, and the literals in the order in which they became true.
+/// True literals of any variables, with each variable's value at hand. Contracts see them as a
+/// list, in the order in which they became true.
 #[derive(Drop)]
 pub struct Trail {
-    // The value of each variable that a literal of the list has.
-    marks: Vec<Option<bool>>,
+    marks: Marks,
     lits: Vec<Lit>,
 }
 
 impl Model for Trail {
-    ghost use Rattle.std.specs.Prelude.{length};
-    ghost use Rattle.refutation_checker.specs.Marks.{Marks, TrailView};
+    ghost use Rattle.std.specs.Prelude.{List};
+    ghost use Rattle.sat_formula.specs.declared.lit.Lit.{Lit};
+    ghost use Rattle.refutation_checker.specs.Marks.{AreMarks};
 
-    ghost Value = { TrailView };
+    ghost Value = { List Lit };
 
-    ghost view = { λ t. record { room = length t.marks.items; lits = t.lits.items } };
+    ghost view = { λ t. t.lits.items };
 
-    ghost invariant = { λ t. Marks t.marks.items t.lits.items };
+    ghost invariant = { λ t. AreMarks t.marks t.lits.items };
 }
 
 impl Trail {
-    /// The empty trail with room for the variables below `room`. It keeps the allocator.
-    pub fn new(alloc: Global, room: usize) -> Result<Trail, AllocError>
-        ensures { IfOk result (λ t. t ≡ record { room = room; lits = [] }) }
+    /// The empty trail, with a table for the variables below `near`; values of others take longer
+    /// to look up. It keeps the allocator.
+    pub fn new(alloc: Global, near: usize) -> Result<Trail, AllocError>
+        ensures { IfOk result (λ t. t ≡ []) }
     {
-        let marks = vec![in alloc; None; room]?;
         Ok(Trail {
-            marks,
+            marks: Marks::new(alloc, near)?,
             lits: Vec::new(alloc),
         })
     }
 
     /// The value of a literal; `None` where neither it nor its negation is on the trail.
     pub fn value(&self, l: Lit) -> Option<bool>
-        requires { l.var < self.now.room }
-        ensures { TellsValue self.now.lits l result }
+        ensures { TellsValue self.now l result }
     {
-        match self.marks[l.var] {
+        match self.marks.get(l.var) {
             None => None,
             Some(b) => Some(b != l.neg),
         }
@@ -53,8 +53,7 @@ impl Trail {
 
     /// Whether the literal is on the trail.
     pub fn is_true(&self, l: Lit) -> bool
-        requires { l.var < self.now.room }
-        ensures { IsTrue result ↔ Contains self.now.lits l }
+        ensures { IsTrue result ↔ Contains self.now l }
     {
         match self.value(l) {
             Some(b) => b,
@@ -64,19 +63,19 @@ impl Trail {
 
     /// Makes a literal true that is not false. After a refusal the trail is as before.
     pub fn push(&mut self, l: Lit) -> Result<(), AllocError>
-        requires below { l.var < self.old.room }
-        requires not_false { Contains self.old.lits (negation l) → ⊥ }
-        ensures ok { OnOk result (self.new ≡ record self.old { lits = self.old.lits ++ l ∷ [] }) }
+        requires { Contains self.old (negation l) → ⊥ }
+        ensures ok { OnOk result (self.new ≡ self.old ++ l ∷ []) }
         ensures err { OnErr result (self.new ≡ self.old) }
     {
-        self.lits.push(l)?;
-        self.marks[l.var] = Some(!l.neg);
+        self.lits.reserve(1)?;
+        self.marks.set(l.var, !l.neg)?;
+        self.lits.push_reserved(l);
         Ok(())
     }
 
-    /// Takes every literal back, in time in proportion to their number.
+    /// Takes every literal back, in time that goes by their number.
     pub fn clear(&mut self)
-        ensures { self.new ≡ record self.old { lits = [] } }
+        ensures { self.new ≡ [] }
     {
         take_back(&mut self.marks, &self.lits);
         self.lits.clear();
@@ -84,11 +83,11 @@ impl Trail {
 }
 
 // Forgets the values of the listed literals' variables.
-fn take_back(marks: &mut [Option<bool>], lits: &[Lit])
-    requires { Marks marks.old lits.now }
-    ensures { Marks marks.new [] }
+fn take_back(marks: &mut Marks, lits: &[Lit])
+    requires { AreMarks marks.old lits.now }
+    ensures { AreMarks marks.new [] }
 {
     for l in lits {
-        marks[l.var] = None;
+        marks.unset(l.var);
     }
 }

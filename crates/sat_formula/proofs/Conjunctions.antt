@@ -8,8 +8,8 @@ use Rattle.sat_formula.specs.declared.lit.Lit.{Lit}
 use Rattle.sat_formula.specs.declared.cnf.Cnf.{Cnf}
 use Rattle.sat_formula.specs.Lit.{lit_value, IsBelow, top_lit}
 use Rattle.sat_formula.specs.Clause.{clause_true, AllTrue, implications}
-use Rattle.sat_formula.specs.Formula.{Extends, HasValue, WellFormed, Satisfies}
-use Rattle.sat_formula.proofs.Extension.{lit_value-append, Extends-define-to, AllTrue-newer, AllTrue-older}
+use Rattle.sat_formula.specs.Formula.{Grows, HasValue, WellFormed, Satisfies}
+use Rattle.sat_formula.proofs.Extension.{lit_value-append, Grows-define-to, AllTrue-newer, AllTrue-older}
 use Rattle.sat_formula.proofs.GateClauses.{negation, lit_value-negation}
 
 -- whether all are true
@@ -104,9 +104,9 @@ all_clauses_force w n a h =
 
 -- a formula with the new variable and the first of its clauses
 pub all_extends : (f g : Cnf) (w : List Lit) (more rest : List (List Lit)) → WellFormed f → All (IsBelow f.vars) w
-    → g.vars ≡ f.vars + 1 → g.clauses ≡ f.clauses ++ more → more ++ rest ≡ all_clauses w f.vars → Extends f g
+    → g.vars ≡ f.vars + 1 → g.clauses ≡ f.clauses ++ more → more ++ rest ≡ all_clauses w f.vars → Grows f g
 all_extends f g w more rest wf h n e s =
-    Extends-define-to f g (λ a. all_true w a) more wf
+    Grows-define-to f g (λ a. all_true w a) more wf
     (λ a m sat.
     let b : List Bool = a ++ all_true w a ∷ [] in
     let below : All (IsBelow (length a)) w = rw m h in

@@ -1,11 +1,11 @@
-use Rattle.std.proofs.Common.{◌≡◌, ℕ, ◌+◌, ◌<◌, ◌≤◌, Bool, false, List, [], ◌∷◌, ◌++◌, length, IsTrue, All, get_or, refl, sym, ◌∙◌, ap, subst, arith, append_assoc, length-append}
+use Rattle.std.proofs.Common.{◌≡◌, ℕ, ◌+◌, ◌<◌, Bool, false, List, [], ◌∷◌, ◌++◌, length, IsTrue, All, get_or, refl, sym, ◌∙◌, ap, subst, arith, append_assoc, length-append}
 use Rattle.std.proofs.lemmas.List.{get_or_append_left, append-nil, length_push, get_or-append-add}
 use Rattle.std.proofs.lemmas.List.Elements.{All-nil, All-head, All-tail, All-append}
 use Rattle.sat_formula.specs.declared.lit.Lit.{Lit}
 use Rattle.sat_formula.specs.declared.cnf.Cnf.{Cnf}
 use Rattle.sat_formula.specs.Lit.{lit_value, IsBelow}
 use Rattle.sat_formula.specs.Clause.{clause_true, AllTrue, NamesBelow}
-use Rattle.sat_formula.specs.Formula.{Extends, EitherExtends, HasValue, WellFormed, Satisfies}
+use Rattle.sat_formula.specs.Formula.{Extends, Grows, EitherExtends, HasValue, WellFormed, Satisfies}
 
 -- a literal keeps its value under a longer assignment
 pub lit_value-append : (l : Lit) (a b : List Bool) → l.var < length a → lit_value l (a ++ b) ≡ lit_value l a
@@ -34,7 +34,6 @@ AllTrue-newer a cs ds h = λ k d lt.
 pub Extends-refl : (f : Cnf) → Extends f f
 unfolding Extends
 Extends-refl f = record {
-  vars = omega arith;
   clauses = ([], sym (append-nil f.clauses));
   law = λ a n h. ([], (rw (append-nil a) n, rw (append-nil a) h));
 }
@@ -42,7 +41,6 @@ Extends-refl f = record {
 pub Extends-trans : (f g h : Cnf) → Extends f g → Extends g h → Extends f h
 unfolding Extends
 Extends-trans f g h p q = record {
-  vars = let p' = p.vars in let q' = q.vars in omega arith;
   clauses = (p.clauses.0 ++ q.clauses.0, q.clauses.1 ∙ (rw p.clauses.1 (append_assoc f.clauses p.clauses.0 q.clauses.0)));
   law = λ a n sat.
       let s = p.law a n sat in
@@ -56,7 +54,6 @@ pub Extends-define : (f : Cnf) (v : List Bool → Bool) (more : List (List Lit))
     → Extends f (record { vars = f.vars + 1; clauses = f.clauses ++ more })
 unfolding Extends
 Extends-define f v more wf h = record {
-  vars = omega arith;
   clauses = (more, refl);
   law = λ a n sat.
       let within : NamesBelow (length a) f.clauses = rw n wf.within in (
@@ -68,8 +65,21 @@ Extends-define f v more wf h = record {
       );
 }
 
-pub Extends-same : (f g : Cnf) → f ≡ g → Extends f g
-Extends-same f g e = subst (λ (x : Cnf). Extends f x) e (Extends-refl f)
+pub Grows-refl : (f : Cnf) → Grows f f
+Grows-refl f = record { vars = omega arith; extends = Extends-refl f }
+
+pub Grows-trans : (f g h : Cnf) → Grows f g → Grows g h → Grows f h
+Grows-trans f g h p q = record {
+  vars = let a = p.vars in let b = q.vars in omega arith;
+  extends = Extends-trans f g h p.extends q.extends;
+}
+
+pub Grows-same : (f g : Cnf) → f ≡ g → Grows f g
+Grows-same f g e = subst (λ (x : Cnf). Grows f x) e (Grows-refl f)
+
+-- what grew by one variable
+pub Grows-by : (f g : Cnf) → g.vars ≡ f.vars + 1 → Extends f g → Grows f g
+Grows-by f g n e = record { vars = omega arith; extends = e }
 
 pub Cnf-same : (f g : Cnf) → f.vars ≡ g.vars → f.clauses ≡ g.clauses → f ≡ g
 Cnf-same f g v e =
@@ -78,16 +88,16 @@ Cnf-same f g v e =
     p ∙ q
 
 -- the same for any formula with these parts
-pub Extends-define-to : (f g : Cnf) (v : List Bool → Bool) (more : List (List Lit)) → WellFormed f
+pub Grows-define-to : (f g : Cnf) (v : List Bool → Bool) (more : List (List Lit)) → WellFormed f
     → ((a : List Bool) → length a ≡ f.vars → AllTrue a f.clauses → AllTrue (a ++ v a ∷ []) more)
-    → g.vars ≡ f.vars + 1 → g.clauses ≡ f.clauses ++ more → Extends f g
-Extends-define-to f g v more wf h n e =
-    subst (λ (x : Cnf). Extends f x) (Cnf-same (record { vars = f.vars + 1; clauses = f.clauses ++ more }) g (sym n) (sym e)) (Extends-define f v more wf h)
+    → g.vars ≡ f.vars + 1 → g.clauses ≡ f.clauses ++ more → Grows f g
+Grows-define-to f g v more wf h n e =
+    Grows-by f g n (subst (λ (x : Cnf). Extends f x) (Cnf-same (record { vars = f.vars + 1; clauses = f.clauses ++ more }) g (sym n) (sym e)) (Extends-define f v more wf h))
 
 -- one new variable without a clause
-pub Extends-fresh : (f g : Cnf) → WellFormed f → g.vars ≡ f.vars + 1 → g.clauses ≡ f.clauses → Extends f g
-Extends-fresh f g wf v e =
-    Extends-define-to f g (λ _. false) [] wf (λ a n h. All-nil (λ c. IsTrue (clause_true (a ++ false ∷ []) c))) v (e ∙ sym (append-nil f.clauses))
+pub Grows-fresh : (f g : Cnf) → WellFormed f → g.vars ≡ f.vars + 1 → g.clauses ≡ f.clauses → Grows f g
+Grows-fresh f g wf v e =
+    Grows-define-to f g (λ _. false) [] wf (λ a n h. All-nil (λ c. IsTrue (clause_true (a ++ false ∷ []) c))) v (e ∙ sym (append-nil f.clauses))
 
 -- either value of the new variable will do
 pub EitherExtends-fresh : (f g : Cnf) → WellFormed f → g.clauses ≡ f.clauses → EitherExtends f g
@@ -97,18 +107,14 @@ EitherExtends-fresh f g wf e = λ a v n sat.
     rw e (AllTrue-append f.clauses a (v ∷ []) within sat)
 
 -- what satisfies the longer formula satisfies the shorter
-pub Satisfies-older : (f g : Cnf) (a : List Bool) → Extends f g → Satisfies a g → Satisfies a f
+pub Satisfies-older : (f g : Cnf) (a : List Bool) → Grows f g → Satisfies a g → Satisfies a f
 unfolding Extends Satisfies
-Satisfies-older f g a e sat = AllTrue-older a f.clauses e.clauses.0 (rw e.clauses.1 at sat)
-
-pub Extends-vars : (f g : Cnf) → Extends f g → f.vars ≤ g.vars
-unfolding Extends
-Extends-vars f g e = e.vars
+Satisfies-older f g a e sat = AllTrue-older a f.clauses e.extends.clauses.0 (rw e.extends.clauses.1 at sat)
 
 -- what a gate says stays true as the formula grows
-pub HasValue-later : (f g : Cnf) (l : Lit) (gate : List Bool → Bool) → HasValue f l gate → Extends f g → HasValue g l gate
+pub HasValue-later : (f g : Cnf) (l : Lit) (gate : List Bool → Bool) → HasValue f l gate → Grows f g → HasValue g l gate
 HasValue-later f g l gate h e = record {
-  below = let p = h.below in let q = Extends-vars f g e in omega arith;
+  below = let p = h.below in let q = e.vars in omega arith;
   value = λ a sat. h.value a (Satisfies-older f g a e sat);
 }
 
@@ -118,4 +124,4 @@ HasValue-same f l p q h e = record {
   value = λ a sat. h.value a sat ∙ e a sat;
 }
 
-pub ruleset gates = (Extends-refl, Extends-trans, Satisfies-older)
+pub ruleset gates = (Grows-refl, Grows-trans, Satisfies-older)

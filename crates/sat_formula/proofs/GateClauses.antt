@@ -6,8 +6,8 @@ use Rattle.sat_formula.specs.declared.lit.Lit.{Lit}
 use Rattle.sat_formula.specs.declared.cnf.Cnf.{Cnf}
 use Rattle.sat_formula.specs.Lit.{lit_value}
 use Rattle.sat_formula.specs.Clause.{clause_true, AllTrue}
-use Rattle.sat_formula.specs.Formula.{Extends, HasValue, WellFormed, Satisfies}
-use Rattle.sat_formula.proofs.Extension.{lit_value-append, Extends-define-to, AllTrue-newer}
+use Rattle.sat_formula.specs.Formula.{Grows, HasValue, WellFormed, Satisfies}
+use Rattle.sat_formula.proofs.Extension.{lit_value-append, Grows-define-to, AllTrue-newer}
 
 abbrev pub negation : Lit → Lit
 negation l = record { var = l.var; neg = not l.neg }
@@ -81,9 +81,9 @@ and_clauses_force x y n a h =
 
 -- a formula with the new variable and the first k of its clauses
 pub and_extends : (f g : Cnf) (x y : Lit) (k : ℕ) → WellFormed f → x.var < f.vars → y.var < f.vars
-    → g.vars ≡ f.vars + 1 → g.clauses ≡ f.clauses ++ take k (and_clauses x y f.vars) → Extends f g
+    → g.vars ≡ f.vars + 1 → g.clauses ≡ f.clauses ++ take k (and_clauses x y f.vars) → Grows f g
 and_extends f g x y k wf hx hy n e =
-    Extends-define-to f g (λ a. lit_value x a && lit_value y a) (take k (and_clauses x y f.vars)) wf
+    Grows-define-to f g (λ a. lit_value x a && lit_value y a) (take k (and_clauses x y f.vars)) wf
     (λ a m sat.
     let lx : x.var < length a = omega arith in
     let ly : y.var < length a = omega arith in
@@ -194,9 +194,9 @@ mux_clauses_force c y z n a h =
     (rw (lit_value-negation z a) at (h 3 [] (omega arith)))
 
 pub mux_extends : (f g : Cnf) (c y z : Lit) (k : ℕ) → WellFormed f → c.var < f.vars → y.var < f.vars → z.var < f.vars
-    → g.vars ≡ f.vars + 1 → g.clauses ≡ f.clauses ++ take k (mux_clauses c y z f.vars) → Extends f g
+    → g.vars ≡ f.vars + 1 → g.clauses ≡ f.clauses ++ take k (mux_clauses c y z f.vars) → Grows f g
 mux_extends f g c y z k wf hc hy hz n e =
-    Extends-define-to f g (λ a. if lit_value c a then lit_value y a else lit_value z a) (take k (mux_clauses c y z f.vars)) wf
+    Grows-define-to f g (λ a. if lit_value c a then lit_value y a else lit_value z a) (take k (mux_clauses c y z f.vars)) wf
     (λ a m sat.
     let lc : c.var < length a = omega arith in
     let ly : y.var < length a = omega arith in

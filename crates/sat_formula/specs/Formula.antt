@@ -1,6 +1,7 @@
 -- Satisfaction, gates and growth. A gate is a variable that clauses define (Tseitin, "On the
 -- complexity of derivation in propositional calculus", 1968).
-use Rattle.std.specs.Prelude.{◌≡◌, ◌<◌, ◌≤◌, ◌⊎◌, Bool, true, List, [], ◌∷◌, ◌++◌, length}
+use Rattle.std.specs.Prelude.{◌≡◌, ◌<◌, ◌≤◌, ◌⊎◌, Bool, true, not, ◌&&◌, IsTrue, nat_eq, List, [], ◌∷◌, ◌++◌, length, filter}
+use Rattle.std.specs.List.{list_any}
 use Rattle.sat_formula.specs.declared.lit.Lit.{Lit}
 use Rattle.sat_formula.specs.declared.cnf.Cnf.{Cnf}
 use Rattle.sat_formula.specs.Lit.{lit_value, top_lit}
@@ -16,10 +17,9 @@ pub record WellFormed (f : Cnf) : Type 0 where
   pub forced : (a : List Bool) → AllTrue a f.clauses → lit_value top_lit a ≡ true
   pub within : NamesBelow f.vars f.clauses
 
--- the variables and the clauses stay, and each assignment that satisfied the old clauses
--- extends to one that satisfies the new ones
+-- the clauses stay in their places, and each assignment that satisfied them extends to one that
+-- satisfies the new ones
 pub record Extension (old new : Cnf) : Type 0 where
-  pub vars : old.vars ≤ new.vars
   pub clauses : (more : List (List Lit)) × (new.clauses ≡ old.clauses ++ more)
   pub law : (a : List Bool) → length a ≡ old.vars → AllTrue a old.clauses
       → (more : List Bool) × ((length (a ++ more) ≡ new.vars) × AllTrue (a ++ more) new.clauses)
@@ -27,6 +27,12 @@ pub record Extension (old new : Cnf) : Type 0 where
 -- the law of extension, which tactics take as one fact
 unfoldable pub Extends : Cnf → Cnf → Type 0
 Extends old new = Extension old new
+
+-- what a formula may become: its variables and clauses stay in their places, and each assignment
+-- that satisfies it agrees on its variables with one that satisfies the new formula
+pub record Grows (old new : Cnf) : Type 0 where
+  pub vars : old.vars ≤ new.vars
+  pub extends : Extends old new
 
 -- one more variable, either value of which extends each satisfying assignment
 abbrev pub EitherExtends : Cnf → Cnf → Type 0
@@ -44,3 +50,7 @@ IsTrivialPair x y = (x.var ≡ 0) ⊎ ((y.var ≡ 0) ⊎ (x.var ≡ y.var))
 -- the choice is by variable 0 or its negation, or between equal literals
 abbrev pub IsTrivialChoice : Lit → Lit → Lit → Type 0
 IsTrivialChoice c y z = (c.var ≡ 0) ⊎ (y ≡ z)
+
+-- one of them is the negation of variable 0, or at most one is of another variable
+abbrev pub IsTrivialList : List Lit → Type 0
+IsTrivialList lits = IsTrue (list_any (λ l. nat_eq l.var 0 && l.neg) lits) ⊎ (length (filter (λ l. not (nat_eq l.var 0)) lits) ≤ 1)

@@ -3,7 +3,7 @@
 ghost use Rattle.std.specs.Prelude.{◌≡◌, ◌+◌, ◌*◌, ◌^◌, ◌<◌, ◌≤◌, ◌↔◌, ◌++◌, ◌∷◌, [], Bool, true, false, length, IsTrue, IfOk, OnOk, OnErr, All, List};
 ghost use Rattle.sat_formula.specs.Lit.{lit_value, IsBelow, top_lit};
 ghost use Rattle.sat_formula.specs.Clause.{NamesBelow};
-ghost use Rattle.sat_formula.specs.Formula.{Satisfies, WellFormed, Extends, EitherExtends};
+ghost use Rattle.sat_formula.specs.Formula.{Satisfies, WellFormed, Grows, EitherExtends};
 
 use crate::assignment::Assignment;
 use crate::clause::{Clause, Clauses};
@@ -91,8 +91,7 @@ impl Formula {
         ensures longer { OnOk result (self.new ≡ record self.old { vars = self.old.vars + 1 }) }
         ensures free { OnOk result (EitherExtends self.old self.new) }
         ensures err { OnErr result (self.new ≡ self.old) }
-        ensures extends { Extends self.old self.new }
-        ensures grown { self.old.vars ≤ self.new.vars }
+        ensures grows { Grows self.old self.new }
     {
         let var = self.marks.len();
         self.marks.push(false)?;
@@ -122,16 +121,16 @@ impl Formula {
     }
 
     /// The variables and clauses of the formula, with the clause of this one literal last.
-    pub fn with_unit(&self, l: Lit) -> Result<Cnf, AllocError>
+    pub fn with_unit(&self, alloc: Global, l: Lit) -> Result<Cnf, AllocError>
         requires { l.var < self.now.vars }
         ensures same { IfOk result (λ c. c ≡ record self.now { clauses = self.now.clauses ++ (l ∷ []) ∷ [] }) }
         ensures within { IfOk result (λ c. NamesBelow c.vars c.clauses) }
     {
-        let mut clauses = Clauses::new(self.alloc);
+        let mut clauses = Clauses::new(alloc);
         for c in self.clauses.clauses() {
-            clauses.push(Clause::from_vec(Vec::from_slice(self.alloc, c.lits())?))?;
+            clauses.push(Clause::from_vec(Vec::from_slice(alloc, c.lits())?))?;
         }
-        clauses.push(Clause::from_vec(Vec::from_slice(self.alloc, &[l])?))?;
+        clauses.push(Clause::from_vec(Vec::from_slice(alloc, &[l])?))?;
         Ok(Cnf {
             vars: self.vars(),
             clauses,

@@ -4,7 +4,7 @@ ghost use Rattle.std.specs.Prelude.{◌≡◌, ℕ, ◌<◌, ◌≤◌, ◌++◌
 ghost use Rattle.sat_formula.specs.Lit.{lit_value, IsBelow, differ};
 ghost use Rattle.std.specs.List.{list_all, list_any};
 ghost use Rattle.sat_formula.specs.Clause.{implications};
-ghost use Rattle.sat_formula.specs.Formula.{Extends, HasValue, IsTrivialPair, IsTrivialChoice};
+ghost use Rattle.sat_formula.specs.Formula.{Grows, HasValue, IsTrivialPair, IsTrivialChoice, IsTrivialList};
 
 use crate::formula::Formula;
 use crate::lit::Lit;
@@ -16,8 +16,7 @@ impl Formula {
         requires x_below { x.var < self.old.vars }
         requires y_below { y.var < self.old.vars }
         ensures value { IfOk result (λ l. HasValue self.new l (λ a. lit_value x a && lit_value y a)) }
-        ensures extends { Extends self.old self.new }
-        ensures grown { self.old.vars ≤ self.new.vars }
+        ensures grows { Grows self.old self.new }
     {
         // Read for its promise: each clause so far names variables below the count.
         let _ = self.vars();
@@ -35,8 +34,7 @@ impl Formula {
         requires x_below { x.var < self.old.vars }
         requires y_below { y.var < self.old.vars }
         ensures value { IfOk result (λ l. HasValue self.new l (λ a. lit_value x a && lit_value y a)) }
-        ensures extends { Extends self.old self.new }
-        ensures grown { self.old.vars ≤ self.new.vars }
+        ensures grows { Grows self.old self.new }
         ensures trivial { IsTrivialPair x y → self.new ≡ self.old }
     {
         let top = self.top();
@@ -58,8 +56,7 @@ impl Formula {
         requires x_below { x.var < self.old.vars }
         requires y_below { y.var < self.old.vars }
         ensures value { IfOk result (λ l. HasValue self.new l (λ a. lit_value x a || lit_value y a)) }
-        ensures extends { Extends self.old self.new }
-        ensures grown { self.old.vars ≤ self.new.vars }
+        ensures grows { Grows self.old self.new }
         ensures trivial { IsTrivialPair x y → self.new ≡ self.old }
     {
         let both = self.and(x.negated(), y.negated())?;
@@ -73,8 +70,7 @@ impl Formula {
         requires z_below { z.var < self.old.vars }
         ensures value { IfOk result (λ l. HasValue self.new l
             (λ a. if lit_value c a then lit_value y a else lit_value z a)) }
-        ensures extends { Extends self.old self.new }
-        ensures grown { self.old.vars ≤ self.new.vars }
+        ensures grows { Grows self.old self.new }
     {
         // Read for its promise: each clause so far names variables below the count.
         let _ = self.vars();
@@ -96,8 +92,7 @@ impl Formula {
         requires z_below { z.var < self.old.vars }
         ensures value { IfOk result (λ l. HasValue self.new l
             (λ a. if lit_value c a then lit_value y a else lit_value z a)) }
-        ensures extends { Extends self.old self.new }
-        ensures grown { self.old.vars ≤ self.new.vars }
+        ensures grows { Grows self.old self.new }
         ensures trivial { IsTrivialChoice c y z → self.new ≡ self.old }
     {
         let top = self.top();
@@ -133,8 +128,7 @@ impl Formula {
         requires x_below { x.var < self.old.vars }
         requires y_below { y.var < self.old.vars }
         ensures value { IfOk result (λ l. HasValue self.new l (λ a. differ (lit_value x a) (lit_value y a))) }
-        ensures extends { Extends self.old self.new }
-        ensures grown { self.old.vars ≤ self.new.vars }
+        ensures grows { Grows self.old self.new }
         ensures trivial { IsTrivialPair x y → self.new ≡ self.old }
     {
         let top = self.top();
@@ -164,8 +158,7 @@ impl Formula {
         requires x_below { x.var < self.old.vars }
         requires y_below { y.var < self.old.vars }
         ensures value { IfOk result (λ l. HasValue self.new l (λ a. not (differ (lit_value x a) (lit_value y a)))) }
-        ensures extends { Extends self.old self.new }
-        ensures grown { self.old.vars ≤ self.new.vars }
+        ensures grows { Grows self.old self.new }
         ensures trivial { IsTrivialPair x y → self.new ≡ self.old }
     {
         Ok(self.xor(x, y)?.negated())
@@ -190,8 +183,7 @@ impl Formula {
     fn define_all(&mut self, alloc: Global, lits: &[Lit]) -> Result<Lit, AllocError>
         requires { All (IsBelow self.old.vars) lits.now }
         ensures value { IfOk result (λ l. HasValue self.new l (λ a. list_all (λ x. lit_value x a) lits.now)) }
-        ensures extends { Extends self.old self.new }
-        ensures grown { self.old.vars ≤ self.new.vars }
+        ensures grows { Grows self.old self.new }
     {
         // Read for its promise: each clause so far names variables below the count.
         let _ = self.vars();
@@ -210,8 +202,8 @@ impl Formula {
     pub fn and_all(&mut self, alloc: Global, lits: &[Lit]) -> Result<Lit, AllocError>
         requires { All (IsBelow self.old.vars) lits.now }
         ensures value { IfOk result (λ l. HasValue self.new l (λ a. list_all (λ x. lit_value x a) lits.now)) }
-        ensures extends { Extends self.old self.new }
-        ensures grown { self.old.vars ≤ self.new.vars }
+        ensures grows { Grows self.old self.new }
+        ensures trivial { IsTrivialList lits.now → self.new ≡ self.old }
     {
         let top = self.top();
         if has_bottom(lits) {

@@ -199,7 +199,7 @@ fn a_unit_clause_comes_last(rt: HostRuntime) -> Result<(), Fail> {
     let b = f.fresh()?;
     f.add(&[a, b.negated()])?;
     f.add(&[])?;
-    let Cnf { vars, clauses } = f.with_unit(b)?;
+    let Cnf { vars, clauses } = f.with_unit(alloc, b)?;
     assert_eq!(rt; vars, 3);
     let listed = clauses.clauses();
     assert_eq!(rt; listed.len(), 4);

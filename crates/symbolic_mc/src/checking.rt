@@ -55,7 +55,7 @@ fn counterexample(
     } = encode(alloc, source, steps)?;
     let last = states.as_slice()[steps as usize].as_slice();
     let holds = conjunction(alloc, &mut formula, source.inv.as_slice(), last, last)?;
-    let question = formula.with_unit(holds.negated())?;
+    let question = formula.with_unit(alloc, holds.negated())?;
     match search(alloc, &question)? {
         None => Ok(None),
         Some(assignment) => {

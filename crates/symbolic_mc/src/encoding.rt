@@ -1,7 +1,7 @@
 // A level as a formula: the literals of its states, and what an execution asks of them.
 ghost use Rattle.std.specs.Prelude.{◌≡◌, ◌+◌, ◌<◌, ◌≤◌, All, Bool, List, ℕ, true, not, map, length, ◌++◌, slice_index_or, if◌then◌else◌, ◌&&◌, false, Some, IfOk, OnOk};
 ghost use Rattle.std.specs.List.{list_all, list_any};
-ghost use Rattle.sat_formula.specs.Formula.{Extends, HasValue, Satisfies};
+ghost use Rattle.sat_formula.specs.Formula.{Grows, HasValue, Satisfies};
 ghost use Rattle.sat_formula.specs.Lit.{lit_value, IsBelow};
 ghost use Rattle.tla_meaning.specs.Form1.{IsBooleanModule};
 ghost use Rattle.symbolic_mc.specs.Boolean.{allows, holds_at, all_hold, some_holds, init_holds, next_holds, SpeakOf};
@@ -108,8 +108,7 @@ fn some_branch(
     requires within { All (SpeakOf (length now.now)) branches.now }
     ensures value { IfOk result (λ l. HasValue formula.new l
         (λ a. some_holds branches.now (values_of a now.now) (values_of a next.now))) }
-    ensures extends { Extends formula.old formula.new }
-    ensures grown { formula.old.vars ≤ formula.new.vars }
+    ensures grows { Grows formula.old formula.new }
 {
     let mut some = formula.top().negated();
     for branch in branches {
@@ -134,8 +133,7 @@ pub(crate) fn conjunction(
     requires within { SpeakOf (length now.now) conjuncts.now }
     ensures value { IfOk result (λ l. HasValue formula.new l
         (λ a. all_hold conjuncts.now (values_of a now.now) (values_of a next.now))) }
-    ensures extends { Extends formula.old formula.new }
-    ensures grown { formula.old.vars ≤ formula.new.vars }
+    ensures grows { Grows formula.old formula.new }
 {
     let lits = literals(alloc, conjuncts, now, next)?;
     all_of(formula, &lits)
@@ -146,8 +144,7 @@ pub(crate) fn conjunction(
 fn all_of(formula: &mut Formula, lits: &[Lit]) -> Result<Lit, AllocError>
     requires { All (IsBelow formula.old.vars) lits.now }
     ensures value { IfOk result (λ l. HasValue formula.new l (λ a. list_all (λ x. lit_value x a) lits.now)) }
-    ensures extends { Extends formula.old formula.new }
-    ensures grown { formula.old.vars ≤ formula.new.vars }
+    ensures grows { Grows formula.old formula.new }
 {
     let mut all = formula.top();
     for lit in lits {
@@ -178,8 +175,7 @@ fn fresh_state(alloc: Global, formula: &mut Formula, vars: usize) -> Result<List
     ensures size { OnOk result (formula.new.vars ≡ formula.old.vars + vars) }
     ensures free { IfOk result (λ state. (a bits : List Bool) → length a ≡ formula.old.vars → Satisfies a formula.old
         → length bits ≡ vars → Satisfies (a ++ bits) formula.new × (values_of (a ++ bits) state ≡ bits)) }
-    ensures extends { Extends formula.old formula.new }
-    ensures grown { formula.old.vars ≤ formula.new.vars }
+    ensures grows { Grows formula.old formula.new }
 {
     let mut state = Vec::new(alloc);
     for _made in 0..vars {

@@ -50,7 +50,7 @@ fn write_states(
         [] => Ok(()),
         [state, rest @ ..] => {
             write_number(alloc, out, number)?;
-            write_values(out, names, state.vals.as_slice())?;
+            write_values(alloc, out, names, state.vals.as_slice())?;
             write_states(alloc, out, names, number + 1, rest)
         }
     }
@@ -64,7 +64,12 @@ fn write_number(alloc: Global, out: &mut Vec<u8>, number: u64) -> Result<(), All
 }
 
 // A line for each name.
-fn write_values(out: &mut Vec<u8>, names: &[Text], vals: &[Value]) -> Result<(), AllocError>
+fn write_values(
+    alloc: Global,
+    out: &mut Vec<u8>,
+    names: &[Text],
+    vals: &[Value],
+) -> Result<(), AllocError>
     ensures { OnOk result (out.new.items ≡ out.old.items ++ value_lines names.now vals.now) }
 {
     let [name, names @ ..] = names else {
@@ -73,16 +78,21 @@ fn write_values(out: &mut Vec<u8>, names: &[Text], vals: &[Value]) -> Result<(),
     let [value, vals @ ..] = vals else {
         return Ok(());
     };
-    write_value(out, name, value)?;
-    write_values(out, names, vals)
+    write_value(alloc, out, name, value)?;
+    write_values(alloc, out, names, vals)
 }
 
-fn write_value(out: &mut Vec<u8>, name: &Text, value: &Value) -> Result<(), AllocError>
+fn write_value(
+    alloc: Global,
+    out: &mut Vec<u8>,
+    name: &Text,
+    value: &Value,
+) -> Result<(), AllocError>
     ensures { OnOk result (out.new.items ≡ out.old.items ++ value_line name.now value.now) }
 {
     out.extend_from_slice(b"/\\ ")?;
     out.extend_from_slice(name.bytes())?;
     out.extend_from_slice(b" = ")?;
-    show(value, out)?;
+    show(alloc, value, out)?;
     out.extend_from_slice(b"\n")
 }

@@ -22,7 +22,7 @@ ghost use Rattle.tla_values.specs.Show.{
 use crate::names::is_name;
 use crate::value::Value;
 use itoa::Buffer;
-use std::alloc::AllocError;
+use std::alloc::{AllocError, Global};
 
 /// Adds the text of a value: `TRUE`, `-5`, `"a\"b"`, `{1, 2}`, `<<1, 2>>`, `[a |-> 1]`, `(0 :> 1 @@ 2 :> 3)`.
 ///
@@ -30,8 +30,15 @@ use std::alloc::AllocError;
 /// that are names as a record. The bytes `"` and `\`, tab, line feed, form feed and carriage return of a text are
 /// written with a backslash, all others as they are. After a refusal `out` begins with its old bytes.
 /// Source: Specifying Systems, chapters 14 and 16.
-#[cycle(show)]
-pub fn show(v: &Value, out: &mut Vec<u8>) -> Result<(), AllocError>
+pub fn show(_alloc: Global, v: &Value, out: &mut Vec<u8>) -> Result<(), AllocError>
+    ensures text { OnOk result (out.new.items ≡ out.old.items ++ text_of v.now) }
+    ensures begins { Begins out.old.items out.new.items }
+{
+    show_value(v, out)
+}
+
+#[cycle(show_value)]
+fn show_value(v: &Value, out: &mut Vec<u8>) -> Result<(), AllocError>
     ensures text { OnOk result (out.new.items ≡ out.old.items ++ text_of v.now) }
     ensures begins { Begins out.old.items out.new.items }
 {
@@ -98,7 +105,7 @@ fn show_byte(byte: u8, out: &mut Vec<u8>) -> Result<(), AllocError>
     }
 }
 
-#[cycle(show)]
+#[cycle(show_value)]
 fn show_set(members: &[Value], out: &mut Vec<u8>) -> Result<(), AllocError>
     ensures text { OnOk result (out.new.items ≡ out.old.items ++ set_text (map shown members.now)) }
     ensures begins { Begins out.old.items out.new.items }
@@ -106,12 +113,12 @@ fn show_set(members: &[Value], out: &mut Vec<u8>) -> Result<(), AllocError>
     append(b"{", out)?;
     for i in 0..members.len() {
         separate(i, b", ", out)?;
-        show(&members[i], out)?;
+        show_value(&members[i], out)?;
     }
     append(b"}", out)
 }
 
-#[cycle(show)]
+#[cycle(show_value)]
 fn show_function(pairs: &[(Value, Value)], out: &mut Vec<u8>) -> Result<(), AllocError>
     ensures text { OnOk result (out.new.items ≡ out.old.items ++ function_text (pairs_shown pairs.now)) }
     ensures begins { Begins out.old.items out.new.items }
@@ -183,7 +190,7 @@ fn name_of(v: &Value) -> Option<&[u8]>
     }
 }
 
-#[cycle(show)]
+#[cycle(show_value)]
 fn show_tuple(pairs: &[(Value, Value)], out: &mut Vec<u8>) -> Result<(), AllocError>
     ensures text { OnOk result (out.new.items ≡ out.old.items ++ tuple_text (pairs_shown pairs.now)) }
     ensures begins { Begins out.old.items out.new.items }
@@ -191,12 +198,12 @@ fn show_tuple(pairs: &[(Value, Value)], out: &mut Vec<u8>) -> Result<(), AllocEr
     append(b"<<", out)?;
     for i in 0..pairs.len() {
         separate(i, b", ", out)?;
-        show(&pairs[i].1, out)?;
+        show_value(&pairs[i].1, out)?;
     }
     append(b">>", out)
 }
 
-#[cycle(show)]
+#[cycle(show_value)]
 fn show_record(pairs: &[(Value, Value)], out: &mut Vec<u8>) -> Result<(), AllocError>
     ensures text { OnOk result (out.new.items ≡ out.old.items ++ record_text (pairs_shown pairs.now)) }
     ensures begins { Begins out.old.items out.new.items }
@@ -207,7 +214,7 @@ fn show_record(pairs: &[(Value, Value)], out: &mut Vec<u8>) -> Result<(), AllocE
         separate(i, b", ", out)?;
         show_name(&pair.0, out)?;
         append(b" |-> ", out)?;
-        show(&pair.1, out)?;
+        show_value(&pair.1, out)?;
     }
     append(b"]", out)
 }
@@ -224,7 +231,7 @@ fn show_name(v: &Value, out: &mut Vec<u8>) -> Result<(), AllocError>
     }
 }
 
-#[cycle(show)]
+#[cycle(show_value)]
 fn show_pairs(pairs: &[(Value, Value)], out: &mut Vec<u8>) -> Result<(), AllocError>
     ensures text { OnOk result (out.new.items ≡ out.old.items ++ pairs_text (pairs_shown pairs.now)) }
     ensures begins { Begins out.old.items out.new.items }
@@ -233,9 +240,9 @@ fn show_pairs(pairs: &[(Value, Value)], out: &mut Vec<u8>) -> Result<(), AllocEr
     for i in 0..pairs.len() {
         let pair = &pairs[i];
         separate(i, b" @@ ", out)?;
-        show(&pair.0, out)?;
+        show_value(&pair.0, out)?;
         append(b" :> ", out)?;
-        show(&pair.1, out)?;
+        show_value(&pair.1, out)?;
     }
     append(b")", out)
 }

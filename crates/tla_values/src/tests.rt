@@ -26,7 +26,7 @@ fn shows(rt: &HostRuntime, v: &Value, want: &[u8]) -> Result<bool, Fail> {
     let mut out = Vec::from_slice(rt.alloc(), b"= ")?;
     let mut wanted = Vec::from_slice(rt.alloc(), b"= ")?;
     wanted.extend_from_slice(want)?;
-    show(v, &mut out)?;
+    show(rt.alloc(), v, &mut out)?;
     Ok(out.as_slice() == wanted.as_slice())
 }
 

@@ -2,7 +2,7 @@
 
 ghost use Rattle.std.specs.Prelude.{◌≡◌, ◌+◌, ◌-◌, ◌*◌, ◌^◌, ◌<◌, ◌≤◌, Bool, length, IfOk, List, if◌then◌else◌, ℤ, ◌+ℤ◌, ◌-ℤ◌, neg_ℤ};
 ghost use Rattle.sat_formula.specs.Lit.{lit_value, differ};
-ghost use Rattle.sat_formula.specs.Formula.{Extends, HasValue, Satisfies};
+ghost use Rattle.sat_formula.specs.Formula.{Grows, HasValue, Satisfies};
 ghost use Rattle.word_blaster.specs.Word.{word_value, bit, number, taken, signed, values, IsExact, WordBelow};
 
 use crate::bitwise::{complement, filled};
@@ -17,8 +17,7 @@ fn full_adder(f: &mut Formula, x: Lit, y: Lit, z: Lit) -> Result<(Lit, Lit), All
     requires z_below { z.var < f.old.vars }
     ensures sum { IfOk result (λ r. HasValue f.new r.0 (λ a. differ (differ (lit_value x a) (lit_value y a)) (lit_value z a))) }
     ensures carry { IfOk result (λ r. HasValue f.new r.1 (λ a. if differ (lit_value x a) (lit_value y a) then lit_value z a else lit_value x a)) }
-    ensures extends { Extends f.old f.new }
-    ensures grown { f.old.vars ≤ f.new.vars }
+    ensures grows { Grows f.old f.new }
 {
     let half = f.xor(x, y)?;
     let sum = f.xor(half, z)?;
@@ -43,8 +42,7 @@ pub(crate) fn ripple(
     ensures len { IfOk result (λ r. length r.0.items ≡ length x.now) }
     ensures carry_out { IfOk result (λ r. r.1.var < f.new.vars) }
     ensures value { IfOk result (λ r. (a : List Bool) → Satisfies a f.new → number (values r.0.items a) + bit (lit_value r.1 a) * 2 ^ length x.now ≡ number (values x.now a) + number (values y.now a) + bit (lit_value carry_in a)) }
-    ensures extends { Extends f.old f.new }
-    ensures grown { f.old.vars ≤ f.new.vars }
+    ensures grows { Grows f.old f.new }
 {
     let mut sum = Vec::new(alloc);
     let mut carry = carry_in;
@@ -73,8 +71,7 @@ pub(crate) fn wide_sum(
     ensures below { IfOk result (λ r. WordBelow f.new.vars r.items) }
     ensures len { IfOk result (λ r. length r.items ≡ length x.now + 1) }
     ensures value { IfOk result (λ r. (a : List Bool) → Satisfies a f.new → number (values r.items a) + taken (values x.now a) + taken (values y.now a) ≡ number (values x.now a) + number (values y.now a) + bit (lit_value carry_in a) + taken (values r.items a)) }
-    ensures extends { Extends f.old f.new }
-    ensures grown { f.old.vars ≤ f.new.vars }
+    ensures grows { Grows f.old f.new }
 {
     let last = x.len() - 1;
     let (mut sum, carry) = ripple(alloc, f, x, y, carry_in)?;
@@ -99,8 +96,7 @@ pub(crate) fn wide_difference(
     ensures below { IfOk result (λ r. WordBelow f.new.vars r.items) }
     ensures len { IfOk result (λ r. length r.items ≡ length x.now + 1) }
     ensures value { IfOk result (λ r. (a : List Bool) → Satisfies a f.new → number (values r.items a) + taken (values x.now a) + number (values y.now a) ≡ number (values x.now a) + taken (values y.now a) + taken (values r.items a)) }
-    ensures extends { Extends f.old f.new }
-    ensures grown { f.old.vars ≤ f.new.vars }
+    ensures grows { Grows f.old f.new }
 {
     let turned = complement(alloc, y)?;
     let one = f.top();
@@ -120,8 +116,7 @@ pub(crate) fn narrow(
     requires enough { width ≤ length x.now }
     requires x_below { WordBelow f.old.vars x.now }
     ensures exact { IfOk result (λ r. IsExact f.new width r.0 r.1 (λ a. signed (values x.now a))) }
-    ensures extends { Extends f.old f.new }
-    ensures grown { f.old.vars ≤ f.new.vars }
+    ensures grows { Grows f.old f.new }
 {
     let mut outside = f.top().negated();
     for i in width..x.len() {
@@ -143,8 +138,7 @@ pub fn add(alloc: Global, f: &mut Formula, x: &Word, y: &Word) -> Result<(Word, 
     requires x_below { WordBelow f.old.vars x.now }
     requires y_below { WordBelow f.old.vars y.now }
     ensures exact { IfOk result (λ r. IsExact f.new (length x.now) r.0 r.1 (λ a. word_value x.now a +ℤ word_value y.now a)) }
-    ensures extends { Extends f.old f.new }
-    ensures grown { f.old.vars ≤ f.new.vars }
+    ensures grows { Grows f.old f.new }
 {
     let zero = f.top().negated();
     let sum = wide_sum(alloc, f, x.lits(), y.lits(), zero)?;
@@ -163,8 +157,7 @@ pub fn sub(alloc: Global, f: &mut Formula, x: &Word, y: &Word) -> Result<(Word, 
     requires x_below { WordBelow f.old.vars x.now }
     requires y_below { WordBelow f.old.vars y.now }
     ensures exact { IfOk result (λ r. IsExact f.new (length x.now) r.0 r.1 (λ a. word_value x.now a -ℤ word_value y.now a)) }
-    ensures extends { Extends f.old f.new }
-    ensures grown { f.old.vars ≤ f.new.vars }
+    ensures grows { Grows f.old f.new }
 {
     let difference = wide_difference(alloc, f, x.lits(), y.lits())?;
     let exact = narrow(alloc, f, difference.as_slice(), x.lits().len())?;
@@ -180,8 +173,7 @@ pub fn neg(alloc: Global, f: &mut Formula, x: &Word) -> Result<(Word, Lit), Allo
     requires some { 0 < length x.now }
     requires x_below { WordBelow f.old.vars x.now }
     ensures exact { IfOk result (λ r. IsExact f.new (length x.now) r.0 r.1 (λ a. neg_ℤ (word_value x.now a))) }
-    ensures extends { Extends f.old f.new }
-    ensures grown { f.old.vars ≤ f.new.vars }
+    ensures grows { Grows f.old f.new }
 {
     let zero = filled(alloc, f.top().negated(), x.lits().len())?;
     let difference = wide_difference(alloc, f, zero.as_slice(), x.lits())?;

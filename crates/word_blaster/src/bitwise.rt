@@ -2,7 +2,7 @@
 
 ghost use Rattle.std.specs.Prelude.{◌≡◌, ◌<◌, ◌≤◌, ◌&&◌, Bool, not, length, IfOk, List, if◌then◌else◌, map, replicate};
 ghost use Rattle.sat_formula.specs.Lit.{lit_value};
-ghost use Rattle.sat_formula.specs.Formula.{Extends, Satisfies};
+ghost use Rattle.sat_formula.specs.Formula.{Grows, Satisfies};
 ghost use Rattle.word_blaster.specs.Word.{values, WordBelow};
 
 use sat_formula::{Formula, Lit};
@@ -48,8 +48,7 @@ pub(crate) fn masked(
     ensures below { IfOk result (λ r. WordBelow f.new.vars r.items) }
     ensures len { IfOk result (λ r. length r.items ≡ length x.now) }
     ensures value { IfOk result (λ r. (a : List Bool) → Satisfies a f.new → values r.items a ≡ map (λ b. b && lit_value l a) (values x.now a)) }
-    ensures extends { Extends f.old f.new }
-    ensures grown { f.old.vars ≤ f.new.vars }
+    ensures grows { Grows f.old f.new }
 {
     let mut bits = Vec::new(alloc);
     for i in 0..x.len() {
@@ -75,8 +74,7 @@ pub(crate) fn choose(
     ensures below { IfOk result (λ r. WordBelow f.new.vars r.items) }
     ensures len { IfOk result (λ r. length r.items ≡ length x.now) }
     ensures value { IfOk result (λ r. (a : List Bool) → Satisfies a f.new → values r.items a ≡ (if lit_value c a then values x.now a else values y.now a)) }
-    ensures extends { Extends f.old f.new }
-    ensures grown { f.old.vars ≤ f.new.vars }
+    ensures grows { Grows f.old f.new }
 {
     let mut bits = Vec::new(alloc);
     for i in 0..x.len() {

@@ -4,7 +4,7 @@ ghost use Rattle.std.specs.Prelude.{◌≡◌, ◌<◌, ◌≤◌, Bool, List, l
 ghost use Rattle.std.specs.Ordering.{int_eq};
 ghost use Rattle.std.specs.List.{list_all};
 ghost use Rattle.sat_formula.specs.Lit.{lit_value};
-ghost use Rattle.sat_formula.specs.Formula.{Extends, HasValue, Satisfies};
+ghost use Rattle.sat_formula.specs.Formula.{Grows, HasValue, Satisfies};
 ghost use Rattle.word_blaster.specs.Word.{word_value, number, signed, values, WordBelow};
 
 use sat_formula::{Formula, Lit, Word};
@@ -19,8 +19,7 @@ fn agreements(alloc: Global, f: &mut Formula, x: &[Lit], y: &[Lit]) -> Result<Ve
     requires y_below { WordBelow f.old.vars y.now }
     ensures below { IfOk result (λ r. WordBelow f.new.vars r.items) }
     ensures value { IfOk result (λ r. (a : List Bool) → Satisfies a f.new → list_all (λ l. lit_value l a) r.items ≡ (number (values x.now a) == number (values y.now a))) }
-    ensures extends { Extends f.old f.new }
-    ensures grown { f.old.vars ≤ f.new.vars }
+    ensures grows { Grows f.old f.new }
 {
     let mut agree = Vec::new(alloc);
     for i in 0..x.len() {
@@ -37,8 +36,7 @@ fn number_below(f: &mut Formula, x: &[Lit], y: &[Lit]) -> Result<Lit, AllocError
     requires x_below { WordBelow f.old.vars x.now }
     requires y_below { WordBelow f.old.vars y.now }
     ensures value { IfOk result (λ r. HasValue f.new r (λ a. nat_lt (number (values x.now a)) (number (values y.now a)))) }
-    ensures extends { Extends f.old f.new }
-    ensures grown { f.old.vars ≤ f.new.vars }
+    ensures grows { Grows f.old f.new }
 {
     let mut below = f.top().negated();
     for i in 0..x.len() {
@@ -59,8 +57,7 @@ pub fn equal(alloc: Global, f: &mut Formula, x: &Word, y: &Word) -> Result<Lit, 
     requires x_below { WordBelow f.old.vars x.now }
     requires y_below { WordBelow f.old.vars y.now }
     ensures value { IfOk result (λ r. HasValue f.new r (λ a. int_eq (word_value x.now a) (word_value y.now a))) }
-    ensures extends { Extends f.old f.new }
-    ensures grown { f.old.vars ≤ f.new.vars }
+    ensures grows { Grows f.old f.new }
 {
     let agree = agreements(alloc, f, x.lits(), y.lits())?;
     let same = f.and_all(alloc, agree.as_slice())?;
@@ -71,14 +68,13 @@ pub fn equal(alloc: Global, f: &mut Formula, x: &Word, y: &Word) -> Result<Lit, 
 /// Over free words it adds 16, 64 and 128 variables, and 63, 255 and 511 clauses, at
 /// widths 8, 32 and 64.
 #[tactic(auto, using(sat_formula::proofs::Extension::gates, crate::proofs::Words::words))]
-pub fn less(f: &mut Formula, x: &Word, y: &Word) -> Result<Lit, AllocError>
+pub fn less(_alloc: Global, f: &mut Formula, x: &Word, y: &Word) -> Result<Lit, AllocError>
     requires some { 0 < length x.now }
     requires same { length x.now ≡ length y.now }
     requires x_below { WordBelow f.old.vars x.now }
     requires y_below { WordBelow f.old.vars y.now }
     ensures value { IfOk result (λ r. HasValue f.new r (λ a. int_lt (word_value x.now a) (word_value y.now a))) }
-    ensures extends { Extends f.old f.new }
-    ensures grown { f.old.vars ≤ f.new.vars }
+    ensures grows { Grows f.old f.new }
 {
     let p = x.lits();
     let q = y.lits();

@@ -1,7 +1,7 @@
 //! Words of known numbers.
 
 ghost use Rattle.std.specs.Prelude.{◌≡◌, ◌<◌, ◌≤◌, IfOk};
-ghost use Rattle.sat_formula.specs.Formula.{Extends};
+ghost use Rattle.sat_formula.specs.Formula.{Grows};
 ghost use Rattle.word_blaster.specs.Word.{IsExact, magnitude};
 
 use crate::bitwise::constant;
@@ -27,8 +27,7 @@ pub fn literal(
     requires { 0 < width }
     ensures exact { IfOk result (λ r. IsExact f.new width r.0 r.1 (λ a. n)) }
     ensures unchanged { f.new ≡ f.old }
-    ensures extends { Extends f.old f.new }
-    ensures grown { f.old.vars ≤ f.new.vars }
+    ensures grows { Grows f.old f.new }
 {
     let negative = n.is_negative();
     let mut rest = magnitude_of(n);

@@ -2,7 +2,7 @@
 
 ghost use Rattle.std.specs.Prelude.{◌≡◌, ◌+◌, ◌*◌, ◌<◌, ◌≤◌, Bool, length, IfOk, List, ℤ, ◌*ℤ◌};
 ghost use Rattle.sat_formula.specs.Lit.{lit_value};
-ghost use Rattle.sat_formula.specs.Formula.{Extends, Satisfies};
+ghost use Rattle.sat_formula.specs.Formula.{Grows, Satisfies};
 ghost use Rattle.word_blaster.specs.Word.{word_value, bit, number, taken, signed, values, IsExact, WordBelow};
 
 use crate::adders::{narrow, wide_difference, wide_sum};
@@ -28,8 +28,7 @@ fn add_part(
     ensures below { IfOk result (λ r. WordBelow f.new.vars r.1.items) }
     ensures len { IfOk result (λ r. length r.1.items ≡ length x.now) }
     ensures value { IfOk result (λ r. (a : List Bool) → Satisfies a f.new → bit (lit_value r.0 a) + 2 * number (values r.1.items a) + taken (values high.now a) + bit (lit_value l a) * taken (values x.now a) ≡ number (values high.now a) + bit (lit_value l a) * number (values x.now a) + 2 * taken (values r.1.items a)) }
-    ensures extends { Extends f.old f.new }
-    ensures grown { f.old.vars ≤ f.new.vars }
+    ensures grows { Grows f.old f.new }
 {
     let zero = f.top().negated();
     let part = masked(alloc, f, x, l)?;
@@ -55,8 +54,7 @@ fn wide_product(
     ensures below { IfOk result (λ r. WordBelow f.new.vars r.items) }
     ensures len { IfOk result (λ r. length r.items ≡ length x.now + length y.now) }
     ensures value { IfOk result (λ r. (a : List Bool) → Satisfies a f.new → signed (values r.items a) ≡ signed (values x.now a) *ℤ signed (values y.now a)) }
-    ensures extends { Extends f.old f.new }
-    ensures grown { f.old.vars ≤ f.new.vars }
+    ensures grows { Grows f.old f.new }
 {
     let zero = f.top().negated();
     let last = y.len() - 1;
@@ -84,8 +82,7 @@ pub fn mul(alloc: Global, f: &mut Formula, x: &Word, y: &Word) -> Result<(Word, 
     requires x_below { WordBelow f.old.vars x.now }
     requires y_below { WordBelow f.old.vars y.now }
     ensures exact { IfOk result (λ r. IsExact f.new (length x.now) r.0 r.1 (λ a. word_value x.now a *ℤ word_value y.now a)) }
-    ensures extends { Extends f.old f.new }
-    ensures grown { f.old.vars ≤ f.new.vars }
+    ensures grows { Grows f.old f.new }
 {
     let product = wide_product(alloc, f, x.lits(), y.lits())?;
     let exact = narrow(alloc, f, product.as_slice(), x.lits().len())?;

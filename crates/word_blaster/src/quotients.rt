@@ -2,7 +2,7 @@
 
 ghost use Rattle.std.specs.Prelude.{◌≡◌, ℕ, suc, ◌+◌, ◌<◌, ◌≤◌, Bool, length, IfOk, List, pos};
 ghost use Rattle.sat_formula.specs.Lit.{lit_value};
-ghost use Rattle.sat_formula.specs.Formula.{Extends, Satisfies};
+ghost use Rattle.sat_formula.specs.Formula.{Grows, Satisfies};
 ghost use Rattle.word_blaster.specs.Division.{IsDivideStep, IsFirstRest, IsDivided};
 ghost use Rattle.word_blaster.specs.Quotient.{IsDividedWhere, IsFloorQuotient, IsFloorRemainder};
 ghost use Rattle.word_blaster.specs.Word.{values, WordBelow};
@@ -29,8 +29,7 @@ fn divide_step(
     ensures below { IfOk result (λ r. WordBelow f.new.vars r.1.items) }
     ensures len { IfOk result (λ r. length r.1.items ≡ length rest.now) }
     ensures value { IfOk result (λ r. (a : List Bool) → Satisfies a f.new → IsDivideStep (lit_value lowest a) (values y.now a) (values rest.now a) (lit_value r.0 a) (values r.1.items a)) }
-    ensures extends { Extends f.old f.new }
-    ensures grown { f.old.vars ≤ f.new.vars }
+    ensures grows { Grows f.old f.new }
 {
     let one = f.top();
     let turned = complement(alloc, y)?;
@@ -53,8 +52,7 @@ fn first_rest(alloc: Global, f: &mut Formula, y: &[Lit], l: Lit) -> Result<Vec<L
     ensures below { IfOk result (λ r. WordBelow f.new.vars r.items) }
     ensures len { IfOk result (λ r. length r.items + 1 ≡ length y.now) }
     ensures value { IfOk result (λ r. (a : List Bool) → Satisfies a f.new → IsFirstRest (lit_value l a) (values y.now a) (values r.items a)) }
-    ensures extends { Extends f.old f.new }
-    ensures grown { f.old.vars ≤ f.new.vars }
+    ensures grows { Grows f.old f.new }
 {
     let top = f.top();
     let zero = top.negated();
@@ -82,8 +80,7 @@ fn divide(
     ensures quotient_len { IfOk result (λ r. length r.0.items ≡ length x.now) }
     ensures rest_len { IfOk result (λ r. length r.1.items + 1 ≡ length x.now) }
     ensures value { IfOk result (λ r. (a : List Bool) → Satisfies a f.new → IsDivided (values y.now a) (values x.now a) (values r.0.items a) (values r.1.items a)) }
-    ensures extends { Extends f.old f.new }
-    ensures grown { f.old.vars ≤ f.new.vars }
+    ensures grows { Grows f.old f.new }
 {
     let last = x.len() - 1;
     let sign = x[last];
@@ -119,8 +116,7 @@ pub fn div_rem_floor(
     ensures rest_width { IfOk result (λ r. length r.1 ≡ length x.now) }
     ensures rest { IfOk result (λ r. IsFloorRemainder f.new x.now y.now r.1) }
     ensures division { IfOk result (λ r. IsDividedWhere f.new x.now y.now r.0 r.1) }
-    ensures extends { Extends f.old f.new }
-    ensures grown { f.old.vars ≤ f.new.vars }
+    ensures grows { Grows f.old f.new }
 {
     let zero = f.top().negated();
     let (quotient, mut rest) = divide(alloc, f, x.lits(), y.lits())?;
@@ -140,8 +136,7 @@ pub fn div_floor(alloc: Global, f: &mut Formula, x: &Word, y: &Word) -> Result<W
     ensures below { IfOk result (λ r. WordBelow f.new.vars r) }
     ensures width { IfOk result (λ r. length r ≡ length x.now) }
     ensures value { IfOk result (λ r. IsFloorQuotient f.new x.now y.now r) }
-    ensures extends { Extends f.old f.new }
-    ensures grown { f.old.vars ≤ f.new.vars }
+    ensures grows { Grows f.old f.new }
 {
     let (quotient, _rest) = div_rem_floor(alloc, f, x, y)?;
     Ok(quotient)
@@ -159,8 +154,7 @@ pub fn rem_floor(alloc: Global, f: &mut Formula, x: &Word, y: &Word) -> Result<W
     ensures below { IfOk result (λ r. WordBelow f.new.vars r) }
     ensures width { IfOk result (λ r. length r ≡ length x.now) }
     ensures value { IfOk result (λ r. IsFloorRemainder f.new x.now y.now r) }
-    ensures extends { Extends f.old f.new }
-    ensures grown { f.old.vars ≤ f.new.vars }
+    ensures grows { Grows f.old f.new }
 {
     let (_quotient, rest) = div_rem_floor(alloc, f, x, y)?;
     Ok(rest)

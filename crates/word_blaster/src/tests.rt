@@ -87,7 +87,7 @@ fn answer_of(
         Call::RemFloor => only_word(rem_floor(alloc, f, x, y)?),
         Call::Quotient => only_word(div_rem_floor(alloc, f, x, y)?.0),
         Call::Rest => only_word(div_rem_floor(alloc, f, x, y)?.1),
-        Call::Less => only_lit(less(f, x, y)?),
+        Call::Less => only_lit(less(alloc, f, x, y)?),
         Call::Equal => only_lit(equal(alloc, f, x, y)?),
     })
 }

@@ -4,7 +4,6 @@ use Rattle.refutation_checker.proofs.checking.check.Given as goal
 
 abbrev pub invariant-loop-i : goal.invariant-loop-i
 invariant-loop-i l = record {
-  room : l.trail.room ≡ l.room;
-  empty : l.trail.lits ≡ [];
+  empty : l.trail ≡ [];
   follow : (k : ℕ) → k < l.i → StepFollows l.clauses l.steps k;
 }

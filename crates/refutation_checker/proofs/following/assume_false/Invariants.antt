@@ -4,7 +4,6 @@ use Rattle.refutation_checker.proofs.following.assume_false.Given as goal
 
 abbrev pub invariant-loop-l : goal.invariant-loop-l
 invariant-loop-l l = record {
-  room : l.trail.room ≡ l.initial.trail.room;
-  made : l.trail.lits ≡ map negation (take l.l-index l.lits);
+  made : l.trail ≡ map negation (take l.l-index l.lits);
   apart : HasNoOpposites (take l.l-index l.lits);
 }

@@ -1,9 +1,6 @@
-use Rattle.std.proofs.Common.{◌≡◌, ◌↔◌, ◌++◌, map, drop}
-use Rattle.refutation_checker.specs.Follows.{Propagates}
+use Rattle.std.proofs.Common.{◌↔◌, drop}
+use Rattle.refutation_checker.specs.Follows.{known, Propagates}
 use Rattle.refutation_checker.proofs.following.hints_work.Given as goal
 
 abbrev pub invariant-loop-i : goal.invariant-loop-i
-invariant-loop-i l = record {
-  room : l.trail.room ≡ l.initial.trail.room;
-  left : Propagates (l.formula ++ map (λ s. s.lits) l.steps) l.initial.trail.lits l.hints ↔ Propagates (l.formula ++ map (λ s. s.lits) l.steps) l.trail.lits (drop l.i l.hints);
-}
+invariant-loop-i l = Propagates (known l.formula l.steps) l.initial.trail l.hints ↔ Propagates (known l.formula l.steps) l.trail (drop l.i l.hints)

@@ -3,4 +3,4 @@ use Rattle.refutation_checker.proofs.StatusLemmas.{Found}
 use Rattle.refutation_checker.proofs.following.status_of.Given as goal
 
 abbrev pub invariant-loop-l : goal.invariant-loop-l
-invariant-loop-l l = Found l.trail.lits (take l.l-index l.clause) l.found
+invariant-loop-l l = Found l.trail (take l.l-index l.clause) l.found

@@ -12,8 +12,8 @@ pub returns-clause-exact : goal.returns-clause-exact
 returns-clause-exact c =
     let e = c.in_ok-exact.ensures.exact in
     IsExact-same _ _ _ _ _ _ _ (ap length c.lits-3.ensures) e (λ a s2.
-    let s1 = Satisfies-older _ _ a c.in_ok-exact.ensures.extends s2 in
-    let s0 = Satisfies-older _ _ a c.in_ok-sum.ensures.extends s1 in
+    let s1 = Satisfies-older _ _ a c.in_ok-exact.ensures.grows s2 in
+    let s0 = Satisfies-older _ _ a c.in_ok-sum.ensures.grows s1 in
     let z : bit (lit_value c.negated-zero.result a) ≡ 0 = ap bit (turned-value c.top.result c.negated-zero.result a c.negated-zero.ensures ∙ ap not (c.top.ensures.forced a s0)) in
     let r : values c.as_slice.result.now a ≡ values c.in_ok-sum.sum.items a = ap (λ (w : List Lit). values w a) c.as_slice.ensures.value in
     let v = c.in_ok-sum.ensures.value a s1 in

@@ -17,8 +17,8 @@ pub returns-clause-exact : goal.returns-clause-exact
 returns-clause-exact c =
     let e = c.in_ok-exact.ensures.exact in
     IsExact-same _ _ _ _ _ _ _ (ap length c.lits-3.ensures) e (λ a s2.
-    let s1 = Satisfies-older _ _ a c.in_ok-exact.ensures.extends s2 in
-    let s0 = Satisfies-older _ _ a c.in_ok-difference.ensures.extends s1 in
+    let s1 = Satisfies-older _ _ a c.in_ok-exact.ensures.grows s2 in
+    let s0 = Satisfies-older _ _ a c.in_ok-difference.ensures.grows s1 in
     let b : lit_value c.negated.result a ≡ false = turned-value c.top.result c.negated.result a c.negated.ensures ∙ ap not (c.top.ensures.forced a s0) in
     let n = length c.lits.result.now in
     let z : values c.as_slice.result.now a ≡ values (replicate n c.negated.result) a = ap (λ (w : List Lit). values w a) (c.as_slice.ensures.value ∙ c.in_ok-zero.ensures) in

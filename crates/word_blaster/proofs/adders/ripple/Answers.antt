@@ -2,7 +2,7 @@ use Rattle.std.proofs.Common.{◌≡◌, ℕ, ◌+◌, ◌*◌, ◌^◌, false, 
 use Rattle.std.proofs.lemmas.List.{length_push}
 use Rattle.sat_formula.specs.Lit.{lit_value}
 use Rattle.sat_formula.specs.declared.lit.Lit.{Lit}
-use Rattle.sat_formula.proofs.Extension.{Satisfies-older, Extends-trans, Extends-refl}
+use Rattle.sat_formula.proofs.Extension.{Satisfies-older, Grows-trans, Grows-refl}
 use Rattle.word_blaster.specs.Word.{bit, number, values, WordBelow}
 use Rattle.word_blaster.proofs.Words.{number-values-nil, number-nil, number-values-push, number-values-more, place_added, adder_bits, WordBelow-nil, WordBelow-push, WordBelow-later, WordBelow-get}
 use Rattle.word_blaster.proofs.Bits.{double_pow}
@@ -10,8 +10,7 @@ use Rattle.word_blaster.proofs.adders.ripple.Goals as goal
 
 pub loop-i-init : goal.loop-i-init
 loop-i-init c = record {
-  grown = omega arith;
-  extends = Extends-refl _;
+  grows = Grows-refl _;
   below = subst (λ (w : List Lit). WordBelow c.args.f.now.vars w) (sym c.new-sum.ensures.items) (WordBelow-nil c.args.f.now.vars);
   len = ap length c.new-sum.ensures.items;
   carry = omega arith;
@@ -30,14 +29,13 @@ loop-i-preserved c =
     let d : Lit = record { var = 0; neg = false } in
     let pushed : c.push.new.self.items ≡ c.loop-i.sum.items ++ s ∷ [] = c.in_ok-push.ensures.items in
     record {
-      grown = omega arith;
-      extends = Extends-trans _ _ _ c.loop-i.invariant.extends c.in_ok-s.ensures.extends;
+      grows = Grows-trans _ _ _ c.loop-i.invariant.grows c.in_ok-s.ensures.grows;
       below = subst (λ (w : List Lit). WordBelow c.full_adder.new.f.vars w) (sym pushed)
-          (WordBelow-push _ _ s (WordBelow-later _ _ _ c.loop-i.invariant.below c.in_ok-s.ensures.grown) c.in_ok-s.ensures.sum.below);
+          (WordBelow-push _ _ s (WordBelow-later _ _ _ c.loop-i.invariant.below c.in_ok-s.ensures.grows.vars) c.in_ok-s.ensures.sum.below);
       len = ap length pushed ∙ length_push c.loop-i.sum.items s ∙ ap (λ (k : ℕ). k + 1) c.loop-i.invariant.len;
       carry = c.in_ok-s.ensures.carry.below;
       value = λ a sat.
-          let older = Satisfies-older _ _ a c.in_ok-s.ensures.extends sat in
+          let older = Satisfies-older _ _ a c.in_ok-s.ensures.grows sat in
           let e = c.loop-i.invariant.value a older in
           let x = get_or c.args.x.now c.loop-i.i d in
           let y = get_or c.args.y.now c.loop-i.i d in

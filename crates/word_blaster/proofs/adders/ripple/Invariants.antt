@@ -1,13 +1,12 @@
 use Rattle.std.proofs.Common.{◌≡◌, ◌+◌, ◌*◌, ◌^◌, ◌<◌, ◌≤◌, Bool, length, List, take}
 use Rattle.sat_formula.specs.Lit.{lit_value}
-use Rattle.sat_formula.specs.Formula.{Extends, Satisfies}
+use Rattle.sat_formula.specs.Formula.{Grows, Satisfies}
 use Rattle.word_blaster.specs.Word.{bit, number, values, WordBelow}
 use Rattle.word_blaster.proofs.adders.ripple.Given as goal
 
 abbrev pub invariant-loop-i : goal.invariant-loop-i
 invariant-loop-i l = record {
-  grown : l.initial.f.vars ≤ l.f.vars;
-  extends : Extends l.initial.f l.f;
+  grows : Grows l.initial.f l.f;
   below : WordBelow l.f.vars l.sum.items;
   len : length l.sum.items ≡ l.i;
   carry : l.carry.var < l.f.vars;

@@ -10,7 +10,7 @@ pub returns-clause-exact : goal.returns-clause-exact
 returns-clause-exact c =
     let e = c.in_ok-exact.ensures.exact in
     IsExact-same _ _ _ _ _ _ _ (ap length c.lits-3.ensures) e (λ a s1.
-    let s0 = Satisfies-older _ _ a c.in_ok-exact.ensures.extends s1 in
+    let s0 = Satisfies-older _ _ a c.in_ok-exact.ensures.grows s1 in
     let r : values c.as_slice.result.now a ≡ values c.in_ok-difference.difference.items a = ap (λ (w : List Lit). values w a) c.as_slice.ensures.value in
     let v = c.in_ok-difference.ensures.value a s0 in
     let x : c.lits.result.now ≡ c.args.x.now = c.lits.ensures in

@@ -13,7 +13,7 @@ wide_sum-requires-clause-y_below c =
 
 pub returns-clause-value : goal.returns-clause-value
 returns-clause-value c = λ a s.
-    let s0 = Satisfies-older _ _ a c.in_ok-difference.ensures.extends s in
+    let s0 = Satisfies-older _ _ a c.in_ok-difference.ensures.grows s in
     let y = values c.args.y.now a in
     let t : values c.as_slice.result.now a ≡ map not y = ap (λ (w : List Lit). values w a) (c.as_slice.ensures.value ∙ c.in_ok-turned.ensures) ∙ values-not c.args.y.now a in
     let one : bit (lit_value c.top-one.result a) ≡ 1 = ap bit (c.top-one.ensures.forced a s0) in

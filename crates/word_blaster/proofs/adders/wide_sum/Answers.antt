@@ -9,15 +9,15 @@ use Rattle.word_blaster.proofs.Signs.{wide_taken}
 use Rattle.word_blaster.proofs.adders.wide_sum.Goals as goal
 
 pub xor-requires-clause-x_below : goal.xor-requires-clause-x_below
-xor-requires-clause-x_below c = WordBelow-get c.args.f.now.vars _ c.args.x.now _ _ c.requires.x_below (omega arith) c.in_ok-sum.ensures.grown
+xor-requires-clause-x_below c = WordBelow-get c.args.f.now.vars _ c.args.x.now _ _ c.requires.x_below (omega arith) c.in_ok-sum.ensures.grows.vars
 
 pub xor-requires-clause-y_below : goal.xor-requires-clause-y_below
-xor-requires-clause-y_below c = WordBelow-get c.args.f.now.vars _ c.args.y.now _ _ c.requires.y_below (omega arith) c.in_ok-sum.ensures.grown
+xor-requires-clause-y_below c = WordBelow-get c.args.f.now.vars _ c.args.y.now _ _ c.requires.y_below (omega arith) c.in_ok-sum.ensures.grows.vars
 
 pub returns-clause-value : goal.returns-clause-value
 returns-clause-value c = λ a s3.
-    let s2 = Satisfies-older _ _ a c.in_ok-top.ensures.extends s3 in
-    let s1 = Satisfies-older _ _ a c.in_ok-half.ensures.extends s2 in
+    let s2 = Satisfies-older _ _ a c.in_ok-top.ensures.grows s3 in
+    let s1 = Satisfies-older _ _ a c.in_ok-half.ensures.grows s2 in
     let d : Lit = record { var = 0; neg = false } in
     let x = c.args.x.now in
     let y = c.args.y.now in

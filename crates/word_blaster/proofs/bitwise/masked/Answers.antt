@@ -2,13 +2,13 @@ use Rattle.std.proofs.Common.{ℕ, ◌+◌, Bool, false, ◌&&◌, length, List,
 use Rattle.std.proofs.lemmas.List.{length_push, map_push}
 use Rattle.sat_formula.specs.Lit.{lit_value}
 use Rattle.sat_formula.specs.declared.lit.Lit.{Lit}
-use Rattle.sat_formula.proofs.Extension.{Satisfies-older, Extends-trans}
+use Rattle.sat_formula.proofs.Extension.{Satisfies-older, Grows-trans}
 use Rattle.word_blaster.specs.Word.{values, WordBelow}
 use Rattle.word_blaster.proofs.Words.{WordBelow-get, WordBelow-push, WordBelow-later, values-more, values-push}
 use Rattle.word_blaster.proofs.bitwise.masked.Goals as goal
 
 pub and-requires-clause-x_below : goal.and-requires-clause-x_below
-and-requires-clause-x_below c = WordBelow-get c.args.f.now.vars _ c.args.x.now _ _ c.requires.x_below (omega arith) c.loop-i.invariant.grown
+and-requires-clause-x_below c = WordBelow-get c.args.f.now.vars _ c.args.x.now _ _ c.requires.x_below (omega arith) c.loop-i.invariant.grows.vars
 
 pub loop-i-preserved : goal.loop-i-preserved
 loop-i-preserved c =
@@ -17,13 +17,12 @@ loop-i-preserved c =
     let x = c.args.x.now in
     let d : Lit = record { var = 0; neg = false } in
     record {
-      grown = omega arith;
-      extends = Extends-trans _ _ _ c.loop-i.invariant.extends c.in_ok-bit.ensures.extends;
+      grows = Grows-trans _ _ _ c.loop-i.invariant.grows c.in_ok-bit.ensures.grows;
       below = subst (λ (w : List Lit). WordBelow c.and.new.self.vars w) (sym c.in_ok-push.ensures.items)
-          (WordBelow-push _ _ b (WordBelow-later _ _ _ c.loop-i.invariant.below c.in_ok-bit.ensures.grown) c.in_ok-bit.ensures.value.below);
+          (WordBelow-push _ _ b (WordBelow-later _ _ _ c.loop-i.invariant.below c.in_ok-bit.ensures.grows.vars) c.in_ok-bit.ensures.value.below);
       len = ap length c.in_ok-push.ensures.items ∙ length_push c.loop-i.bits.items b ∙ ap (λ (k : ℕ). k + 1) c.loop-i.invariant.len;
       value = λ a s1.
-          let s0 = Satisfies-older _ _ a c.in_ok-bit.ensures.extends s1 in
+          let s0 = Satisfies-older _ _ a c.in_ok-bit.ensures.grows s1 in
           let m = lit_value c.args.l a in
           let p = lit_value (get_or x i d) a in
           let old : List Bool = values c.loop-i.bits.items a in

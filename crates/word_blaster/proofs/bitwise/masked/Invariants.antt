@@ -1,13 +1,12 @@
 use Rattle.std.proofs.Common.{◌≡◌, ◌≤◌, Bool, ◌&&◌, List, length, take, map}
 use Rattle.sat_formula.specs.Lit.{lit_value}
-use Rattle.sat_formula.specs.Formula.{Extends, Satisfies}
+use Rattle.sat_formula.specs.Formula.{Grows, Satisfies}
 use Rattle.word_blaster.specs.Word.{values, WordBelow}
 use Rattle.word_blaster.proofs.bitwise.masked.Given as goal
 
 abbrev pub invariant-loop-i : goal.invariant-loop-i
 invariant-loop-i l = record {
-  grown : l.initial.f.vars ≤ l.f.vars;
-  extends : Extends l.initial.f l.f;
+  grows : Grows l.initial.f l.f;
   below : WordBelow l.f.vars l.bits.items;
   len : length l.bits.items ≡ l.i;
   value : (a : List Bool) → Satisfies a l.f → values l.bits.items a ≡ map (λ b. b && lit_value l.fn.l a) (values (take l.i l.x) a);

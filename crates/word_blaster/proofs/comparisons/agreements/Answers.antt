@@ -4,17 +4,17 @@ use Rattle.std.specs.List.{list_all}
 use Rattle.std.proofs.lemmas.List.Folds.{list_all-append}
 use Rattle.sat_formula.specs.Lit.{lit_value}
 use Rattle.sat_formula.specs.declared.lit.Lit.{Lit}
-use Rattle.sat_formula.proofs.Extension.{Satisfies-older, Extends-trans}
+use Rattle.sat_formula.proofs.Extension.{Satisfies-older, Grows-trans}
 use Rattle.word_blaster.specs.Word.{bit, number, values, WordBelow}
 use Rattle.word_blaster.proofs.Words.{WordBelow-get, WordBelow-push, WordBelow-later, number-values-more, number-values-lt}
 use Rattle.word_blaster.proofs.Signs.{same_more}
 use Rattle.word_blaster.proofs.comparisons.agreements.Goals as goal
 
 pub iff-requires-clause-x_below : goal.iff-requires-clause-x_below
-iff-requires-clause-x_below c = WordBelow-get c.args.f.now.vars _ c.args.x.now _ _ c.requires.x_below (omega arith) c.loop-i.invariant.grown
+iff-requires-clause-x_below c = WordBelow-get c.args.f.now.vars _ c.args.x.now _ _ c.requires.x_below (omega arith) c.loop-i.invariant.grows.vars
 
 pub iff-requires-clause-y_below : goal.iff-requires-clause-y_below
-iff-requires-clause-y_below c = WordBelow-get c.args.f.now.vars _ c.args.y.now _ _ c.requires.y_below (omega arith) c.loop-i.invariant.grown
+iff-requires-clause-y_below c = WordBelow-get c.args.f.now.vars _ c.args.y.now _ _ c.requires.y_below (omega arith) c.loop-i.invariant.grows.vars
 
 one_more : (p b : Bool) → (p && (b && true)) ≡ (p && b)
 one_more p true = refl
@@ -25,12 +25,11 @@ loop-i-preserved c =
     let s = c.in_ok-same.same in
     let old = c.loop-i.agree.items in
     record {
-      grown = omega arith;
-      extends = Extends-trans _ _ _ c.loop-i.invariant.extends c.in_ok-same.ensures.extends;
+      grows = Grows-trans _ _ _ c.loop-i.invariant.grows c.in_ok-same.ensures.grows;
       below = subst (λ (w : List Lit). WordBelow c.iff.new.self.vars w) (sym c.in_ok-push.ensures.items)
-          (WordBelow-push _ _ s (WordBelow-later _ _ _ c.loop-i.invariant.below c.in_ok-same.ensures.grown) c.in_ok-same.ensures.value.below);
+          (WordBelow-push _ _ s (WordBelow-later _ _ _ c.loop-i.invariant.below c.in_ok-same.ensures.grows.vars) c.in_ok-same.ensures.value.below);
       value = λ a s1.
-          let s0 = Satisfies-older _ _ a c.in_ok-same.ensures.extends s1 in
+          let s0 = Satisfies-older _ _ a c.in_ok-same.ensures.grows s1 in
           let d : Lit = record { var = 0; neg = false } in
           let i = c.loop-i.i in
           let x = c.args.x.now in

@@ -18,7 +18,7 @@ pub returns-clause-value : goal.returns-clause-value
 returns-clause-value c = record {
   below = c.in_ok-same.ensures.value.below;
   value = λ a s1.
-      let s0 = Satisfies-older _ _ a c.in_ok-same.ensures.extends s1 in
+      let s0 = Satisfies-older _ _ a c.in_ok-same.ensures.grows s1 in
       let x = c.args.x.now in
       let y = c.args.y.now in
       c.in_ok-same.ensures.value.value a s1

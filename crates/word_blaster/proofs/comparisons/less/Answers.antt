@@ -16,24 +16,24 @@ number_below-requires-clause-y_below c = WordBelow-take _ _ _ (subst (λ (w : Li
 
 pub xor-requires-clause-x_below : goal.xor-requires-clause-x_below
 xor-requires-clause-x_below c =
-    WordBelow-get c.args.f.now.vars _ _ _ _ (subst (λ (w : List Lit). WordBelow c.args.f.now.vars w) (sym c.lits-p.ensures) c.requires.x_below) (omega (arith, ap length c.lits-p.ensures)) c.in_ok-below.ensures.grown
+    WordBelow-get c.args.f.now.vars _ _ _ _ (subst (λ (w : List Lit). WordBelow c.args.f.now.vars w) (sym c.lits-p.ensures) c.requires.x_below) (omega (arith, ap length c.lits-p.ensures)) c.in_ok-below.ensures.grows.vars
 
 pub xor-requires-clause-y_below : goal.xor-requires-clause-y_below
 xor-requires-clause-y_below c =
     WordBelow-get c.args.f.now.vars _ _ _ _ (subst (λ (w : List Lit). WordBelow c.args.f.now.vars w) (sym c.lits-q.ensures) c.requires.y_below)
-    (omega (arith, ap length c.lits-p.ensures, ap length c.lits-q.ensures)) c.in_ok-below.ensures.grown
+    (omega (arith, ap length c.lits-p.ensures, ap length c.lits-q.ensures)) c.in_ok-below.ensures.grows.vars
 
 pub mux-requires-clause-y_below : goal.mux-requires-clause-y_below
 mux-requires-clause-y_below c =
     WordBelow-get c.args.f.now.vars _ _ _ _ (subst (λ (w : List Lit). WordBelow c.args.f.now.vars w) (sym c.lits-p.ensures) c.requires.x_below) (omega (arith, ap length c.lits-p.ensures))
-    (omega (arith, c.in_ok-below.ensures.grown, c.in_ok-apart.ensures.grown))
+    (omega (arith, c.in_ok-below.ensures.grows.vars, c.in_ok-apart.ensures.grows.vars))
 
 pub returns-clause-value : goal.returns-clause-value
 returns-clause-value c = record {
   below = c.in_ok-less.ensures.value.below;
   value = λ a s2.
-      let s1 = Satisfies-older _ _ a c.in_ok-less.ensures.extends s2 in
-      let s0 = Satisfies-older _ _ a c.in_ok-apart.ensures.extends s1 in
+      let s1 = Satisfies-older _ _ a c.in_ok-less.ensures.grows s2 in
+      let s0 = Satisfies-older _ _ a c.in_ok-apart.ensures.grows s1 in
       let d : Lit = record { var = 0; neg = false } in
       let p = c.lits-p.result.now in
       let q = c.lits-q.result.now in

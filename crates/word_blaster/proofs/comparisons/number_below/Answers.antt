@@ -2,30 +2,29 @@ use Rattle.std.proofs.Common.{◌≡◌, ℕ, ◌+◌, ◌*◌, ◌^◌, Bool, f
 use Rattle.std.specs.Prelude.{nat_lt, if◌then◌else◌}
 use Rattle.sat_formula.specs.Lit.{lit_value, differ}
 use Rattle.sat_formula.specs.declared.lit.Lit.{Lit}
-use Rattle.sat_formula.proofs.Extension.{Satisfies-older, Extends-trans}
+use Rattle.sat_formula.proofs.Extension.{Satisfies-older, Grows-trans}
 use Rattle.word_blaster.specs.Word.{bit, number, values}
 use Rattle.word_blaster.proofs.Words.{WordBelow-get, number-values-more, number-values-lt}
 use Rattle.word_blaster.proofs.Signs.{below_more_place}
 use Rattle.word_blaster.proofs.comparisons.number_below.Goals as goal
 
 pub xor-requires-clause-x_below : goal.xor-requires-clause-x_below
-xor-requires-clause-x_below c = WordBelow-get c.args.f.now.vars _ c.args.x.now _ _ c.requires.x_below (omega arith) c.loop-i.invariant.grown
+xor-requires-clause-x_below c = WordBelow-get c.args.f.now.vars _ c.args.x.now _ _ c.requires.x_below (omega arith) c.loop-i.invariant.grows.vars
 
 pub xor-requires-clause-y_below : goal.xor-requires-clause-y_below
-xor-requires-clause-y_below c = WordBelow-get c.args.f.now.vars _ c.args.y.now _ _ c.requires.y_below (omega arith) c.loop-i.invariant.grown
+xor-requires-clause-y_below c = WordBelow-get c.args.f.now.vars _ c.args.y.now _ _ c.requires.y_below (omega arith) c.loop-i.invariant.grows.vars
 
 pub mux-requires-clause-y_below : goal.mux-requires-clause-y_below
-mux-requires-clause-y_below c = WordBelow-get c.args.f.now.vars _ c.args.y.now _ _ c.requires.y_below (omega arith) (omega (arith, c.loop-i.invariant.grown, c.in_ok-apart.ensures.grown))
+mux-requires-clause-y_below c = WordBelow-get c.args.f.now.vars _ c.args.y.now _ _ c.requires.y_below (omega arith) (omega (arith, c.loop-i.invariant.grows.vars, c.in_ok-apart.ensures.grows.vars))
 
 pub loop-i-preserved : goal.loop-i-preserved
 loop-i-preserved c = record {
-  grown = omega arith;
-  extends = Extends-trans _ _ _ c.loop-i.invariant.extends (Extends-trans _ _ _ c.in_ok-apart.ensures.extends c.in_ok-below.ensures.extends);
+  grows = Grows-trans _ _ _ c.loop-i.invariant.grows (Grows-trans _ _ _ c.in_ok-apart.ensures.grows c.in_ok-below.ensures.grows);
   value = record {
     below = c.in_ok-below.ensures.value.below;
     value = λ a s2.
-        let s1 = Satisfies-older _ _ a c.in_ok-below.ensures.extends s2 in
-        let s0 = Satisfies-older _ _ a c.in_ok-apart.ensures.extends s1 in
+        let s1 = Satisfies-older _ _ a c.in_ok-below.ensures.grows s2 in
+        let s0 = Satisfies-older _ _ a c.in_ok-apart.ensures.grows s1 in
         let d : Lit = record { var = 0; neg = false } in
         let i = c.loop-i.i in
         let x = c.args.x.now in

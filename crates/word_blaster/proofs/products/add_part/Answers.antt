@@ -20,8 +20,8 @@ returns-clause-below c =
 
 pub returns-clause-value : goal.returns-clause-value
 returns-clause-value c = λ a s2.
-    let s1 = Satisfies-older _ _ a c.in_ok-sum.ensures.extends s2 in
-    let s0 = Satisfies-older _ _ a c.in_ok-part.ensures.extends s1 in
+    let s1 = Satisfies-older _ _ a c.in_ok-sum.ensures.grows s2 in
+    let s0 = Satisfies-older _ _ a c.in_ok-part.ensures.grows s1 in
     let d : Lit = record { var = 0; neg = false } in
     let x = c.args.x.now in
     let m = lit_value c.args.l a in

@@ -9,7 +9,7 @@ use Rattle.word_blaster.proofs.products.mul.Goals as goal
 pub returns-clause-exact : goal.returns-clause-exact
 returns-clause-exact c =
     IsExact-same _ _ _ _ _ _ _ (ap length c.lits-3.ensures) c.in_ok-exact.ensures.exact (λ a s1.
-    let s0 = Satisfies-older _ _ a c.in_ok-exact.ensures.extends s1 in
+    let s0 = Satisfies-older _ _ a c.in_ok-exact.ensures.grows s1 in
     ap (λ (w : List Lit). signed (values w a)) c.as_slice.ensures.value
     ∙ c.in_ok-product.ensures.value a s0
     ∙ ap (λ (w : List Lit). signed (values w a) *ℤ signed (values c.lits-2.result.now a)) c.lits.ensures

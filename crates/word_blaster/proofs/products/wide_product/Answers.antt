@@ -2,7 +2,7 @@ use Rattle.std.proofs.Common.{◌≡◌, ℕ, ◌+◌, ◌-◌, ◌*◌, ◌^◌
 use Rattle.std.proofs.lemmas.List.{length_push, length-replicate}
 use Rattle.sat_formula.specs.Lit.{lit_value}
 use Rattle.sat_formula.specs.declared.lit.Lit.{Lit}
-use Rattle.sat_formula.proofs.Extension.{Satisfies-older, Extends-refl, Extends-trans}
+use Rattle.sat_formula.proofs.Extension.{Satisfies-older, Grows-refl, Grows-trans}
 use Rattle.word_blaster.specs.Word.{bit, number, taken, values, WordBelow}
 use Rattle.word_blaster.proofs.Bits.{double_pow, number-append}
 use Rattle.word_blaster.proofs.Words.{WordBelow-get, WordBelow-later, WordBelow-push, WordBelow-append, WordBelow-nil, WordBelow-replicate, values-length, values-append, turned-value, number-values-more, number-values-push, number-values-nil, number-nil, number-values-last, taken-values-last}
@@ -14,8 +14,7 @@ pub loop-i-init : goal.loop-i-init
 loop-i-init c =
     let zeros : c.in_ok-high.high.items ≡ replicate (length c.args.x.now) c.negated-zero.result = c.in_ok-high.ensures in
     record {
-      grown = omega arith;
-      extends = Extends-refl _;
+      grows = Grows-refl _;
       low_below = subst (λ (w : List Lit). WordBelow c.args.f.now.vars w) (sym c.new-low.ensures.items) (WordBelow-nil _);
       high_below = subst (λ (w : List Lit). WordBelow c.args.f.now.vars w) (sym zeros)
           (WordBelow-replicate _ _ _ (subst (λ (l : Lit). l.var < c.args.f.now.vars) (sym c.negated-zero.ensures) c.top.ensures.below));
@@ -32,7 +31,7 @@ loop-i-init c =
     }
 
 pub add_part-requires-clause-l_below : goal.add_part-requires-clause-l_below
-add_part-requires-clause-l_below c = WordBelow-get c.args.f.now.vars _ c.args.y.now _ _ c.requires.y_below (omega arith) c.loop-i.invariant.grown
+add_part-requires-clause-l_below c = WordBelow-get c.args.f.now.vars _ c.args.y.now _ _ c.requires.y_below (omega arith) c.loop-i.invariant.grows.vars
 
 pub loop-i-preserved : goal.loop-i-preserved
 loop-i-preserved c =
@@ -42,15 +41,14 @@ loop-i-preserved c =
     let y = c.args.y.now in
     let d : Lit = record { var = 0; neg = false } in
     record {
-      grown = omega arith;
-      extends = Extends-trans _ _ _ c.loop-i.invariant.extends c.in_ok-bit.ensures.extends;
+      grows = Grows-trans _ _ _ c.loop-i.invariant.grows c.in_ok-bit.ensures.grows;
       low_below = subst (λ (w : List Lit). WordBelow c.add_part.new.f.vars w) (sym c.in_ok-push.ensures.items)
-          (WordBelow-push _ _ b (WordBelow-later _ _ _ c.loop-i.invariant.low_below c.in_ok-bit.ensures.grown) c.in_ok-bit.ensures.low_below);
+          (WordBelow-push _ _ b (WordBelow-later _ _ _ c.loop-i.invariant.low_below c.in_ok-bit.ensures.grows.vars) c.in_ok-bit.ensures.low_below);
       high_below = c.in_ok-bit.ensures.below;
       low_len = ap length c.in_ok-push.ensures.items ∙ length_push c.loop-i.low.items b ∙ ap (λ (k : ℕ). k + 1) c.loop-i.invariant.low_len;
       high_len = c.in_ok-bit.ensures.len;
       value = λ a s1.
-          let s0 = Satisfies-older _ _ a c.in_ok-bit.ensures.extends s1 in
+          let s0 = Satisfies-older _ _ a c.in_ok-bit.ensures.grows s1 in
           let q = lit_value (get_or y i d) a in
           let ys : number (values (take (i + 1) y) a) ≡ number (values (take i y) a) + bit q * 2 ^ i = number-values-more y d a i (omega arith) in
           let low : number (values c.push.new.self.items a) ≡ number (values c.loop-i.low.items a) + bit (lit_value b a) * 2 ^ i =
@@ -64,17 +62,17 @@ loop-i-preserved c =
     }
 
 pub masked-requires-clause-l_below : goal.masked-requires-clause-l_below
-masked-requires-clause-l_below c = WordBelow-get c.args.f.now.vars _ c.args.y.now _ _ c.requires.y_below (omega arith) c.loop-i.invariant.grown
+masked-requires-clause-l_below c = WordBelow-get c.args.f.now.vars _ c.args.y.now _ _ c.requires.y_below (omega arith) c.loop-i.invariant.grows.vars
 
 pub returns-clause-below : goal.returns-clause-below
 returns-clause-below c =
     subst (λ (w : List Lit). WordBelow c.wide_difference.new.f.vars w) (sym (c.in_ok-extend_from_slice.ensures.items ∙ ap (λ (w : List Lit). c.loop-i.low.items ++ w) c.as_slice-4.ensures.value))
-    (WordBelow-append _ _ _ (WordBelow-later _ _ _ c.loop-i.invariant.low_below (omega (arith, c.in_ok-part.ensures.grown, c.in_ok-difference.ensures.grown))) c.in_ok-difference.ensures.below)
+    (WordBelow-append _ _ _ (WordBelow-later _ _ _ c.loop-i.invariant.low_below (omega (arith, c.in_ok-part.ensures.grows.vars, c.in_ok-difference.ensures.grows.vars))) c.in_ok-difference.ensures.below)
 
 pub returns-clause-value : goal.returns-clause-value
 returns-clause-value c = λ a s2.
-    let s1 = Satisfies-older _ _ a c.in_ok-difference.ensures.extends s2 in
-    let s0 = Satisfies-older _ _ a c.in_ok-part.ensures.extends s1 in
+    let s1 = Satisfies-older _ _ a c.in_ok-difference.ensures.grows s2 in
+    let s0 = Satisfies-older _ _ a c.in_ok-part.ensures.grows s1 in
     let d : Lit = record { var = 0; neg = false } in
     let x = values c.args.x.now a in
     let y = c.args.y.now in

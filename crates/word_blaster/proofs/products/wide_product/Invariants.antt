@@ -1,12 +1,11 @@
 use Rattle.std.proofs.Common.{◌≡◌, ◌+◌, ◌*◌, ◌^◌, ◌≤◌, Bool, List, length, take}
-use Rattle.sat_formula.specs.Formula.{Extends, Satisfies}
+use Rattle.sat_formula.specs.Formula.{Grows, Satisfies}
 use Rattle.word_blaster.specs.Word.{number, taken, values, WordBelow}
 use Rattle.word_blaster.proofs.products.wide_product.Given as goal
 
 abbrev pub invariant-loop-i : goal.invariant-loop-i
 invariant-loop-i l = record {
-  grown : l.initial.f.vars ≤ l.f.vars;
-  extends : Extends l.initial.f l.f;
+  grows : Grows l.initial.f l.f;
   low_below : WordBelow l.f.vars l.low.items;
   high_below : WordBelow l.f.vars l.high.items;
   low_len : length l.low.items ≡ l.i;

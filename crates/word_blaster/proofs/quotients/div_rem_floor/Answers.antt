@@ -25,7 +25,7 @@ returns-clause-quotient c = λ a s n e.
 
 pub returns-clause-rest : goal.returns-clause-rest
 returns-clause-rest c = λ a s1 n e.
-    let s0 = Satisfies-older _ _ a c.in_ok-quotient.ensures.extends s1 in
+    let s0 = Satisfies-older _ _ a c.in_ok-quotient.ensures.grows s1 in
     let y = c.args.y.now in
     let q = c.in_ok-quotient.quotient.items in
     let rest = c.in_ok-quotient.rest.items in

@@ -2,7 +2,7 @@ use Rattle.std.proofs.Common.{◌≡◌, ℕ, ◌+◌, ◌-◌, ◌<◌, false, 
 use Rattle.std.proofs.lemmas.List.{drop_more, drop_all, length-drop}
 use Rattle.sat_formula.specs.Lit.{lit_value}
 use Rattle.sat_formula.specs.declared.lit.Lit.{Lit}
-use Rattle.sat_formula.proofs.Extension.{Satisfies-older, Extends-trans, Extends-refl}
+use Rattle.sat_formula.proofs.Extension.{Satisfies-older, Grows-trans, Grows-refl}
 use Rattle.word_blaster.specs.Word.{values, WordBelow}
 use Rattle.word_blaster.specs.Division.{IsDivided, IsDivideStep}
 use Rattle.word_blaster.proofs.Words.{WordBelow-get, WordBelow-later, WordBelow-cons, WordBelow-nil, values-length}
@@ -13,7 +13,7 @@ pub first_rest-requires-clause-l_below : goal.first_rest-requires-clause-l_below
 first_rest-requires-clause-l_below c = WordBelow-get c.args.f.now.vars _ c.args.x.now _ _ c.requires.x_below (omega arith) (omega arith)
 
 pub divide_step-requires-clause-lowest_below : goal.divide_step-requires-clause-lowest_below
-divide_step-requires-clause-lowest_below c = WordBelow-get c.args.f.now.vars _ c.args.x.now _ _ c.requires.x_below (omega arith) (omega (arith, c.loop-k.invariant.grown, c.in_ok-rest.ensures.grown))
+divide_step-requires-clause-lowest_below c = WordBelow-get c.args.f.now.vars _ c.args.x.now _ _ c.requires.x_below (omega arith) (omega (arith, c.loop-k.invariant.grows.vars, c.in_ok-rest.ensures.grows.vars))
 
 minus-zero : (n : ℕ) → n - 0 ≡ n
 minus-zero n = omega arith
@@ -33,10 +33,9 @@ loop-k-init c =
     let one : drop (last - 0) x ≡ sign ∷ [] =
     ap (λ (k : ℕ). drop k x) (minus-zero last) ∙ drop_more x last d (omega arith) ∙ ap (λ (w : List Lit). sign ∷ w) (drop_all (last + 1) x (omega arith)) in
     record {
-      grown = omega arith;
-      extends = Extends-refl _;
+      grows = Grows-refl _;
       quotient_below = subst (λ (w : List Lit). WordBelow c.first_rest.new.f.vars w) (sym c.in_ok-quotient.ensures.items)
-          (WordBelow-cons _ sign [] (WordBelow-get c.args.f.now.vars _ x last d c.requires.x_below (omega arith) c.in_ok-rest.ensures.grown) (WordBelow-nil _));
+          (WordBelow-cons _ sign [] (WordBelow-get c.args.f.now.vars _ x last d c.requires.x_below (omega arith) c.in_ok-rest.ensures.grows.vars) (WordBelow-nil _));
       rest_below = c.in_ok-rest.ensures.below;
       quotient_len = ap length c.in_ok-quotient.ensures.items;
       rest_len = c.in_ok-rest.ensures.len ∙ sym c.requires.same;
@@ -59,15 +58,14 @@ loop-k-preserved c =
     let more : drop (last - (k + 1)) x ≡ low ∷ drop (last - k) x =
     ap (λ (i : ℕ). drop i x) (next_place last k (omega arith)) ∙ drop_more x (last - 1 - k) d (omega arith) ∙ ap (λ (i : ℕ). low ∷ drop i x) (last_place last k (omega arith)) in
     record {
-      grown = omega arith;
-      extends = Extends-trans _ _ _ c.loop-k.invariant.extends c.in_ok-bit.ensures.extends;
+      grows = Grows-trans _ _ _ c.loop-k.invariant.grows c.in_ok-bit.ensures.grows;
       quotient_below = subst (λ (w : List Lit). WordBelow c.divide_step.new.f.vars w) (sym quotient)
-          (WordBelow-cons _ b _ c.in_ok-bit.ensures.bit_below (WordBelow-later _ _ _ c.loop-k.invariant.quotient_below c.in_ok-bit.ensures.grown));
+          (WordBelow-cons _ b _ c.in_ok-bit.ensures.bit_below (WordBelow-later _ _ _ c.loop-k.invariant.quotient_below c.in_ok-bit.ensures.grows.vars));
       rest_below = c.in_ok-bit.ensures.below;
       quotient_len = ap length quotient ∙ omega (arith, c.loop-k.invariant.quotient_len);
       rest_len = omega (arith, c.in_ok-bit.ensures.len, ap length c.as_slice.ensures.value, c.loop-k.invariant.rest_len);
       value = λ a s1.
-          let s0 = Satisfies-older _ _ a c.in_ok-bit.ensures.extends s1 in
+          let s0 = Satisfies-older _ _ a c.in_ok-bit.ensures.grows s1 in
           let old = c.loop-k.invariant.value a s0 in
           let step = subst (λ (w : List Lit). IsDivideStep (lit_value low a) (values y a) (values w a) (lit_value b a) (values c.in_ok-bit.left.items a)) c.as_slice.ensures.value (c.in_ok-bit.ensures.value a s1) in
           let new = divided_more (lit_value low a) (lit_value b a) (values y a) (values (drop (last - k) x) a) (values c.loop-k.quotient.items a) (values c.loop-k.rest.items a) (values c.in_ok-bit.left.items a)

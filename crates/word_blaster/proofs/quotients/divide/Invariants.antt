@@ -1,13 +1,12 @@
 use Rattle.std.proofs.Common.{◌≡◌, ◌+◌, ◌-◌, ◌≤◌, Bool, List, length, drop}
-use Rattle.sat_formula.specs.Formula.{Extends, Satisfies}
+use Rattle.sat_formula.specs.Formula.{Grows, Satisfies}
 use Rattle.word_blaster.specs.Word.{values, WordBelow}
 use Rattle.word_blaster.specs.Division.{IsDivided}
 use Rattle.word_blaster.proofs.quotients.divide.Given as goal
 
 abbrev pub invariant-loop-k : goal.invariant-loop-k
 invariant-loop-k l = record {
-  grown : l.initial.f.vars ≤ l.f.vars;
-  extends : Extends l.initial.f l.f;
+  grows : Grows l.initial.f l.f;
   quotient_below : WordBelow l.f.vars l.quotient.items;
   rest_below : WordBelow l.f.vars l.rest.items;
   quotient_len : length l.quotient.items ≡ l.k + 1;

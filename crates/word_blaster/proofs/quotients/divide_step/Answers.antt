@@ -27,12 +27,12 @@ pub choose-requires-clause-y_below : goal.choose-requires-clause-y_below
 choose-requires-clause-y_below c =
     WordBelow-take _ _ _ (subst (λ (w : List Lit). WordBelow c.ripple.new.f.vars w)
     (sym (c.as_slice-old.ensures.value ∙ c.in_ok-extend_from_slice.ensures.items ∙ ap (λ (w : List Lit). w ++ c.args.rest.now) c.in_ok-shifted.ensures.items))
-    (WordBelow-later _ _ _ (WordBelow-append _ _ _ (WordBelow-push _ [] _ (WordBelow-nil _) c.requires.lowest_below) c.requires.rest_below) c.in_ok-difference.ensures.grown))
+    (WordBelow-later _ _ _ (WordBelow-append _ _ _ (WordBelow-push _ [] _ (WordBelow-nil _) c.requires.lowest_below) c.requires.rest_below) c.in_ok-difference.ensures.grows.vars))
 
 pub returns-clause-value : goal.returns-clause-value
 returns-clause-value c = λ a s2.
-    let s1 = Satisfies-older _ _ a c.in_ok-chosen.ensures.extends s2 in
-    let s0 = Satisfies-older _ _ a c.in_ok-difference.ensures.extends s1 in
+    let s1 = Satisfies-older _ _ a c.in_ok-chosen.ensures.grows s2 in
+    let s0 = Satisfies-older _ _ a c.in_ok-difference.ensures.grows s1 in
     let y = c.args.y.now in
     let rest = c.args.rest.now in
     let k = length rest in

@@ -18,8 +18,8 @@ ripple-requires-clause-y_below c =
 
 pub returns-clause-value : goal.returns-clause-value
 returns-clause-value c = λ a s2.
-    let s1 = Satisfies-older _ _ a c.in_ok-rest.ensures.extends s2 in
-    let s0 = Satisfies-older _ _ a c.in_ok-less_one.ensures.extends s1 in
+    let s1 = Satisfies-older _ _ a c.in_ok-rest.ensures.grows s2 in
+    let s0 = Satisfies-older _ _ a c.in_ok-less_one.ensures.grows s1 in
     let d : Lit = record { var = 0; neg = false } in
     let y = c.args.y.now in
     let k = length y - 1 in

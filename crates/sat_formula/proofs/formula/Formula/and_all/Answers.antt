@@ -70,5 +70,5 @@ returns-clause-value c =
     let same : v ≡ others w = c.as_slice-rest.ensures.value ∙ c.in_ok-open.ensures in
     HasValue-same c.define_all.new.self c.in_ok-all.all (λ a. all_true v a) (λ a. all_true w a) c.in_ok-all.ensures.value
     (λ a s.
-    let t = c.top-top.ensures.forced a (Satisfies-older _ _ a c.in_ok-all.ensures.extends s) in
+    let t = c.top-top.ensures.forced a (Satisfies-older _ _ a c.in_ok-all.ensures.grows s) in
     ap (λ (v : List Lit). all_true v a) same ∙ others_same w a (top_true top a c.top-top.ensures.same t) (sym c.has_bottom.ensures ∙ c.if-has_bottom.false))

@@ -25,8 +25,8 @@ add-requires c =
     c.as_slice.ensures.value ∙ c.in_ok-push.ensures.items ∙ ap (λ (w : List Lit). w ++ c.in_ok-out.out ∷ []) c.in_ok-last.ensures in
     subst (λ (w : List Lit). All (IsBelow c.imply_each.new.self.vars) w) (sym same) (negations_below c.imply_each.new.self.vars c.args.lits.now c.in_ok-out.out later (omega arith))
 
-pub returns-in_err-imply_each-clause-extends : goal.returns-in_err-imply_each-clause-extends
-returns-in_err-imply_each-clause-extends c =
+pub returns-in_err-imply_each-clause-grows : goal.returns-in_err-imply_each-clause-grows
+returns-in_err-imply_each-clause-grows c =
     let e = c.in_err-imply_each.ensures.err in
     let w = c.args.lits.now in
     let f = c.args.self.now in
@@ -37,8 +37,8 @@ returns-in_err-imply_each-clause-extends c =
     (implied f c.fresh.new.self c.imply_each.new.self c.in_ok-out.out w (λ l. take e.0 (implications l w)) c.in_ok-out.ensures.lit c.in_ok-out.ensures.longer e.1)
     (sym (append_assoc (take e.0 all) (drop e.0 all) last) ∙ ap (λ (cs : List (List Lit)). cs ++ last) (take-append-drop e.0 all))
 
-pub returns-in_err-add-clause-extends : goal.returns-in_err-add-clause-extends
-returns-in_err-add-clause-extends c =
+pub returns-in_err-add-clause-grows : goal.returns-in_err-add-clause-grows
+returns-in_err-add-clause-grows c =
     let w = c.args.lits.now in
     let f = c.args.self.now in
     let last = (map negation w ++ positive f.vars ∷ []) ∷ [] in
@@ -72,8 +72,8 @@ returns-clause-value c =
     (ap (λ (f : Cnf). f.vars) same ∙ c.in_ok-imply_each.ensures.vars ∙ ap (λ (f : Cnf). f.vars) c.in_ok-out.ensures.longer)
     (all_added f c.fresh.new.self c.imply_each.new.self g c.in_ok-out.out w c.as_slice.result.now c.in_ok-out.ensures.lit c.in_ok-out.ensures.longer c.in_ok-imply_each.ensures.ok same last))
 
-pub returns-clause-extends : goal.returns-clause-extends
-returns-clause-extends c =
+pub returns-clause-grows : goal.returns-clause-grows
+returns-clause-grows c =
     let w = c.args.lits.now in
     let f = c.args.self.now in
     let g = c.add.new.self in

@@ -1,7 +1,7 @@
 use Rattle.std.proofs.Common.{◌≡◌, ◌++◌, map, take, codes}
 use Rattle.std.specs.List.{join_by}
 use Rattle.tla_values.specs.Show.{shown, pairs_shown, field_text, pair_text}
-use Rattle.tla_values.proofs.printing.+show.Given as goal
+use Rattle.tla_values.proofs.printing.+show_value.Given as goal
 
 abbrev pub invariant-show_set-loop-i : goal.invariant-show_set-loop-i
 invariant-show_set-loop-i l =
