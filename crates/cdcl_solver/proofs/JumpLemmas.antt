@@ -115,7 +115,7 @@ jumped_advances s step u at searching follows jump =
         search = jumped s.clauses s.steps s.trail.room es step u at no_entry searching.search lt (jump.decision no_entry) follows jump.below jump.unit jump.second;
         checking = searching.checking;
       };
-      keeps = record { clauses = refl; room = refl; checking = refl };
+      keeps = record { clauses = refl; room = refl };
       longer = length_push s.steps step;
       smaller = subst (λ (r : List Entry). weight s.trail.room (take at es ++ record { lit = u; reason = Some step.id } ∷ []) < weight s.trail.room r) (sym (split_at es at no_entry lt)) w;
     }

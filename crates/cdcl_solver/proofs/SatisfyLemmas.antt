@@ -37,5 +37,5 @@ model f assume a steps t room within complete agrees size =
     record {
       length = size ∙ room;
       satisfies = All-front (λ c. IsTrue (clause_true a c)) f.clauses ((assume ∷ []) ∷ []) all;
-      assumed = or_false (lit_value assume a) (rw last at (all (length f.clauses) [] lt))
+      assumed = or_false (lit_value assume a) (rw last at (all (length f.clauses) [] lt));
     }

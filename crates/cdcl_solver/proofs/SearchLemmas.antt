@@ -133,7 +133,7 @@ learned_advances s h step at d searching meets made below le last = record {
     search = learned s.clauses s.steps s.trail.room s.trail.entries h step searching.search meets made at d below last;
     checking = searching.checking;
   };
-  keeps = record { clauses = refl; room = refl; checking = refl };
+  keeps = record { clauses = refl; room = refl };
   longer = length_push s.steps step;
   smaller = weight-learned s.trail.room s.trail.entries at d _ step.id le last;
 }
@@ -149,9 +149,9 @@ settled s t conflict searching went = record {
       new = searching.search.new;
       some = searching.search.some;
     };
-    checking = rw went.room searching.checking;
+    checking = searching.checking;
   };
-  keeps = record { clauses = refl; room = went.room; checking = refl };
+  keeps = record { clauses = refl; room = went.room };
   steps = refl;
   weight = went.weight;
   found = went.found;
@@ -170,7 +170,7 @@ decided_next s e searching none quiet free lt = record {
     };
     checking = searching.checking;
   };
-  keeps = record { clauses = refl; room = refl; checking = refl };
+  keeps = record { clauses = refl; room = refl };
   steps = refl;
   smaller = weight-push s.trail.room s.trail.entries e lt;
 }
@@ -178,14 +178,14 @@ decided_next s e searching none quiet free lt = record {
 pub refuted_next : (s : Search) (h : ℕ) (step : Step) → IsSearching s → Meets s h → IsExplained (length (known s.clauses s.steps)) s.trail.entries h step → decisions s.trail.entries ≡ []
     → IsRefuted s (record s { steps = s.steps ++ step ∷ [] })
 refuted_next s h step searching meets made none = record {
-  keeps = record { clauses = refl; room = refl; checking = refl };
+  keeps = record { clauses = refl; room = refl };
   refutes = refuted s.clauses s.steps s.trail.room s.trail.entries h step searching.search meets made none;
   derived = refuted_derived s.clauses s.steps s.trail.room s.trail.entries h step searching.search meets made none;
   longer = length_push s.steps step;
 }
 
 pub keeps_more : (a b c : Search) → Keeps a b → Keeps b c → Keeps a c
-keeps_more a b c p q = record { clauses = q.clauses ∙ p.clauses; room = q.room ∙ p.room; checking = q.checking ∙ p.checking }
+keeps_more a b c p q = record { clauses = q.clauses ∙ p.clauses; room = q.room ∙ p.room }
 
 pub unspent_more : (budget : Option ℕ) (old new : List Step) → IsUnspent budget old → (budget ≡ Some (length old) → ⊥) → length new ≡ length old + 1 → IsUnspent budget new
 unspent_more None old new h ne e = tt

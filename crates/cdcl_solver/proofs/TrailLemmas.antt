@@ -7,13 +7,82 @@ use Rattle.std.proofs.lemmas.List.Sums.{sum_by-set}
 use Rattle.std.proofs.lemmas.List.Elements.{All-nil, All-push, All-get_or, All-weaker, All-from_get_or, All-contains, All-contains_itself, Contains-get_or, Contains-append_left, Contains-push, Contains-push_cases, Contains-append_cases}
 use Rattle.sat_formula.specs.declared.lit.Lit.{Lit}
 use Rattle.sat_formula.specs.Lit.{IsBelow, lit_value}
-use Rattle.refutation_checker.specs.Marks.{Marks, TellsValue}
+use Rattle.refutation_checker.specs.Marks.{TellsValue}
 use Rattle.refutation_checker.specs.Follows.{negation}
-use Rattle.refutation_checker.proofs.TrailLemmas.{Lit-same, Contains-nil, Marks-push}
+use Rattle.refutation_checker.proofs.TrailLemmas.{Lit-same, Contains-nil, told}
 use Rattle.refutation_checker.proofs.StatusLemmas.{Contains-take}
 use Rattle.cdcl_solver.specs.declared.entry.Entry.{Entry}
-use Rattle.cdcl_solver.specs.inner.Trail.{lits_of, DistinctVars, Marked, Placed, Tabled, IsFree, IsFirstFree, value_of}
+use Rattle.cdcl_solver.specs.inner.Trail.{lits_of, DistinctVars, Marks, Marked, Placed, Tabled, IsFree, IsFirstFree, value_of}
 use Rattle.cdcl_solver.proofs.ChainLemmas.{lits-append}
+
+some≢none : (b : Bool) (A : Type 0) → None ≡ Some b → A
+some≢none b A e = cc
+
+-- the mark of a literal's variable tells its value
+tells : (m : Option Bool) (lits : List Lit) (v : ℕ) (n : Bool)
+    → ((m ≡ Some (not n)) ↔ Contains lits (record { var = v; neg = n }))
+    → ((m ≡ Some (not (not n))) ↔ Contains lits (record { var = v; neg = not n }))
+    → TellsValue lits (record { var = v; neg = n }) (told m n)
+tells None lits v n p q = (λ h. some≢none (not n) ⊥ (p.1 h), λ h. some≢none (not (not n)) ⊥ (q.1 h))
+tells (Some true) lits v true p q = (λ h. let e : Some true ≡ Some false = p.1 h in cc, q.0 refl)
+tells (Some true) lits v false p q = (p.0 refl, λ h. let e : Some true ≡ Some false = q.1 h in cc)
+tells (Some false) lits v true p q = (p.0 refl, λ h. let e : Some false ≡ Some true = q.1 h in cc)
+tells (Some false) lits v false p q = (λ h. let e : Some false ≡ Some true = p.1 h in cc, q.0 refl)
+
+pub TellsValue-read : (marks : List (Option Bool)) (lits : List Lit) (l : Lit) (m : Option Bool) → Marks marks lits → l.var < length marks
+    → get_or marks l.var None ≡ m → TellsValue lits l (told m l.neg)
+TellsValue-read marks lits l m h lt e = subst (λ (o : Option Bool). TellsValue lits l (told o l.neg)) e (tells (get_or marks l.var None) lits l.var l.neg (h.agree l lt) (h.agree (negation l) lt))
+
+flip : (a b : Bool) → (a ≡ b → ⊥) → a ≡ not b
+flip true true h = absurd (h refl)
+flip true false h = refl
+flip false true h = refl
+flip false false h = absurd (h refl)
+
+not_same : (a b : Bool) → not a ≡ not b → a ≡ b
+not_same true true e = refl
+not_same true false e = cc
+not_same false true e = cc
+not_same false false e = refl
+
+cases_bool_eq : (a b : Bool) → (a ≡ b) ⊎ (a ≡ b → ⊥)
+cases_bool_eq true true = inl refl
+cases_bool_eq true false = inr (λ e. cc)
+cases_bool_eq false true = inr (λ e. cc)
+cases_bool_eq false false = inl refl
+
+some_same : (a b : Bool) → Some a ≡ Some b → a ≡ b
+some_same a b e = cc
+
+pub Marks-push : (marks : List (Option Bool)) (lits : List Lit) (l : Lit) → Marks marks lits → l.var < length marks
+    → (Contains lits (negation l) → ⊥) → Marks (set marks l.var (Some (not l.neg))) (lits ++ l ∷ [])
+Marks-push marks lits l h lt free = record {
+  within = rw (length-set marks l.var (Some (not l.neg))) (All-push (IsBelow (length marks)) lits l h.within lt);
+  agree = λ m lm.
+      let old : m.var < length marks = rw (length-set marks l.var (Some (not l.neg))) at lm in
+      elim (cases_eq m.var l.var) [
+        | inl v ↦
+            (let here : get_or (set marks l.var (Some (not l.neg))) m.var None ≡ Some (not l.neg) = rw v (get_or-set_same marks l.var (Some (not l.neg)) None lt) in
+            elim (cases_bool_eq m.neg l.neg) [
+              | inl e ↦ (λ _. rw (Lit-same m l v e) (Contains-push lits l), λ _. here ∙ ap (λ (b : Bool). Some (not b)) (sym e))
+              | inr ne ↦ (
+                λ is. absurd (ne (sym (not_same _ _ (some_same _ _ (sym here ∙ is))))),
+                λ has. elim (Contains-push_cases lits l m has) [
+                  | inl was ↦ absurd (free (rw (sym (Lit-same m (negation l) v (flip m.neg l.neg ne))) was))
+                  | inr same ↦ absurd (ne (ap (λ (x : Lit). x.neg) (sym same)))
+                ],
+              )
+            ])
+        | inr apart ↦
+            (let there : get_or (set marks l.var (Some (not l.neg))) m.var None ≡ get_or marks m.var None = get_or-set_other marks l.var m.var (Some (not l.neg)) None apart in (
+              λ is. Contains-append_left lits (l ∷ []) m ((h.agree m old).0 (sym there ∙ is)),
+              λ has. there ∙ elim (Contains-push_cases lits l m has) [
+                | inl was ↦ (h.agree m old).1 was
+                | inr same ↦ absurd (apart (ap (λ (x : Lit). x.var) (sym same)))
+              ],
+            ))
+      ];
+}
 
 -- a literal of the list is an entry's
 pub entry_of : (es : List Entry) (l : Lit) (d : Entry) → Contains (lits_of es) l → (k : ℕ) × (k < length es) × ((get_or es k d).lit ≡ l)
@@ -226,6 +295,7 @@ among places es l place count h has read =
     )
 
 pub not_among : (es : List Entry) (l : Lit) (count : ℕ) → (Contains (lits_of es) l → ⊥) → IsTrue false ↔ Contains (lits_of (take count es)) l
-not_among es l count none =
-    (λ t. absurd (false≢true t),
-     λ is. absurd (none (Contains-take (lits_of es) count l (rw (sym (take-map (λ (e : Entry). e.lit) count es)) at is))))
+not_among es l count none = (
+  λ t. absurd (false≢true t),
+  λ is. absurd (none (Contains-take (lits_of es) count l (rw (sym (take-map (λ (e : Entry). e.lit) count es)) at is))),
+)

@@ -24,7 +24,7 @@ use tla_values::List;
 #[derive(Drop)]
 pub struct Search {
     pub clauses: Clauses,
-    pub steps: List<Step>,
+    pub steps: Log,
     pub trail: Trail,
     pub checking: Checking,
 }
@@ -66,7 +66,7 @@ impl Search {
         ensures { result ≡ self.steps }
     {
         let Search { steps, .. } = self;
-        Log::from_vec(steps.into_vec())
+        steps
     }
 }
 
@@ -110,7 +110,11 @@ fn settle(search: &mut Search) -> Result<Option<u64>, AllocError>
     requires { IsSearching search.old }
     ensures { IfOk result (λ o. IsSettled search.old search.new o) }
 {
-    let found = propagate(search.clauses.clauses(), search.steps.as_slice(), &mut search.trail)?;
+    let found = propagate(
+        search.clauses.clauses(),
+        search.steps.as_slice(),
+        &mut search.trail,
+    )?;
     Ok(found)
 }
 

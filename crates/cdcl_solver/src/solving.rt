@@ -28,7 +28,7 @@ pub fn solve(
     ensures refuted { IfOk result (λ a. (log : List Step) → a ≡ Answer.Unsat log →
         IsUnsatisfiable (clauses_with formula.now assume)) }
 {
-    let cnf = formula.with_unit(assume)?;
+    let cnf = formula.with_unit(alloc, assume)?;
     let mut search = Search::new(alloc, cnf)?;
     match run(alloc, &mut search, budget)? {
         End::Satisfied => Ok(Answer::Sat(search.trail.assignment(alloc)?)),

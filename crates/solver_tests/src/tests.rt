@@ -32,10 +32,10 @@ fn answer_to(
             Ok(Told::Sat(whole && f.satisfies(&a) && value(assume, &a)))
         }
         Answer::Unsat(log) => {
-            let cnf = f.with_unit(assume)?;
+            let cnf = f.with_unit(alloc, assume)?;
             Ok(Told::Unsat(check(alloc, &cnf, &log)? == Check::Yes))
         }
-        Answer::Spent(log) => Ok(Told::Spent(log.steps().len())),
+        Answer::Spent(log) => Ok(Told::Spent(log.len())),
     }
 }
 

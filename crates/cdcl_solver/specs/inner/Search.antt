@@ -24,7 +24,7 @@ pub record IsSearch (clauses : List (List Lit)) (steps : List Step) (t : Decisio
 -- the checker's trail is empty between two tests
 pub record IsSearching (s : Search) : Type 0 where
   pub search : IsSearch s.clauses s.steps s.trail
-  pub checking : s.checking ≡ record { room = s.trail.room; lits = [] }
+  pub checking : s.checking ≡ []
 
 -- nothing is true yet
 pub record IsBegun (formula : Cnf) (s : Search) : Type 0 where
@@ -37,11 +37,10 @@ pub record IsBegun (formula : Cnf) (s : Search) : Type 0 where
 abbrev pub Meets : Search → ℕ → Type 0
 Meets s conflict = IsConflict (known s.clauses s.steps) (lits_of s.trail.entries) conflict
 
--- the clauses, the number of variables and the checker's trail stay
+-- the clauses and the number of variables stay
 pub record Keeps (old new : Search) : Type 0 where
   pub clauses : new.clauses ≡ old.clauses
   pub room : new.trail.room ≡ old.trail.room
-  pub checking : new.checking ≡ old.checking
 
 -- the trail went on, until a clause is false or each says nothing
 pub record IsSettled (old new : Search) (conflict : Option ℕ) : Type 0 where

@@ -1,8 +1,8 @@
 -- The solver's trail: what is true and why, beside tables by variable.
-use Rattle.std.specs.Prelude.{◌≡◌, ◌≢◌, ℕ, ◌+◌, ◌<◌, ◌⊎◌, Bool, false, not, List, length, map, AllPairs, Contains, slice_index_or, count_by, is_none, Option, Some, None}
+use Rattle.std.specs.Prelude.{◌≡◌, ◌≢◌, ℕ, ◌+◌, ◌<◌, ◌⊎◌, ◌↔◌, Bool, false, not, List, length, map, All, AllPairs, Contains, slice_index_or, count_by, is_none, Option, Some, None}
 use Rattle.sat_formula.specs.declared.lit.Lit.{Lit}
 use Rattle.refutation_checker.specs.Follows.{negation}
-use Rattle.refutation_checker.specs.Marks.{Marks}
+use Rattle.sat_formula.specs.Lit.{IsBelow}
 use Rattle.cdcl_solver.specs.declared.entry.Entry.{Entry}
 
 -- how many variables there are, and what is true
@@ -12,6 +12,11 @@ pub record DecisionTrail : Type 0 where
 
 abbrev pub lits_of : List Entry → List Lit
 lits_of es = map (λ e. e.lit) es
+
+-- a variable's mark is its value, where one of its literals is true
+pub record Marks (marks : List (Option Bool)) (lits : List Lit) : Type 0 where
+  pub agree : (l : Lit) → l.var < length marks → ((slice_index_or marks l.var None ≡ Some (not l.neg)) ↔ Contains lits l)
+  pub within : All (IsBelow (length marks)) lits
 
 -- no variable stands twice
 abbrev pub DistinctVars : List Entry → Type 0
