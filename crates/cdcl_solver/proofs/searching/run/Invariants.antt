@@ -1,0 +1,13 @@
+use Rattle.cdcl_solver.specs.inner.Weight.{weight}
+use Rattle.cdcl_solver.specs.inner.Search.{IsSearching, IsUnspent, Keeps}
+use Rattle.cdcl_solver.proofs.searching.run.Given as goal
+
+abbrev pub invariant-search : goal.invariant-search
+invariant-search l = record {
+  searching : IsSearching l.search;
+  unspent : IsUnspent l.budget l.search.steps;
+  keeps : Keeps l.initial.search l.search;
+}
+
+abbrev pub decreases-search : goal.decreases-search
+decreases-search l = weight l.search.trail.room l.search.trail.entries

@@ -1,0 +1,235 @@
+//! The search: it propagates, decides and learns.
+
+ghost use Rattle.std.specs.Prelude.{◌≡◌, ℕ, ◌+◌, ◌-◌, ◌^◌, ◌<◌, ◌≤◌, ◌↔◌, ◌++◌, ◌∷◌, [], IsTrue, length, map, drop, take, OnErr, IfOk, OnOk, All, MatchBool, true, slice_index_or, List, Option, Some, None};
+ghost use Rattle.sat_formula.specs.Lit.{IsBelow};
+ghost use Rattle.sat_formula.specs.Clause.{NamesBelow};
+ghost use Rattle.refutation_checker.specs.Follows.{known};
+ghost use Rattle.cdcl_solver.specs.inner.Trail.{IsFree, lits_of};
+ghost use Rattle.cdcl_solver.specs.inner.Chain.{IsLastDecision, Quiet};
+ghost use Rattle.cdcl_solver.specs.inner.Search.{IsSearching, Meets, IsEnd, IsBegun, IsSettled, IsDecided, Advances, IsRefuted, stepped};
+
+use crate::acceptance::is_jump;
+use crate::analysis::{Candidate, first_unique_point};
+use crate::entry::Entry;
+use crate::learning::{explained, last_decision};
+use crate::propagation::propagate;
+use crate::trail::Trail;
+use refutation_checker::{Log, Step, Trail as Checking, follows};
+use sat_formula::{Clause, Clauses, Cnf, Lit};
+use std::alloc::{AllocError, Global};
+use tla_values::List;
+
+/// The clauses, the steps that were derived from them, what is true, and the checker's own trail,
+/// by which a proposed step is tested.
+#[derive(Drop)]
+pub struct Search {
+    pub clauses: Clauses,
+    pub steps: Log,
+    pub trail: Trail,
+    pub checking: Checking,
+}
+
+/// Why a search ended.
+#[derive(Clone, Copy, Debug)]
+pub enum End {
+    Satisfied,
+    Refuted,
+    Spent,
+}
+
+impl Search {
+    /// A search in which nothing is true yet.
+    pub fn new(alloc: Global, formula: Cnf) -> Result<Search, AllocError>
+        requires { NamesBelow formula.vars formula.clauses }
+        ensures { IfOk result (λ s. IsBegun formula s) }
+    {
+        let trail = Trail::new(alloc, formula.vars)?;
+        let checking = Checking::new(alloc, formula.vars)?;
+        Ok(Search {
+            clauses: formula.clauses,
+            steps: List::new(alloc),
+            trail,
+            checking,
+        })
+    }
+
+    // How many clauses a hint can name.
+    fn count(&self) -> usize
+        ensures count { result ≡ length (known self.now.clauses self.now.steps) }
+        ensures small { result + 1 < 2 ^ 64 }
+    {
+        self.clauses.clauses().len() + self.steps.as_slice().len()
+    }
+
+    /// The steps, which takes no memory.
+    pub fn into_log(self) -> Log
+        ensures { result ≡ self.steps }
+    {
+        let Search { steps, .. } = self;
+        steps
+    }
+}
+
+/// Searches until each variable has a value, the empty clause is derived or the budget is spent.
+pub fn run(alloc: Global, search: &mut Search, budget: Option<u64>) -> Result<End, AllocError>
+    requires searching { IsSearching search.old }
+    requires empty { search.old.steps ≡ [] }
+    ensures end { IfOk result (λ e. IsEnd budget search.old search.new e) }
+{
+    'search: loop {
+        let found = settle(search)?;
+        if let Some(conflict) = found {
+            let Some(last) = last_decision(search.trail.entries()) else {
+                refute(alloc, search, conflict)?;
+                return Ok(End::Refuted);
+            };
+            if is_spent(budget, search.steps.len()) {
+                return Ok(End::Spent);
+            }
+            learn(alloc, search, conflict, last)?;
+        } else {
+            let Some(var) = search.trail.first_free() else {
+                return Ok(End::Satisfied);
+            };
+            decide(search, var)?;
+        }
+    }
+}
+
+fn is_spent(budget: Option<u64>, count: usize) -> bool
+    ensures { IsTrue result ↔ (budget ≡ Some count) }
+{
+    match budget {
+        Some(n) => n == count as u64,
+        None => false,
+    }
+}
+
+// Makes true what the clauses force, and answers the number of a clause that is false, if one is.
+fn settle(search: &mut Search) -> Result<Option<u64>, AllocError>
+    requires { IsSearching search.old }
+    ensures { IfOk result (λ o. IsSettled search.old search.new o) }
+{
+    let found = propagate(
+        search.clauses.clauses(),
+        search.steps.as_slice(),
+        &mut search.trail,
+    )?;
+    Ok(found)
+}
+
+// Tries false for a variable, where no clause forces more.
+fn decide(search: &mut Search, var: usize) -> Result<(), AllocError>
+    requires searching { IsSearching search.old }
+    requires quiet { All (Quiet (lits_of search.old.trail.entries)) (known search.old.clauses search.old.steps) }
+    requires below { var < search.old.trail.room }
+    requires free { IsFree (lits_of search.old.trail.entries) (record { var = var; neg = true }) }
+    ensures { OnOk result (IsDecided search.old search.new) }
+{
+    search.trail.push(Entry {
+        lit: Lit { var, neg: true },
+        reason: None,
+    })?;
+    Ok(())
+}
+
+// Adds the empty clause, where no decision is left.
+fn refute(alloc: Global, search: &mut Search, conflict: u64) -> Result<(), AllocError>
+    requires searching { IsSearching search.old }
+    requires conflict { Meets search.old conflict }
+    requires none { IsLastDecision search.old.trail.entries None }
+    ensures { OnOk result (IsRefuted search.old search.new) }
+{
+    let step = explained(alloc, search.count(), search.trail.entries(), conflict)?;
+    search.steps.push(step)?;
+    Ok(())
+}
+
+// Learns by the first unique point, or else the negated decisions.
+fn learn(alloc: Global, search: &mut Search, conflict: u64, last: usize) -> Result<(), AllocError>
+    requires searching { IsSearching search.old }
+    requires conflict { Meets search.old conflict }
+    requires last { IsLastDecision search.old.trail.entries (Some last) }
+    ensures { OnOk result (Advances search.old search.new) }
+{
+    let jumped = jump(alloc, search, conflict, last)?;
+    if jumped {
+        return Ok(());
+    }
+    learn_decisions(alloc, search, conflict, last)?;
+    Ok(())
+}
+
+// Learns by the first unique point and jumps back, or leaves all as it is where the tests refuse
+// the clause.
+fn jump(alloc: Global, search: &mut Search, conflict: u64, last: usize) -> Result<bool, AllocError>
+    requires searching { IsSearching search.old }
+    requires last { last < length search.old.trail.entries }
+    ensures { IfOk result (λ b. MatchBool b (Advances search.old search.new) (search.new ≡ search.old)) }
+{
+    let Some(candidate) = first_unique_point(alloc, search, conflict, last)? else {
+        return Ok(false);
+    };
+    if !is_jump(&candidate, &search.trail) {
+        return Ok(false);
+    }
+    let Candidate {
+        lits,
+        hints,
+        forced,
+        at,
+    } = candidate;
+    let learned = Clause::from_vec(lits);
+    let hinted = List::from_vec(hints);
+    let step = Step {
+        id: search.count() as u64 + 1,
+        lits: learned,
+        hints: hinted,
+    };
+    let works = follows(
+        search.clauses.clauses(),
+        search.steps.as_slice(),
+        &step,
+        &mut search.checking,
+    )?;
+    if !works {
+        return Ok(false);
+    }
+    add_step(search, step, forced, at)?;
+    Ok(true)
+}
+
+// Adds the negated decisions as a clause, goes back before the last decision and makes it false.
+fn learn_decisions(
+    alloc: Global,
+    search: &mut Search,
+    conflict: u64,
+    last: usize,
+) -> Result<(), AllocError>
+    requires searching { IsSearching search.old }
+    requires conflict { Meets search.old conflict }
+    requires last { IsLastDecision search.old.trail.entries (Some last) }
+    ensures { OnOk result (Advances search.old search.new) }
+{
+    let entries = search.trail.entries();
+    let decided = entries[last].lit;
+    let step = explained(alloc, search.count(), entries, conflict)?;
+    add_step(search, step, decided.negated(), last)?;
+    Ok(())
+}
+
+// Adds the step, goes back to the first `at` entries and makes the literal true by it.
+fn add_step(search: &mut Search, step: Step, forced: Lit, at: usize) -> Result<(), AllocError>
+    requires below { forced.var < search.old.trail.room }
+    requires free { IsFree (lits_of (take at search.old.trail.entries)) forced }
+    ensures { OnOk result (search.new ≡ stepped search.old step forced at) }
+{
+    let id = step.id;
+    search.steps.push(step)?;
+    search.trail.back(at);
+    search.trail.push(Entry {
+        lit: forced,
+        reason: Some(id),
+    })?;
+    Ok(())
+}
