@@ -24,12 +24,12 @@ use Rattle.tla_meaning.specs.declared.outcome.Outcome.{Outcome}
 use Rattle.tla_meaning.specs.declared.outcome.Fault.TheVariants.{NoFault}
 use Rattle.tla_meaning.specs.Numbers.{Width}
 use Rattle.tla_meaning.specs.Operators.{yes_no}
-use Rattle.tla_meaning.specs.declared.actions.Assigned.{Assigned}
+use Rattle.tla_meaning.specs.declared.actions.Assignable.{Assignable}
 use Rattle.tla_meaning.specs.declared.actions.Effect.{Effect}
 use Rattle.tla_meaning.specs.Scopes.{Denotation}
 use Rattle.tla_meaning.specs.Meaning.{outcomes, outer, conjoined, disjoined}
 use Rattle.tla_meaning.specs.Actions.{val, meaning, effects, effects_and, effects_or, effect_of, outcome_of, any_mentions}
-use Rattle.tla_meaning.specs.Executions.{no_scope, start, next, invariant, first_not_yes, is_yes, IsYes, IsState, AreSteps, IsExecution, last_of, assume_effects, assumptions, in_init, in_cinit, in_next}
+use Rattle.tla_meaning.specs.Executions.{no_scope, start, next, invariant, first_not_yes, is_yes, IsYes, IsState, AreSteps, IsExecution, last_of, in_init, in_cinit, in_next}
 use Rattle.tla_meaning.specs.BooleanLayout.{behind, leaf, tree, operator, operand, conjunct_text, conjunct_tree, conjunct_trees, conjunction_tree, branch_trees, next_tree, declarations, job_of, no_part, place_at, init_line}
 use Rattle.tla_meaning.proofs.MeaningLemmas.{belongs-out, val-roll, denotation-roll}
 use Rattle.symbolic_mc.specs.Boolean.{state_of, allows, holds_at, all_hold, some_holds, init_holds, next_holds, inv_holds, SpeakOf, RunsOn, IsRun}
@@ -77,14 +77,14 @@ effect_sure : (b : Bool) → effect_of (yes_no b) ≡ sure b
 effect_sure true = simp value.outs-Bool
 effect_sure false = simp value.outs-Bool
 
-plain_act : (w : Width) (mk : Assigned) (p q r : Place) (o : Option Bool) (i : ℕ) (primed : Bool) (s t : State)
+plain_act : (w : Width) (mk : Assignable) (p q r : Place) (o : Option Bool) (i : ℕ) (primed : Bool) (s t : State)
     → (meaning w (tree p (operator o) (leaf q (op.Name i primed) ∷ leaf r (operand o) ∷ [])) no_scope).act mk s t
     ≡ effect_of (val w (tree p (operator o) (leaf q (op.Name i primed) ∷ leaf r (operand o) ∷ [])) no_scope s t)
 plain_act w mk p q r None i primed s t = simp (denotation-roll, val-roll)
 plain_act w mk p q r (Some b) i primed s t = simp (denotation-roll, val-roll)
 
 -- where a conjunct's value is a truth value, so is its effect
-conjunct_does : (w : Width) (mk : Assigned) (names : List (List ℕ)) (p : Place) (c : Conjunct) (s t : State) (b : Bool)
+conjunct_does : (w : Width) (mk : Assignable) (names : List (List ℕ)) (p : Place) (c : Conjunct) (s t : State) (b : Bool)
     → val w (conjunct_tree names p c) no_scope s t ≡ yes_no b → (meaning w (conjunct_tree names p c) no_scope).act mk s t ≡ sure b
 conjunct_does w mk names p c s t b e = plain_act w mk _ p _ c.choice c.var c.primed s t ∙ ap effect_of e ∙ effect_sure b
 
@@ -148,7 +148,7 @@ conjuncts_val w names at p (c ∷ cs) s t f says =
     let tail = conjuncts_val w names at (behind p (length (conjunct_text names c) + 4)) cs s t f (All-tail (Says w names s t f) c cs says) in
     cons_as _ _ _ _ head tail
 
-conjuncts_act : (w : Width) (mk : Assigned) (names : List (List ℕ)) (at p : Place) (cs : List Conjunct) (s t : State) (f : Conjunct → Bool) → All (Says w names s t f) cs
+conjuncts_act : (w : Width) (mk : Assignable) (names : List (List ℕ)) (at p : Place) (cs : List Conjunct) (s t : State) (f : Conjunct → Bool) → All (Says w names s t f) cs
     → effects mk (denotations_of w at (conjunct_trees names p cs)) s t ≡ map (λ c. sure (f c)) cs
 conjuncts_act w mk names at p [] s t f says = refl
 conjuncts_act w mk names at p (c ∷ cs) s t f says =
@@ -159,13 +159,13 @@ conjuncts_act w mk names at p (c ∷ cs) s t f says =
 and_val : (w : Width) (p : Place) (es : List Expr) (s t : State) → val w (tree p op.And es) no_scope s t ≡ conjoined p (outcomes (denotations_of w p es) s t)
 and_val w p es s t = val-roll w _ no_scope s t
 
-and_act : (w : Width) (mk : Assigned) (p : Place) (es : List Expr) (s t : State) → (meaning w (tree p op.And es) no_scope).act mk s t ≡ effects_and (effects mk (denotations_of w p es) s t)
+and_act : (w : Width) (mk : Assignable) (p : Place) (es : List Expr) (s t : State) → (meaning w (tree p op.And es) no_scope).act mk s t ≡ effects_and (effects mk (denotations_of w p es) s t)
 and_act w mk p es s t = ap (λ (a : Denotation). a.act mk s t) (denotation-roll w _ no_scope)
 
 true_val : (w : Width) (p : Place) (s t : State) → val w (leaf p (op.Bool true)) no_scope s t ≡ yes_no true
 true_val w p s t = val-roll w _ no_scope s t
 
-true_act : (w : Width) (mk : Assigned) (p : Place) (s t : State) → (meaning w (leaf p (op.Bool true)) no_scope).act mk s t ≡ sure true
+true_act : (w : Width) (mk : Assignable) (p : Place) (s t : State) → (meaning w (leaf p (op.Bool true)) no_scope).act mk s t ≡ sure true
 true_act w mk p s t = ap (λ (a : Denotation). a.act mk s t) (denotation-roll w _ no_scope) ∙ effect_sure true
 
 and_true : (b : Bool) → (b && true) ≡ b
@@ -180,7 +180,7 @@ conjunction_says w names p (c ∷ []) s t f says =
 conjunction_says w names p (c ∷ d ∷ cs) s t f says =
     and_val w _ _ s t ∙ ap (conjoined _) (conjuncts_val w names _ p (c ∷ d ∷ cs) s t f says) ∙ conjoined_all _ f (c ∷ d ∷ cs)
 
-pub conjunction_does : (w : Width) (mk : Assigned) (names : List (List ℕ)) (p : Place) (cs : List Conjunct) (s t : State) (f : Conjunct → Bool) → All (Says w names s t f) cs
+pub conjunction_does : (w : Width) (mk : Assignable) (names : List (List ℕ)) (p : Place) (cs : List Conjunct) (s t : State) (f : Conjunct → Bool) → All (Says w names s t f) cs
     → (meaning w (conjunction_tree names p cs) no_scope).act mk s t ≡ sure (list_all f cs)
 conjunction_does w mk names p [] s t f says = true_act w mk p s t
 conjunction_does w mk names p (c ∷ []) s t f says =
@@ -202,7 +202,7 @@ branches_val w names at line (b ∷ bs) s t f says =
     (conjunction_says w names (place_at line 12) b s t f (All-head (AllSay w names s t f) b bs says))
     (branches_val w names at (line + 1) bs s t f (All-tail (AllSay w names s t f) b bs says))
 
-branches_act : (w : Width) (mk : Assigned) (names : List (List ℕ)) (at : Place) (line : ℕ) (bs : List (List Conjunct)) (s t : State) (f : Conjunct → Bool) → All (AllSay w names s t f) bs
+branches_act : (w : Width) (mk : Assignable) (names : List (List ℕ)) (at : Place) (line : ℕ) (bs : List (List Conjunct)) (s t : State) (f : Conjunct → Bool) → All (AllSay w names s t f) bs
     → effects mk (denotations_of w at (branch_trees names line bs)) s t ≡ map (λ cs. sure (list_all f cs)) bs
 branches_act w mk names at line [] s t f says = refl
 branches_act w mk names at line (b ∷ bs) s t f says =
@@ -211,7 +211,7 @@ branches_act w mk names at line (b ∷ bs) s t f says =
     (branches_act w mk names at (line + 1) bs s t f (All-tail (AllSay w names s t f) b bs says))
 
 -- a disjunction is taken as an action or as a value; where no operand has a fault, both say the same
-or_act : (w : Width) (mk : Assigned) (p : Place) (es : List Expr) (s t : State) (b : Bool)
+or_act : (w : Width) (mk : Assignable) (p : Place) (es : List Expr) (s t : State) (b : Bool)
     → effects_or (effects mk (denotations_of w p es) s t) ≡ sure b → disjoined p (outcomes (denotations_of w p es) s t) ≡ yes_no b
     → (meaning w (tree p op.Or es) no_scope).act mk s t ≡ sure b
 or_act w mk p es s t b acts vals =
@@ -221,7 +221,7 @@ or_act w mk p es s t b acts vals =
     either true = acts
     either false = ap effect_of vals ∙ effect_sure b
 
-pub next_does : (w : Width) (mk : Assigned) (names : List (List ℕ)) (line : ℕ) (bs : List (List Conjunct)) (s t : State) (f : Conjunct → Bool) → All (AllSay w names s t f) bs
+pub next_does : (w : Width) (mk : Assignable) (names : List (List ℕ)) (line : ℕ) (bs : List (List Conjunct)) (s t : State) (f : Conjunct → Bool) → All (AllSay w names s t f) bs
     → (meaning w (next_tree names line bs) no_scope).act mk s t ≡ sure (list_any (λ cs. list_all f cs) bs)
 next_does w mk names line bs s t f says =
     or_act w mk (place_at line 9) (branch_trees names line bs) s t (list_any (λ cs. list_all f cs) bs)
@@ -233,23 +233,21 @@ next_does w mk names line bs s t f says =
 sure_outcome : (b : Bool) → outcome_of (sure b) ≡ yes_no b
 sure_outcome b = refl
 
-no_conjunction : assumptions no_part ≡ no_part ∷ []
-no_conjunction = simp (out-roll-Expr)
-
 pub start_says : (w : Width) (file : List ℕ) (m : BooleanModule) (s : State) (f : Conjunct → Bool) → AllSay w m.vars s s f m.init
     → start w (job_of file m) s ≡ yes_no (list_all f m.init)
 start_says w file m s f says =
-    ap outcome_of (ap (λ (e : Effect). effects_and (e ∷ assume_effects w (job_of file m) s ++ last ∷ [])) (true_act w (in_cinit (job_of file m)) (place_at 1 1) s s)
-    ∙ ap (λ (es : List Effect). effects_and (sure true ∷ es ++ last ∷ [])) assumed
+    ap outcome_of (ap (λ (e : Effect). effects_and (e ∷ assumed ∷ last ∷ [])) (true_act w (in_cinit (job_of file m)) (place_at 1 1) s s)
+    ∙ ap (λ (e : Effect). effects_and (sure true ∷ e ∷ last ∷ [])) assumed_is
     ∙ ap (λ (e : Effect). effects_and (sure true ∷ sure true ∷ e ∷ [])) init_act ∙ whole (list_all f m.init))
   where
     last : Effect
     last = (meaning w (job_of file m).init no_scope).act (in_init (job_of file m)) s s
 
-    assumed : assume_effects w (job_of file m) s ≡ sure true ∷ []
-    assumed =
-        ap (λ (es : List Expr). map (λ e. effect_of (val w e no_scope s s)) es) no_conjunction
-        ∙ ap (λ (o : Outcome). effect_of o ∷ []) (true_val w (place_at 1 1) s s) ∙ ap (λ (e : Effect). e ∷ []) (effect_sure true)
+    assumed : Effect
+    assumed = effect_of (val w (job_of file m).assume no_scope s s)
+
+    assumed_is : assumed ≡ sure true
+    assumed_is = ap effect_of (true_val w (place_at 1 1) s s) ∙ effect_sure true
 
     init_act : last ≡ sure (list_all f m.init)
     init_act = conjunction_does w (in_init (job_of file m)) m.vars (place_at (init_line m) 9) m.init s s f says
@@ -284,7 +282,7 @@ truths_say : (w : Width) (names : List (List ℕ)) (cs : List Conjunct) (now nex
     → AllSay w names (state_of now) (state_of next) (holds_at now next) cs
 truths_say w names cs now next within alike k d lt p = conjunct_val w names p (get_or cs k d) now next (within k d lt) alike
 
-pub conjunct_act : (w : Width) (mk : Assigned) (names : List (List ℕ)) (p : Place) (c : Conjunct) (now next : List Bool) → c.var < length now → length next ≡ length now
+pub conjunct_act : (w : Width) (mk : Assignable) (names : List (List ℕ)) (p : Place) (c : Conjunct) (now next : List Bool) → c.var < length now → length next ≡ length now
     → (meaning w (conjunct_tree names p c) no_scope).act mk (state_of now) (state_of next) ≡ sure (holds_at now next c)
 conjunct_act w mk names p c now next lt alike = conjunct_does w mk names p c (state_of now) (state_of next) (holds_at now next c) (conjunct_val w names p c now next lt alike)
 
@@ -293,7 +291,7 @@ pub conjunction_val : (w : Width) (names : List (List ℕ)) (p : Place) (cs : Li
 conjunction_val w names p cs now next within alike =
     conjunction_says w names p cs (state_of now) (state_of next) (holds_at now next) (truths_say w names cs now next within alike)
 
-pub conjunction_act : (w : Width) (mk : Assigned) (names : List (List ℕ)) (p : Place) (cs : List Conjunct) (now next : List Bool) → SpeakOf (length now) cs → length next ≡ length now
+pub conjunction_act : (w : Width) (mk : Assignable) (names : List (List ℕ)) (p : Place) (cs : List Conjunct) (now next : List Bool) → SpeakOf (length now) cs → length next ≡ length now
     → (meaning w (conjunction_tree names p cs) no_scope).act mk (state_of now) (state_of next) ≡ sure (all_hold cs now next)
 conjunction_act w mk names p cs now next within alike =
     conjunction_does w mk names p cs (state_of now) (state_of next) (holds_at now next) (truths_say w names cs now next within alike)
@@ -302,7 +300,7 @@ branches_say : (w : Width) (names : List (List ℕ)) (bs : List (List Conjunct))
     → All (AllSay w names (state_of now) (state_of next) (holds_at now next)) bs
 branches_say w names bs now next within alike k d lt = truths_say w names (get_or bs k d) now next (within k d lt) alike
 
-pub next_act : (w : Width) (mk : Assigned) (names : List (List ℕ)) (line : ℕ) (bs : List (List Conjunct)) (now next : List Bool) → All (SpeakOf (length now)) bs → length next ≡ length now
+pub next_act : (w : Width) (mk : Assignable) (names : List (List ℕ)) (line : ℕ) (bs : List (List Conjunct)) (now next : List Bool) → All (SpeakOf (length now)) bs → length next ≡ length now
     → (meaning w (next_tree names line bs) no_scope).act mk (state_of now) (state_of next) ≡ sure (some_holds bs now next)
 next_act w mk names line bs now next within alike =
     next_does w mk names line bs (state_of now) (state_of next) (holds_at now next) (branches_say w names bs now next within alike)

@@ -3,7 +3,7 @@ use Rattle.std.proofs.Common.{◌≡◌, ◌∙◌, ap, ℕ, true, false, List, 
 use Rattle.tla_values.proofs.OrderLemmas.{value_cmp_out}
 use Rattle.tla_values.specs.declared.value.Value.{Value}
 use Rattle.tla_values.specs.declared.value.Value.TheVariants as value
-use Rattle.tla_meaning.specs.declared.actions.Assigned.TheVariants.{Primed}
+use Rattle.tla_meaning.specs.declared.actions.Assignable.TheVariants.{Primed}
 use Rattle.tla_meaning.specs.declared.expr.Def.{Def}
 use Rattle.tla_meaning.specs.declared.expr.Expr.{Expr, out-roll-Expr, roll-Expr}
 use Rattle.tla_meaning.specs.declared.job.State.{State}
@@ -15,7 +15,7 @@ use Rattle.tla_meaning.specs.declared.op.Op.TheVariants as op
 use Rattle.tla_values.specs.declared.value.Value.TheOpen as layer
 use Rattle.tla_meaning.specs.declared.outcome.Outcome.{Outcome}
 use Rattle.tla_meaning.specs.declared.outcome.Outcome.TheVariants.{Val, Wrong, Big}
-use Rattle.tla_meaning.specs.Executions.{assumptions, no_scope}
+use Rattle.tla_meaning.specs.Executions.{no_scope}
 use Rattle.tla_meaning.specs.Actions.{act, meaning, val}
 use Rattle.tla_meaning.specs.Definitions.{defined_as}
 use Rattle.tla_meaning.specs.Folds.{with_lambdas}
@@ -162,19 +162,6 @@ folded_five s t =
 
 fold_by_name : (s t : State) → (defined_as None folded_module (at 1) (70 ∷ [])).value s t ≡ Val (value.Int (pos 5))
 fold_by_name s t = ap (λ e. val None e with_second s t) written ∙ folded_five s t
-
--- ---- assumptions
-
-abbrev two_truths : List Expr
-two_truths = leaf 2 (op.Bool true) ∷ leaf 4 (op.Bool false) ∷ []
-
--- an assumption that is a conjunction is one operand
-conjunction_is_one : assumptions (tree 3 op.And two_truths) ≡ tree 3 op.And two_truths ∷ []
-conjunction_is_one = simp (out-roll-Expr)
-
--- what was made of several assumptions has each of them as an operand
-made_of_two : assumptions (tree 1 op.And two_truths) ≡ two_truths
-made_of_two = simp (out-roll-Expr)
 
 -- ---- a form behind a definition, under a prime: q' \in T' where T == Seq(Int)
 

@@ -1,15 +1,18 @@
 -- What the questions of the levels tell of their errors: executions under a width and without one.
-use Rattle.std.proofs.Common.{ℕ, zero, suc, ◌+◌, ◌≤◌, ◌<◌, ◌≡◌, ◌↔◌, List, [], ◌∷◌, ◌++◌, length, length-append, Some, None, refl, ap, ◌∙◌, sym, subst, arith}
+use Rattle.std.proofs.Common.{Bool, ℕ, zero, suc, ◌+◌, ◌≤◌, ◌<◌, ◌≡◌, ◌↔◌, List, [], ◌∷◌, ◌++◌, length, length-append, Some, None, refl, ap, ◌∙◌, sym, subst, arith}
 use Rattle.tla_values.specs.declared.value.Value.{Value}
 use Rattle.tla_meaning.specs.declared.job.Job.{Job}
 use Rattle.tla_meaning.specs.declared.job.State.{State}
+use Rattle.tla_meaning.specs.declared.questions.Query.{Query}
+use Rattle.tla_meaning.specs.declared.questions.Query.TheVariants.{StepWrong, StepBig, InvNotTrue, InvBig, AssumeBig}
 use Rattle.tla_meaning.specs.declared.outcome.Outcome.{Outcome}
 use Rattle.tla_meaning.specs.declared.outcome.Outcome.TheVariants.{Val, Wrong, Big}
-use Rattle.tla_meaning.specs.Executions.{AreSteps, Errs, StartIsWrong, StepIsWrong, InvariantIsNotTrue, IsExecution, IsStep, IsWrongOutcome, IsYes, Reaches, last_of, next, start}
+use Rattle.tla_meaning.specs.Executions.{IsState, AreSteps, Errs, StartIsWrong, StepIsWrong, InvariantIsNotTrue, IsExecution, IsStep, IsWrongOutcome, IsYes, Reaches, last_of, next, start}
+use Rattle.tla_meaning.specs.Inductive.{IsInductiveError, StartErrs, TypedStepErrs, TypedInvariantErrs, IsTypedStart, NoneHoldsTyped, TypedHolds, hypothesis}
 use Rattle.tla_meaning.specs.Numbers.{Width}
-use Rattle.tla_meaning.specs.Questions.{Holds, IsBigOutcome, IsNotTrue, NoneBelow, NoneHolds, Question, StepWrong, StepBig, InvNotTrue, InvBig}
+use Rattle.tla_meaning.specs.Questions.{Holds, IsBigOutcome, IsNotTrue, NoneBelow, NoneHolds}
 use Rattle.tla_meaning.specs.Widths.{Narrow, SameValue, BothWrong, TooBig}
-use Rattle.tla_meaning.proofs.WidthLaw.{execution_narrow, invariant_narrow, next_narrow, start_narrow}
+use Rattle.tla_meaning.proofs.WidthLaw.{execution_narrow, hypothesis_narrow, invariant_narrow, next_narrow, start_narrow, yes_narrow}
 
 -- ---- one outcome
 
@@ -131,3 +134,39 @@ module _ (w : ℕ) (job : Job) where
       let reached : Reaches (Some w) job n s = wide_reaches w job (suc n) none n s (omega arith) r in
       none n (omega arith) InvNotTrue (s, reached,
       wide_not_yes (invariant_narrow (Some w) job s) (λ b. none n (omega arith) InvBig (s, reached, b)) untrue)
+
+-- ---- inductive errors by the typed questions
+
+module _ (within : State → Bool) (w : Width) (job : Job) where
+  narrow_start : (s : State) → IsTypedStart within w job s → IsTypedStart within None job s
+  narrow_start s h = record { state = h.state; bounds = h.bounds; holds = yes_narrow (hypothesis_narrow w job s) h.holds }
+
+  pub typed_wrong_errs : TypedHolds StepWrong within w job → IsInductiveError within job
+  typed_wrong_errs h = TypedStepErrs h.0 h.1 (narrow_start h.0 h.2) h.3 h.4 (narrow_wrong (next_narrow w job h.0 h.1) h.5)
+
+  pub typed_not_true_errs : TypedHolds InvNotTrue within w job → IsInductiveError within job
+  typed_not_true_errs h =
+      TypedInvariantErrs h.0 h.1 (narrow_start h.0 h.2) h.3 h.4 (yes_narrow (next_narrow w job h.0 h.1) h.5)
+      (narrow_not_yes (invariant_narrow w job h.1) h.6)
+
+module _ (within : State → Bool) (w : ℕ) (job : Job) (none : NoneHoldsTyped within (Some w) job) where
+  wide_start : (s : State) → IsTypedStart within None job s → IsTypedStart within (Some w) job s
+  wide_start s h = record {
+    state = h.state;
+    bounds = h.bounds;
+    holds = wide_yes (hypothesis_narrow (Some w) job s) (λ b. none AssumeBig (s, h.state, h.bounds, b)) h.holds;
+  }
+
+  pub none_errs_typed : NoneHolds (Some w) job 0 → IsInductiveError within job → ⊥
+  none_errs_typed level (StartErrs e) = none_errs w job 0 (λ m le. subst (NoneHolds (Some w) job) (zero_is m le) level) e
+    where
+      zero_is : (m : ℕ) → m < 1 → zero ≡ m
+      zero_is m le = omega arith
+  none_errs_typed level (TypedStepErrs s t h is keeps wrong) =
+      none StepWrong (s, t, wide_start s h, is, keeps,
+      wide_wrong (next_narrow (Some w) job s t) (λ b. none StepBig (s, t, wide_start s h, is, keeps, b)) wrong)
+  none_errs_typed level (TypedInvariantErrs s t h is keeps steps untrue) =
+      let stepped : IsYes (next (Some w) job s t) =
+      wide_yes (next_narrow (Some w) job s t) (λ b. none StepBig (s, t, wide_start s h, is, keeps, b)) steps in
+      none InvNotTrue (s, t, wide_start s h, is, keeps, stepped,
+      wide_not_yes (invariant_narrow (Some w) job t) (λ b. none InvBig (s, t, wide_start s h, is, keeps, stepped, b)) untrue)

@@ -16,7 +16,7 @@ use Rattle.tla_meaning.specs.Operators.{table, yes_no, on_all_sets}
 use Rattle.tla_meaning.specs.declared.forms.SetForm.{SetForm}
 use Rattle.tla_meaning.specs.declared.forms.SetForm.TheVariants as form
 use Rattle.tla_meaning.specs.Forms.{belongs}
-use Rattle.tla_meaning.specs.declared.actions.Assigned.{Assigned}
+use Rattle.tla_meaning.specs.declared.actions.Assignable.{Assignable}
 use Rattle.tla_meaning.specs.declared.actions.Effect.{Effect}
 use Rattle.tla_meaning.specs.Scopes.{Denotation, value_found}
 use Rattle.tla_meaning.specs.Meaning.{View, outcomes, child, truths, kept, argument, bound_table, over_members, Update, all_indexes, updates, first_updated, except, fold_over, all_in, read, changed, value_of, form_of, kept_value, unchanged_of}
@@ -176,7 +176,7 @@ keeps_narrow w p o n v u r s t = kept_narrow p (value_narrow w p o n v u r s t) 
 
 -- ---- actions
 
-mentions_same : {w : Width} → (p : Place) (o : Op) (n : ℕ) (v u : View) → NarrowView w v u → (m : Assigned) → mentions_of p o n v m ≡ mentions_of p o n u m
+mentions_same : {w : Width} → (p : Place) (o : Op) (n : ℕ) (v u : View) → NarrowView w v u → (m : Assignable) → mentions_of p o n v m ≡ mentions_of p o n u m
 mentions_same p (op.Name i primed) n v u r m = refl
 mentions_same p op.Prime n v u r m = (child_narrow p 0 r.here).mentions (under_prime m)
 mentions_same p op.Unchanged n v u r m =
@@ -199,7 +199,7 @@ by_marks {w = w} b c e f g h q x y = subst (λ (z : Bool). NarrowEffect w (if b 
     either true = x
     either false = y
 
-act_narrow : (w : Width) (p : Place) (o : Op) (n : ℕ) (v u : View) → NarrowView w v u → (m : Assigned) (s t : State) →
+act_narrow : (w : Width) (p : Place) (o : Op) (n : ℕ) (v u : View) → NarrowView w v u → (m : Assignable) (s t : State) →
     NarrowEffect w (act_of w p o n v m s t) (act_of None p o n u m s t)
 act_narrow w p op.And n v u r m s t = effects_and_narrow (effects_narrow m r.here s t)
 act_narrow w p op.Or n v u r m s t =

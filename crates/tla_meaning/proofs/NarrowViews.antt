@@ -3,7 +3,7 @@ use Rattle.std.proofs.Common.{◌≡◌, ℕ, zero, suc, Bool, true, false, ◌|
 use Rattle.tla_values.specs.declared.value.Value.{Value}
 use Rattle.tla_meaning.specs.declared.place.Place.{Place}
 use Rattle.tla_meaning.specs.declared.job.State.{State}
-use Rattle.tla_meaning.specs.declared.actions.Assigned.{Assigned}
+use Rattle.tla_meaning.specs.declared.actions.Assignable.{Assignable}
 use Rattle.tla_meaning.specs.Scopes.{Denotation, Scope, bind, bound_to, define, pass, find_last, or_else, same_text, absent, stands_for}
 use Rattle.tla_meaning.specs.Meaning.{Meaning, View, outcomes, denotations, child, forms, Role, Named, Held, Lets, Plain_role, view, outer, inner, let_scope}
 use Rattle.tla_meaning.specs.Actions.{effects, any_mentions}
@@ -18,9 +18,9 @@ use Rattle.tla_meaning.proofs.NarrowEffects.{NarrowEffect, AllEffects, no_effect
 pub record NarrowDenotation (w : Width) (a b : Denotation) : Type 0 where
   pub value : (s t : State) → Narrow w (a.value s t) (b.value s t)
   pub form : (s t : State) → NarrowForm w (a.form s t) (b.form s t)
-  pub act : (m : Assigned) (s t : State) → NarrowEffect w (a.act m s t) (b.act m s t)
+  pub act : (m : Assignable) (s t : State) → NarrowEffect w (a.act m s t) (b.act m s t)
   pub unchanged : (s t : State) → Narrow w (a.unchanged s t) (b.unchanged s t)
-  pub mentions : (m : Assigned) → a.mentions m ≡ b.mentions m
+  pub mentions : (m : Assignable) → a.mentions m ≡ b.mentions m
 
 pub data AllDenotations (w : Width) : List Denotation → List Denotation → Type 0 where
   no_denotations : AllDenotations w [] []
@@ -67,11 +67,11 @@ pub forms_narrow : {w : Width} → {as' bs : List Denotation} → AllDenotations
 forms_narrow no_denotations s t = no_formed
 forms_narrow (more_denotations r rs) s t = more_formed (r.form s t) (forms_narrow rs s t)
 
-pub effects_narrow : {w : Width} → (m : Assigned) {as' bs : List Denotation} → AllDenotations w as' bs → (s t : State) → AllEffects w (effects m as' s t) (effects m bs s t)
+pub effects_narrow : {w : Width} → (m : Assignable) {as' bs : List Denotation} → AllDenotations w as' bs → (s t : State) → AllEffects w (effects m as' s t) (effects m bs s t)
 effects_narrow m no_denotations s t = no_effects
 effects_narrow m (more_denotations {a = a} {b = b} r rs) s t = more_effects (a.act m s t) (b.act m s t) (r.act m s t) (effects_narrow m rs s t)
 
-pub any_same : {w : Width} → (m : Assigned) {as' bs : List Denotation} → AllDenotations w as' bs → any_mentions m as' ≡ any_mentions m bs
+pub any_same : {w : Width} → (m : Assignable) {as' bs : List Denotation} → AllDenotations w as' bs → any_mentions m as' ≡ any_mentions m bs
 any_same m no_denotations = refl
 any_same m (more_denotations r rs) = ap₂ (λ (x y : Bool). x || y) (r.mentions m) (any_same m rs)
 

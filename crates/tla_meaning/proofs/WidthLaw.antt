@@ -9,18 +9,19 @@ use Rattle.tla_meaning.specs.declared.job.State.{State}
 use Rattle.tla_meaning.specs.declared.outcome.Outcome.{Outcome}
 use Rattle.tla_meaning.specs.declared.outcome.Outcome.TheVariants.{Val}
 use Rattle.tla_meaning.specs.Operators.{yes_no}
-use Rattle.tla_meaning.specs.declared.actions.Assigned.{Assigned}
+use Rattle.tla_meaning.specs.declared.actions.Assignable.{Assignable}
 use Rattle.tla_meaning.specs.declared.actions.Effect.{Effect}
 use Rattle.tla_meaning.specs.Meaning.{Meaning, role}
 use Rattle.tla_meaning.specs.Actions.{val, act, meaning, node, effect_of}
-use Rattle.tla_meaning.specs.Executions.{scope_of, no_scope, in_cinit, in_init, in_next, assumptions, start, next, is_yes, IsYes, first_not_yes, invariant, AreSteps, IsExecution}
+use Rattle.tla_meaning.specs.Executions.{scope_of, no_scope, in_cinit, in_init, in_next, start, next, is_yes, IsYes, first_not_yes, invariant, AreSteps, IsExecution}
+use Rattle.tla_meaning.specs.Inductive.{hypothesis}
 use Rattle.tla_meaning.specs.Numbers.{Width}
 use Rattle.tla_meaning.specs.Shapes.{truth}
 use Rattle.tla_meaning.specs.Widths.{Narrow, SameValue, BothWrong, TooBig}
 use Rattle.tla_meaning.proofs.MeaningLemmas.{meaning-roll}
 use Rattle.tla_meaning.proofs.Views.{false≢true}
 use Rattle.tla_meaning.proofs.Narrow.{AllNarrow, none_narrow, more_narrow, each_narrow}
-use Rattle.tla_meaning.proofs.NarrowEffects.{AllEffects, no_effects, more_effects, all_effects, effect_of_narrow, outcome_of_narrow, effects_and_narrow}
+use Rattle.tla_meaning.proofs.NarrowEffects.{AllEffects, NarrowEffect, no_effects, more_effects, all_effects, effect_of_narrow, outcome_of_narrow, effects_and_narrow}
 use Rattle.tla_meaning.proofs.NarrowViews.{NarrowDenotation, NarrowScope, no_named, NarrowMeaning, AllMeanings, no_meanings, more_meanings, view_narrow}
 use Rattle.tla_meaning.proofs.NarrowNodes.{denotation_narrow}
 
@@ -54,28 +55,32 @@ empty_scope = record { bound = refl; named = no_named }
 pub val_narrow : (w : Width) (e : Expr) (env : Env) (s t : State) → Narrow w (val w e (scope_of env) s t) (val None e (scope_of env) s t)
 val_narrow w e env s t = (meaning_narrow w e (scope_of env) (scope_of env) (closed_scope env)).value s t
 
-pub act_narrow : (w : Width) (m : Assigned) (e : Expr) (env : Env) (s t : State) →
+pub act_narrow : (w : Width) (m : Assignable) (e : Expr) (env : Env) (s t : State) →
     Narrow w (act w m e (scope_of env) s t) (act None m e (scope_of env) s t)
 act_narrow w m e env s t =
     outcome_of_narrow ((meaning w e (scope_of env)).act m s t) ((meaning None e (scope_of env)).act m s t)
     ((meaning_narrow w e (scope_of env) (scope_of env) (closed_scope env)).act m s t)
 
-effects_append : {w : Width} → {es fs gs hs : List Effect} → AllEffects w es fs → AllEffects w gs hs → AllEffects w (es ++ gs) (fs ++ hs)
-effects_append no_effects qs = qs
-effects_append (more_effects e f r rs) qs = more_effects e f r (effects_append rs qs)
-
 value_alone : (w : Width) (e : Expr) (s t : State) → Narrow w (val w e no_scope s t) (val None e no_scope s t)
 value_alone w e s t = (meaning_narrow w e no_scope no_scope empty_scope).value s t
 
+-- the effect of a part in its position
+part_narrow : (w : Width) (m : Assignable) (e : Expr) (s : State) → NarrowEffect w ((meaning w e no_scope).act m s s) ((meaning None e no_scope).act m s s)
+part_narrow w m e s = (meaning_narrow w e no_scope no_scope empty_scope).act m s s
+
 pub start_narrow : (w : Width) (job : Job) (s : State) → Narrow w (start w job s) (start None job s)
 start_narrow w job s =
-    outcome_of_narrow _ _ (effects_and_narrow (effects_append
-    (more_effects ((meaning w job.cinit no_scope).act (in_cinit job) s s) ((meaning None job.cinit no_scope).act (in_cinit job) s s)
-    ((meaning_narrow w job.cinit no_scope no_scope empty_scope).act (in_cinit job) s s)
-    (all_effects (λ e. effect_of (val w e no_scope s s)) (λ e. effect_of (val None e no_scope s s))
-    (λ e. effect_of_narrow (value_alone w e s s)) (assumptions job.assume)))
-    (more_effects ((meaning w job.init no_scope).act (in_init job) s s) ((meaning None job.init no_scope).act (in_init job) s s)
-    ((meaning_narrow w job.init no_scope no_scope empty_scope).act (in_init job) s s) no_effects)))
+    outcome_of_narrow _ _ (effects_and_narrow (
+    more_effects _ _ (part_narrow w (in_cinit job) job.cinit s) (
+    more_effects _ _ (effect_of_narrow (value_alone w job.assume s s)) (
+    more_effects _ _ (part_narrow w (in_init job) job.init s) no_effects))))
+
+pub hypothesis_narrow : (w : Width) (job : Job) (s : State) → Narrow w (hypothesis w job s) (hypothesis None job s)
+hypothesis_narrow w job s =
+    outcome_of_narrow _ _ (effects_and_narrow (
+    more_effects _ _ (part_narrow w (in_cinit job) job.cinit s) (
+    more_effects _ _ (effect_of_narrow (value_alone w job.assume s s)) (
+    all_effects (λ e. effect_of (val w e.1 no_scope s s)) (λ e. effect_of (val None e.1 no_scope s s)) (λ e. effect_of_narrow (value_alone w e.1 s s)) job.invs))))
 
 pub next_narrow : (w : Width) (job : Job) (s t : State) → Narrow w (next w job s t) (next None job s t)
 next_narrow w job s t =
@@ -99,7 +104,7 @@ invariant_narrow w job s =
 
 -- ---- executions
 
-yes_narrow : {w : Width} → {o q : Outcome} → Narrow w o q → IsYes o → IsYes q
+pub yes_narrow : {w : Width} → {o q : Outcome} → Narrow w o q → IsYes o → IsYes q
 yes_narrow (SameValue v) h = h
 yes_narrow (BothWrong p q) h = h
 yes_narrow (TooBig p o) h = absurd (false≢true h)

@@ -4,8 +4,8 @@ use Rattle.std.specs.List.{list_any}
 use Rattle.tla_values.specs.Order.{Layer}
 use Rattle.tla_values.specs.declared.value.Value.{Value, out-Value}
 use Rattle.tla_values.specs.declared.value.Value.TheOpen as layer
-use Rattle.tla_meaning.specs.declared.actions.Assigned.{Assigned}
-use Rattle.tla_meaning.specs.declared.actions.Assigned.TheVariants.{Every, Primed, Constants, Variables, PrimedVariables}
+use Rattle.tla_meaning.specs.declared.actions.Assignable.{Assignable}
+use Rattle.tla_meaning.specs.declared.actions.Assignable.TheVariants.{Every, Primed, Constants, Variables, PrimedVariables}
 use Rattle.tla_meaning.specs.declared.actions.Effect.{Effect}
 use Rattle.tla_meaning.specs.declared.op.Op.{Op}
 use Rattle.tla_meaning.specs.declared.op.Op.TheVariants as op
@@ -76,7 +76,7 @@ abbrev pub if_effect : Place → List Outcome → List Effect → Effect
 if_effect p (c ∷ os) (e ∷ a ∷ b ∷ []) = guarded p c a b
 if_effect p os es = fails_by (IsWrong p)
 
-abbrev pub effects : Assigned → List Denotation → State → State → List Effect
+abbrev pub effects : Assignable → List Denotation → State → State → List Effect
 effects m as' s t = map (λ a. a.act m s t) as'
 
 -- a fault of the domains, or else the disjunction over all members
@@ -92,7 +92,7 @@ exists_effect p os body =
     ]
 
 -- whether the name of this number counts as assigned, itself primed or not
-abbrev pub counts : Assigned → ℕ → Bool → Bool
+abbrev pub counts : Assignable → ℕ → Bool → Bool
 counts Every i primed = true
 counts Primed i primed = primed
 counts (Constants n) i primed = nat_lt i n
@@ -100,19 +100,19 @@ counts (Variables n) i primed = nat_le n i
 counts (PrimedVariables n) i primed = primed && nat_le n i
 
 -- what counts under a prime, where every name is a primed one
-abbrev pub under_prime : Assigned → Assigned
+abbrev pub under_prime : Assignable → Assignable
 under_prime Every = Every
 under_prime Primed = Every
 under_prime (Constants n) = Constants n
 under_prime (Variables n) = Variables n
 under_prime (PrimedVariables n) = Variables n
 
--- whether a node holds a name that counts
-abbrev pub any_mentions : Assigned → List Denotation → Bool
+-- whether one of several holds a name that counts
+abbrev pub any_mentions : Assignable → List Denotation → Bool
 any_mentions m as' = list_any (λ a. a.mentions m) as'
 
--- `[A]_v` is `A \/ UNCHANGED v`, and `<<A>>_v` is `A /\ ~(UNCHANGED v)`
-abbrev pub mentions_of : Place → Op → ℕ → View → Assigned → Bool
+-- `[A]_v` is `A \/ UNCHANGED v`, and `<<A>>_v` is `A /\ ~(UNCHANGED v)`; what is mentioned depends on no bound value
+abbrev pub mentions_of : Place → Op → ℕ → View → Assignable → Bool
 mentions_of p (op.Name i primed) n v m = counts m i primed
 mentions_of p op.Prime n v m = (child p 0 v.here).mentions (under_prime m)
 mentions_of p op.Unchanged n v m = (child p 0 v.here).mentions (under_prime m) || (child p 0 v.here).mentions m
@@ -123,7 +123,7 @@ mentions_of p op.Angled n v m =
 mentions_of p o n v m = any_mentions m v.here || any_mentions m (v.under [])
 
 -- the effect of a node in an action position
-abbrev pub act_of : Width → Place → Op → ℕ → View → Assigned → State → State → Effect
+abbrev pub act_of : Width → Place → Op → ℕ → View → Assignable → State → State → Effect
 act_of w p op.And n v m s t = effects_and (effects m v.here s t)
 act_of w p op.Or n v m s t =
     if any_mentions m v.here
@@ -176,5 +176,5 @@ abbrev pub val : Width → Expr → Scope → State → State → Outcome
 val w e sc s t = (meaning w e sc).value s t
 
 -- the outcome of an action
-abbrev pub act : Width → Assigned → Expr → Scope → State → State → Outcome
+abbrev pub act : Width → Assignable → Expr → Scope → State → State → Outcome
 act w m e sc s t = outcome_of ((meaning w e sc).act m s t)

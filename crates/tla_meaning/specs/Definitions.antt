@@ -1,6 +1,7 @@
 -- What the definitions of a flat module stand for (Specifying Systems, sections 17.1 and 17.5).
 use Rattle.std.specs.Prelude.{ℕ, List, [], ◌∷◌}
 use Rattle.tla_meaning.specs.declared.expr.Def.{Def}
+use Rattle.tla_meaning.specs.declared.expr.Expr.{Expr}
 use Rattle.tla_meaning.specs.declared.modules.Flat.{Flat}
 use Rattle.tla_meaning.specs.declared.place.Place.{Place}
 use Rattle.tla_meaning.specs.Actions.{meaning}
@@ -22,3 +23,7 @@ scope_of_module w flat = with_definitions w flat.defs no_scope
 -- what a name of the module stands for at a place
 abbrev pub defined_as : Width → Flat → Place → List ℕ → Denotation
 defined_as w flat p x = stands_for p (find_last x (scope_of_module w flat).named) []
+
+-- what an assumption of the module stands for
+abbrev pub assumed_as : Width → Flat → Expr → Denotation
+assumed_as w flat e = meaning w (with_lambdas e) (scope_of_module w flat)

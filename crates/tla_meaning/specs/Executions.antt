@@ -1,9 +1,9 @@
 -- The start, the executions and the errors of a job (Specifying Systems, sections 2.3 and 8.1).
-use Rattle.std.specs.Prelude.{ℕ, suc, ◌+◌, ◌==◌, ◌≡◌, Bool, true, false, ◌&&◌, if◌then◌else◌, List, [], ◌∷◌, ◌++◌, map, filter, length, take, Option, Some, None, IsTrue, ⊤, All}
+use Rattle.std.specs.Prelude.{ℕ, suc, ◌+◌, ◌≡◌, Bool, true, false, List, [], ◌∷◌, ◌++◌, map, filter, length, take, Option, Some, None, IsTrue, ⊤, All}
 use Rattle.tla_values.specs.Sets.{Normal}
 use Rattle.tla_values.specs.declared.value.Value.{out-Value}
-use Rattle.tla_meaning.specs.declared.actions.Assigned.{Assigned}
-use Rattle.tla_meaning.specs.declared.actions.Assigned.TheVariants.{Constants, Variables, PrimedVariables}
+use Rattle.tla_meaning.specs.declared.actions.Assignable.{Assignable}
+use Rattle.tla_meaning.specs.declared.actions.Assignable.TheVariants.{Constants, Variables, PrimedVariables}
 use Rattle.tla_meaning.specs.declared.actions.Effect.{Effect}
 use Rattle.tla_meaning.specs.declared.expr.Decl.{Decl}
 use Rattle.tla_meaning.specs.declared.job.Env.{Env}
@@ -33,36 +33,23 @@ abbrev pub constants : Job → ℕ
 constants job = length (filter (λ (d : Decl). d.constant) job.names)
 
 -- the names that count as assigned in CInit, in Init and in Next
-abbrev pub in_cinit : Job → Assigned
+abbrev pub in_cinit : Job → Assignable
 in_cinit job = Constants (constants job)
 
-abbrev pub in_init : Job → Assigned
+abbrev pub in_init : Job → Assignable
 in_init job = Variables (constants job)
 
-abbrev pub in_next : Job → Assigned
+abbrev pub in_next : Job → Assignable
 in_next job = PrimedVariables (constants job)
 
--- the place of what a job has in no text: no tree of a module stands at the first byte of the root
-abbrev pub is_made : Place → Bool
-is_made p = p.file == 0 && p.line == 1 && p.col == 1
-
-abbrev pub is_conjunction : Op → Bool
-is_conjunction op.And = true
-is_conjunction o = false
-
--- each assumption is one operand: those of the conjunction that was made of several, or else the one that there is
-abbrev pub assumptions : Expr → List Expr
-assumptions e = if is_made (out-Expr e).place && is_conjunction (out-Expr e).op then (out-Expr e).args else e ∷ []
-
-abbrev pub assume_effects : Width → Job → State → List Effect
-assume_effects w job s = map (λ e. effect_of (val w e no_scope s s)) (assumptions job.assume)
-
--- the start: CInit, the assumptions and Init
+-- the start: CInit, the assumptions taken as an expression, and Init
 abbrev pub start : Width → Job → State → Outcome
 start w job s =
     outcome_of (effects_and (
-    ((meaning w job.cinit no_scope).act (in_cinit job) s s ∷ assume_effects w job s)
-    ++ (meaning w job.init no_scope).act (in_init job) s s ∷ []
+    (meaning w job.cinit no_scope).act (in_cinit job) s s
+    ∷ effect_of (val w job.assume no_scope s s)
+    ∷ (meaning w job.init no_scope).act (in_init job) s s
+    ∷ []
     ))
 
 abbrev pub next : Width → Job → State → State → Outcome

@@ -1,5 +1,5 @@
 -- An operator's name in a fold stands for LAMBDA a, b: Op(a, b).
-use Rattle.std.specs.Prelude.{ℕ, List, [], ◌∷◌, ◌++◌}
+use Rattle.std.specs.Prelude.{ℕ, List, [], ◌∷◌, ◌++◌, codes}
 use Rattle.tla_meaning.specs.declared.expr.Expr.{Expr, out-Expr, roll-Expr}
 use Rattle.tla_meaning.specs.declared.expr.Expr.TheOpen.{Expr-F}
 use Rattle.tla_meaning.specs.declared.expr.Expr.TheFolds.{fold-Expr}
@@ -9,14 +9,14 @@ use Rattle.tla_meaning.specs.declared.place.Place.{Place}
 
 -- the two bound names
 abbrev pub two_names : List (List ℕ)
-two_names = (97 ∷ []) ∷ (98 ∷ []) ∷ []
+two_names = codes "a" ∷ codes "b" ∷ []
 
 abbrev pub bound_at : Place → List ℕ → Expr
 bound_at p x = roll-Expr (record { place = p; op = op.Bound x; args = []; binds = [] })
 
 -- the use of the operator's name, with these two as its arguments
 abbrev pub used_with : Expr-F Expr → Expr
-used_with x = roll-Expr (record x { args = x.args ++ bound_at x.place (97 ∷ []) ∷ bound_at x.place (98 ∷ []) ∷ [] })
+used_with x = roll-Expr (record x { args = x.args ++ bound_at x.place (codes "a") ∷ bound_at x.place (codes "b") ∷ [] })
 
 abbrev pub lambda_at : Place → Op → List (List ℕ) → List Expr → Expr
 lambda_at p op.Fold [] (e ∷ es) = roll-Expr (record { place = p; op = op.Fold; args = used_with (out-Expr e) ∷ es; binds = two_names })

@@ -38,7 +38,7 @@ abbrev pub is_text : Layer Value → Bool
 is_text (layer.Text t) = true
 is_text x = false
 
--- the items of a set, and nothing of another value
+-- a set whose items pass
 abbrev pub set_passes : (List Value → Bool) → Layer Value → Bool
 set_passes test (layer.Set xs) = test xs
 set_passes test x = false

@@ -288,7 +288,7 @@ role op.Fold n = Plain_role (true ∷ [])
 role (op.Except ns) n = Plain_role (false ∷ except_marks ns)
 role o n = Plain_role []
 
--- the senses of the children outside and inside, each list with no sense at the places of the others
+-- what the children outside and inside mean, each list with nothing at the places of the others
 abbrev pub outer : Place → List Bool → List Meaning → Scope → List Denotation
 outer p ms [] sc = []
 outer p [] (k ∷ ks) sc = k sc ∷ outer p [] ks sc

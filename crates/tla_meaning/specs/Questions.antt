@@ -2,17 +2,12 @@
 use Rattle.std.specs.Prelude.{ℕ, zero, suc, ◌<◌, List, [], ◌∷◌, All}
 use Rattle.tla_meaning.specs.declared.job.Job.{Job}
 use Rattle.tla_meaning.specs.declared.job.State.{State}
+use Rattle.tla_meaning.specs.declared.questions.Query.{Query}
+use Rattle.tla_meaning.specs.declared.questions.Query.TheVariants.{StepWrong, StepBig, InvNotTrue, InvBig, AssumeBig}
 use Rattle.tla_meaning.specs.declared.outcome.Outcome.{Outcome}
 use Rattle.tla_meaning.specs.declared.outcome.Outcome.TheVariants.{Val, Wrong, Big}
 use Rattle.tla_meaning.specs.Executions.{IsState, IsWrongOutcome, IsYes, Keeps, Reaches, invariant, next, start}
 use Rattle.tla_meaning.specs.Numbers.{Width}
-
--- the questions of a level, in the order in which they are asked
-pub data Question : Type 0 where
-  StepWrong : Question
-  StepBig : Question
-  InvNotTrue : Question
-  InvBig : Question
 
 -- an integer was outside the width
 abbrev pub IsBigOutcome : Outcome → Type 0
@@ -36,30 +31,32 @@ StepIs Is w job (suc n) = (s : State) × (t : State) × Reaches w job n s × IsS
 abbrev pub InvariantIs : (Outcome → Type 0) → Width → Job → ℕ → Type 0
 InvariantIs Is w job n = (s : State) × Reaches w job n s × Is (invariant w job s)
 
--- the question holds at the level
-abbrev pub Holds : Question → Width → Job → ℕ → Type 0
+-- the question holds at the level; AssumeBig is asked of no level
+abbrev pub Holds : Query → Width → Job → ℕ → Type 0
 Holds StepWrong w job n = StepIs IsWrongOutcome w job n
 Holds StepBig w job n = StepIs IsBigOutcome w job n
 Holds InvNotTrue w job n = InvariantIs IsNotTrue w job n
 Holds InvBig w job n = InvariantIs IsBigOutcome w job n
+Holds AssumeBig w job n = ⊥
 
--- the questions of a level that are asked before
-abbrev pub asked_before : Question → List Question
+-- the questions of a level that are asked before this one
+abbrev pub asked_before : Query → List Query
 asked_before StepWrong = []
 asked_before StepBig = StepWrong ∷ []
 asked_before InvNotTrue = StepWrong ∷ StepBig ∷ []
 asked_before InvBig = StepWrong ∷ StepBig ∷ InvNotTrue ∷ []
+asked_before AssumeBig = []
 
 -- no question holds at the level
 abbrev pub NoneHolds : Width → Job → ℕ → Type 0
-NoneHolds w job n = (q : Question) → Holds q w job n → ⊥
+NoneHolds w job n = (q : Query) → Holds q w job n → ⊥
 
--- nor at a lower one
+-- no question holds at any lower level
 abbrev pub NoneBelow : Width → Job → ℕ → Type 0
 NoneBelow w job n = (m : ℕ) → m < n → NoneHolds w job m
 
 -- the first question that holds, over the levels in order and over the questions of a level in theirs
-pub record IsFirst (w : Width) (job : Job) (n : ℕ) (q : Question) : Type 0 where
+pub record IsFirst (w : Width) (job : Job) (n : ℕ) (q : Query) : Type 0 where
   pub holds : Holds q w job n
   pub before : All (λ r. Holds r w job n → ⊥) (asked_before q)
   pub below : NoneBelow w job n

@@ -4,7 +4,7 @@ use Rattle.std.specs.Ordering.{is_eq}
 use Rattle.tla_values.specs.Order.{text_cmp}
 use Rattle.tla_values.specs.declared.value.Value.{Value}
 use Rattle.tla_values.specs.declared.value.Value.TheVariants as value
-use Rattle.tla_meaning.specs.declared.actions.Assigned.{Assigned}
+use Rattle.tla_meaning.specs.declared.actions.Assignable.{Assignable}
 use Rattle.tla_meaning.specs.declared.actions.Effect.{Effect}
 use Rattle.tla_meaning.specs.declared.place.Place.{Place}
 use Rattle.tla_meaning.specs.declared.job.State.{State}
@@ -19,11 +19,11 @@ pub record Denotation : Type 0 where
   -- as the right side of a membership
   pub form : State → State → Formed
   -- in an action position
-  pub act : Assigned → State → State → Effect
+  pub act : Assignable → State → State → Effect
   -- under UNCHANGED
   pub unchanged : State → State → Outcome
   -- whether it holds a name that counts as assigned
-  pub mentions : Assigned → Bool
+  pub mentions : Assignable → Bool
 
 -- bound names stand for values, and parameters and definitions for what they mean at their arguments
 pub record Scope : Type 0 where

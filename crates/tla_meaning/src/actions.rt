@@ -1,7 +1,7 @@
 // What an action does in an action position.
 use crate::outcome::Fault;
 
-/// Whether an action holds, and the fault that was met on the way (Specifying Systems, section 16.2).
+/// Whether an action holds, and the fault that was met on the way.
 #[derive(Clone, Copy, Debug, Drop, PartialEq, Eq)]
 pub struct Effect {
     pub holds: bool,
@@ -11,7 +11,7 @@ pub struct Effect {
 /// The names that an action may assign: a disjunction that holds one of them is strict in all its operands. A name is
 /// counted by its number, where those of the constants stand first, and by whether it is primed.
 #[derive(Clone, Copy, Debug, Drop, PartialEq, Eq)]
-pub enum Assigned {
+pub enum Assignable {
     /// Every name.
     Every,
     /// The primed names.

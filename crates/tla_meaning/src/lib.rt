@@ -11,9 +11,10 @@ mod modules;
 mod op;
 mod outcome;
 mod place;
+mod questions;
 mod theorems;
 
-pub use actions::{Assigned, Effect};
+pub use actions::{Assignable, Effect};
 pub use boolean::{BooleanModule, Conjunct};
 pub use copy::copy_expr;
 pub use expr::{Decl, Def, Expr};
@@ -23,9 +24,10 @@ pub use modules::{Flat, Module, Unit};
 pub use op::{Form, Op};
 pub use outcome::{Fault, Outcome};
 pub use place::Place;
+pub use questions::Query;
 pub use theorems::{
     bound_names_may_be_renamed, constants_stand_first, faults_join,
-    nothing_is_big_without_a_width, questions_tell_errors, trees_may_be_put_in, trees_read_their_free_names,
+    nothing_is_big_without_a_width, questions_tell_errors, typed_questions_tell_errors, trees_may_be_put_in, trees_read_their_free_names,
     values_are_normal, widths_agree,
 };
 

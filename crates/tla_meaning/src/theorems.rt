@@ -3,12 +3,14 @@ ghost use Rattle.std.specs.Prelude.{◌≡◌, ◌≤◌, ◌↔◌, ◌++◌, A
 ghost use Rattle.tla_meaning.specs.Actions.{act, meaning, val};
 ghost use Rattle.tla_meaning.specs.Executions.{Errs, IsExecution, constants, invariant, next, scope_of, start};
 ghost use Rattle.tla_meaning.specs.FreeNames.{SameOn, closed};
+ghost use Rattle.tla_meaning.specs.Inductive.{IsFirstTyped, IsInductiveError, NoneHoldsTyped};
 ghost use Rattle.tla_meaning.specs.Jobs.{IsJob};
 ghost use Rattle.tla_meaning.specs.Numbers.{Width};
-ghost use Rattle.tla_meaning.specs.Questions.{InvNotTrue, IsBigOutcome, IsFirst, NoneBelow, StepWrong};
+ghost use Rattle.tla_meaning.specs.Questions.{IsBigOutcome, IsFirst, NoneBelow, NoneHolds};
+ghost use Rattle.tla_meaning.specs.declared.questions.Query.TheVariants.{InvNotTrue, StepWrong};
 ghost use Rattle.tla_meaning.specs.Renamings.{OneToOne, Renames, Renaming, rename};
 ghost use Rattle.tla_meaning.specs.Scopes.{Scope};
-ghost use Rattle.tla_meaning.specs.declared.actions.Assigned.{Assigned};
+ghost use Rattle.tla_meaning.specs.declared.actions.Assignable.{Assignable};
 ghost use Rattle.tla_meaning.specs.Substitution.{Given, Within, binds_apart, each, give, put};
 ghost use Rattle.tla_meaning.specs.Widths.{Narrow};
 ghost use Rattle.tla_meaning.specs.declared.expr.Decl.{Decl};
@@ -37,7 +39,7 @@ pub fn faults_join()
 /// perhaps at another place.
 pub fn widths_agree()
     ensures values { (w : Width) (e : Expr) (env : Env) (s t : State) → Narrow w (val w e (scope_of env) s t) (val None e (scope_of env) s t) }
-    ensures actions { (w : Width) (m : Assigned) (e : Expr) (env : Env) (s t : State) → Narrow w (act w m e (scope_of env) s t) (act None m e (scope_of env) s t) }
+    ensures actions { (w : Width) (m : Assignable) (e : Expr) (env : Env) (s t : State) → Narrow w (act w m e (scope_of env) s t) (act None m e (scope_of env) s t) }
     ensures starts { (w : Width) (job : Job) (s : State) → Narrow w (start w job s) (start None job s) }
     ensures steps { (w : Width) (job : Job) (s t : State) → Narrow w (next w job s t) (next None job s t) }
     ensures invariants { (w : Width) (job : Job) (s : State) → Narrow w (invariant w job s) (invariant None job s) }
@@ -47,20 +49,28 @@ pub fn widths_agree()
 /// Without a width no integer is too big.
 pub fn nothing_is_big_without_a_width()
     ensures values { (e : Expr) (env : Env) (s t : State) → IsBigOutcome (val None e (scope_of env) s t) → ⊥ }
-    ensures actions { (m : Assigned) (e : Expr) (env : Env) (s t : State) → IsBigOutcome (act None m e (scope_of env) s t) → ⊥ }
+    ensures actions { (m : Assignable) (e : Expr) (env : Env) (s t : State) → IsBigOutcome (act None m e (scope_of env) s t) → ⊥ }
     ensures starts { (job : Job) (s : State) → IsBigOutcome (start None job s) → ⊥ }
     ensures steps { (job : Job) (s t : State) → IsBigOutcome (next None job s t) → ⊥ }
     ensures invariants { (job : Job) (s : State) → IsBigOutcome (invariant None job s) → ⊥ }
 {}
 
 /// Where no question holds below a level, the executions that lead to states below it are those under the width. A
-/// level errs where an operator is outside its domain or an invariant is not TRUE under the width, and does not err
-/// where no question holds at it or below it.
+/// level errs where the first question that holds is of an operator outside its domain or of an invariant that is not
+/// TRUE, and does not err where no question holds at it or below it.
 pub fn questions_tell_errors()
     ensures executions { (w n : ℕ) (job : Job) (ss : List State) → NoneBelow (Some w) job n → length ss ≤ n → IsExecution None job ss ↔ IsExecution (Some w) job ss }
     ensures step_wrong { (w n : ℕ) (job : Job) → IsFirst (Some w) job n StepWrong → Errs job n }
     ensures not_true { (w n : ℕ) (job : Job) → IsFirst (Some w) job n InvNotTrue → Errs job n }
     ensures none { (w n : ℕ) (job : Job) → NoneBelow (Some w) job (suc n) → Errs job n → ⊥ }
+{}
+
+/// There is an inductive error where the first question that holds, of level 0 and then of the typed states, is of an
+/// operator outside its domain or of an invariant that is not TRUE, and none where no question holds.
+pub fn typed_questions_tell_errors()
+    ensures step_wrong { (within : State → Bool) (w : ℕ) (job : Job) → IsFirstTyped within (Some w) job StepWrong → IsInductiveError within job }
+    ensures not_true { (within : State → Bool) (w : ℕ) (job : Job) → IsFirstTyped within (Some w) job InvNotTrue → IsInductiveError within job }
+    ensures none { (within : State → Bool) (w : ℕ) (job : Job) → NoneHolds (Some w) job 0 → NoneHoldsTyped within (Some w) job → IsInductiveError within job → ⊥ }
 {}
 
 /// A declared name is a constant exactly where its number is below the number of constants.
