@@ -10,3 +10,5 @@ pub mod NormalLemmas
 pub mod FunLaws
 pub mod SortLaws
 pub mod FileLemmas
+pub mod TextLaw
+pub mod TextsApart

@@ -23,7 +23,7 @@ pub use list::List;
 pub use names::is_name;
 pub use normal::{is_function, is_normal, is_set};
 pub use order::{cmp_values, order_is_total, same_value};
-pub use printing::show;
+pub use printing::{show, texts_are_read_one_way};
 pub use search::find_argument;
 pub use sets::{copy_onto, inter_of, member, minus, set_of, subset, union_of};
 pub use text::{Text, copy_text, copy_texts, same_text};

@@ -1,9 +1,12 @@
 // The text of values.
 ghost use Rattle.std.specs.Fmt.{signed_decimal};
-ghost use Rattle.std.specs.Prelude.{[], ◌++◌, ◌==◌, ◌≡◌, OnOk, codes, if◌then◌else◌, flat_map, map, option_map, pos, unwrap_or};
+ghost use Rattle.std.specs.Prelude.{[], ℕ, IsTrue, List as Items, ◌++◌, ◌==◌, ◌≡◌, OnOk, codes, if◌then◌else◌, flat_map, map, option_map, pos, unwrap_or};
 ghost use Rattle.std.specs.Ordering.{int_eq};
+ghost use Rattle.tla_values.specs.declared.value.Value.{Value as Member};
 ghost use Rattle.tla_values.specs.Show.{
   Begins,
+  Ends,
+  integers_fit,
   are_named,
   counts_from,
   escaped,
@@ -23,6 +26,13 @@ use crate::names::is_name;
 use crate::value::Value;
 use itoa::Buffer;
 use std::alloc::{AllocError, Global};
+
+/// The text of a value can be read back in one way only, where its integers lie within 128 bits and no digit stands
+/// behind it.
+pub fn texts_are_read_one_way()
+    ensures { (v u : Member) (r q : Items ℕ) → IsTrue (integers_fit 128 v) → IsTrue (integers_fit 128 u) → Ends r → Ends q
+        → text_of v ++ r ≡ text_of u ++ q → (v ≡ u) × (r ≡ q) }
+{}
 
 /// Adds the text of a value: `TRUE`, `-5`, `"a\"b"`, `{1, 2}`, `<<1, 2>>`, `[a |-> 1]`, `(0 :> 1 @@ 2 :> 3)`.
 ///
