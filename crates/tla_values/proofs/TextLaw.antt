@@ -10,6 +10,7 @@ use Rattle.std.proofs.lemmas.Bool.Decides.{nat_tests}
 use Rattle.std.proofs.lemmas.Fmt.{decimal_is_IsNumeral_wide}
 use Rattle.std.proofs.lemmas.Str.Parse.{digit_from_value}
 use Rattle.tla_values.specs.Integers.{fits_width}
+use Rattle.tla_values.specs.inner.Escapes.{decode, letter}
 use Rattle.tla_values.specs.Show.{Ends, Shown, are_named, counts_from, escaped, function_text, is_digit, layer_text, pairs_text, record_text, tuple_text}
 use Rattle.tla_values.specs.Order.{Layer, kind_of}
 use Rattle.tla_values.specs.declared.value.Value.TheOpen as layer
@@ -60,15 +61,6 @@ module _ (test : ℕ → Bool) where
 
 -- ---- texts between quotes
 
-abbrev letter : ℕ → ℕ
-letter c = if c == 116 then 9 else (if c == 110 then 10 else (if c == 102 then 12 else (if c == 114 then 13 else c)))
-
--- the byte that stands in front, with its backslash or without, and what stands behind it
-abbrev decode : List ℕ → ℕ × List ℕ
-decode [] = (0, [])
-decode (b ∷ []) = (b, [])
-decode (b ∷ c ∷ bs) = if b == 92 then (letter c, bs) else (b, c ∷ bs)
-
 same_byte : (b k : ℕ) → (b == k) ≡ true → b ≡ k
 same_byte b k e = grind (arith, nat_tests)
 
@@ -81,7 +73,7 @@ plain_byte : (b : ℕ) (rest : List ℕ) → (b == 92) ≡ false → decode (b �
 plain_byte b [] e = refl
 plain_byte b (c ∷ rest) e = ap (λ t. if t then (letter c, rest) else (b, c ∷ rest)) e
 
-decoded : (b : ℕ) (rest : List ℕ) → decode (escaped b ++ rest) ≡ (b, rest)
+pub decoded : (b : ℕ) (rest : List ℕ) → decode (escaped b ++ rest) ≡ (b, rest)
 decoded b rest =
     by_byte (b == 34) b 34 _ _ rest refl refl (λ n.
     by_byte (b == 92) b 92 _ _ rest refl refl (λ other.
@@ -91,10 +83,10 @@ decoded b rest =
     by_byte (b == 13) b 13 _ _ rest refl refl (λ n.
     plain_byte b rest other))))))
 
-quote_decoded : (rest : List ℕ) → decode (34 ∷ rest) ≡ (34, rest)
+pub quote_decoded : (rest : List ℕ) → decode (34 ∷ rest) ≡ (34, rest)
 quote_decoded rest = plain_byte 34 rest refl
 
-no_quote : (c : ℕ) (rest r : List ℕ) → escaped c ++ rest ≡ 34 ∷ r → ⊥
+pub no_quote : (c : ℕ) (rest r : List ℕ) → escaped c ++ rest ≡ 34 ∷ r → ⊥
 no_quote c rest r e =
     let same = sym (decoded c rest) ∙ ap decode e ∙ quote_decoded r in
     let byte : c ≡ 34 = ap (λ (p : ℕ × List ℕ). p.0) same in
@@ -172,7 +164,7 @@ module _ {X : Type 0} (f : X → List ℕ) (Good : X → Type 0) (s : ℕ) (ss :
 digit_passes : (b : ℕ) → digit_value b < 10 → is_digit b ≡ true
 digit_passes b h = let within = digit_from_value b h in grind (arith, nat_tests)
 
-are_digits : (ds : List ℕ) → AllDigits 10 ds → AllByRecursion (λ b. is_digit b ≡ true) ds
+pub are_digits : (ds : List ℕ) → AllDigits 10 ds → AllByRecursion (λ b. is_digit b ≡ true) ds
 are_digits [] h = tt
 are_digits (d ∷ ds) h = (digit_passes d h.0, are_digits ds h.1)
 
@@ -194,7 +186,7 @@ number_first m r small b bs e = first_digit (decimal m) (decimal_is_IsNumeral_wi
 no_minus : (m : ℕ) (r bs : List ℕ) → m < 10 ^ 64 → decimal m ++ r ≡ 45 ∷ bs → ⊥
 no_minus m r bs small e = false≢true (number_first m r small 45 bs e)
 
-fits_small : (n : ℕ) → nat_lt n (2 ^ (128 - 1)) ≡ true → n < 10 ^ 63
+pub fits_small : (n : ℕ) → nat_lt n (2 ^ (128 - 1)) ≡ true → n < 10 ^ 63
 fits_small n h = grind (arith, nat_tests)
 
 pub signed_apart : (a b : ℤ) (r q : List ℕ) → IsTrue (fits_width 128 a) → IsTrue (fits_width 128 b) → Ends r → Ends q →

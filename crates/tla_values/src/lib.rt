@@ -20,7 +20,7 @@ pub use boxed::Boxed;
 pub use file_names::{module_name, without_folder};
 pub use functions::{apply, domain_of, fun_of, override_at};
 pub use list::List;
-pub use names::is_name;
+pub use names::{is_name, is_name_byte};
 pub use normal::{is_function, is_normal, is_set};
 pub use order::{cmp_values, order_is_total, same_value};
 pub use printing::{show, texts_are_read_one_way};

@@ -76,7 +76,8 @@ fn has_letter(text: &[u8]) -> bool
     text.iter().any(|byte| is_letter(*byte))
 }
 
-fn is_name_byte(byte: u8) -> bool
+/// Whether the byte is a letter, a digit or `_`.
+pub fn is_name_byte(byte: u8) -> bool
     ensures { result ≡ is_name_byte byte }
 {
     is_letter(byte) || (b'0' <= byte && byte <= b'9') || byte == b'_'

@@ -1,5 +1,5 @@
 use Rattle.std.proofs.Common.{◌++◌, ◌∙◌, ap}
-use Rattle.trace_text.proofs.Pieces.{wrong_line}
+use Rattle.trace_text.proofs.Behind.{wrong_line}
 use Rattle.trace_text.proofs.reports.fault_line.Goals as goal
 
 pub returns-in_ok-outside-in-InvWrong : goal.returns-in_ok-outside-in-InvWrong

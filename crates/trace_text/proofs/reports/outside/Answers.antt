@@ -1,4 +1,4 @@
-use Rattle.trace_text.proofs.Pieces.{three_pieces}
+use Rattle.trace_text.proofs.Behind.{three_pieces}
 use Rattle.trace_text.proofs.reports.outside.Goals as goal
 
 pub returns : goal.returns

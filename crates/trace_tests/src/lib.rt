@@ -1,0 +1,5 @@
+//! Tests of the text of reports, with expected texts written by hand.
+#![tactic(auto)]
+
+#[cfg(test)]
+mod reports;
