@@ -20,5 +20,5 @@ mod token;
 mod words;
 
 pub use fault::LexFault;
-pub use lexing::tokens;
+pub use lexing::{one_answer, tokens};
 pub use token::{Token, TokenKind, Tokens};
