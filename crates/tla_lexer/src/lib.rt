@@ -13,8 +13,6 @@ mod longest;
 mod pieces;
 mod position;
 mod symbols;
-#[cfg(test)]
-mod tests;
 mod texts;
 mod token;
 mod words;
