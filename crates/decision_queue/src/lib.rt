@@ -8,6 +8,3 @@
 mod queue;
 
 pub use queue::DecisionQueue;
-
-#[cfg(test)]
-mod tests;

@@ -20,8 +20,6 @@ mod printing;
 mod reading;
 mod rechecking;
 mod section;
-#[cfg(test)]
-mod tests;
 mod trail;
 mod words;
 

@@ -14,8 +14,6 @@ mod cnf;
 mod formula;
 mod gates;
 mod lit;
-#[cfg(test)]
-mod tests;
 mod word;
 
 pub use assignment::{Assignment, value};

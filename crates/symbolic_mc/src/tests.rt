@@ -271,6 +271,40 @@ fn refusals_have_their_status_and_their_bytes(rt: HostRuntime) -> Result<(), Fai
     Ok(())
 }
 
+// The file is read once, so that a fault at a later call of the files is not met.
+#[test]
+fn the_file_is_read_once(rt: HostRuntime) -> Result<(), Fail> {
+    let toggle = &["check", "Toggle.tla", "1"];
+    agrees(&rt, toggle, TOGGLE, (1, NEVER), 12, TOGGLE_REPORT)
+}
+
+// Where the write of a line fails, exactly the lines before it were written.
+#[test]
+fn each_line_is_a_write_of_its_own(rt: HostRuntime) -> Result<(), Fail> {
+    let toggle = &["check", "Toggle.tla", "1"];
+    for (call, status, end) in [
+        (0, 41, 0),
+        (1, 41, 41),
+        (2, 41, 49),
+        (3, 41, 62),
+        (4, 41, 70),
+        (5, 12, 82),
+    ] {
+        let written = TOGGLE_REPORT.get(0..end).ok_or("no such part")?;
+        agrees(&rt, toggle, TOGGLE, (NEVER, call), status, written)?;
+    }
+    Ok(())
+}
+
+#[test]
+fn lengths_of_every_size_have_their_answer(rt: HostRuntime) -> Result<(), Fail> {
+    for length in ["2", "13", "100", "1000"] {
+        let clean = format!(in rt.alloc(); "no error to {length}\n")?;
+        agrees(&rt, &["check", "Toggle.tla", length], STUCK, CALM, 0, &clean)?;
+    }
+    Ok(())
+}
+
 #[test]
 fn faults_have_their_status_and_their_bytes(rt: HostRuntime) -> Result<(), Fail> {
     let toggle = &["check", "Toggle.tla", "1"];

@@ -13,12 +13,10 @@ mod longest;
 mod pieces;
 mod position;
 mod symbols;
-#[cfg(test)]
-mod tests;
 mod texts;
 mod token;
 mod words;
 
 pub use fault::LexFault;
-pub use lexing::tokens;
+pub use lexing::{one_answer, tokens};
 pub use token::{Token, TokenKind, Tokens};

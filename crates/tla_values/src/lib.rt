@@ -11,8 +11,6 @@ mod order;
 mod printing;
 mod search;
 mod sets;
-#[cfg(test)]
-mod tests;
 mod text;
 mod value;
 

@@ -19,6 +19,3 @@ pub use host_sink::HostSink;
 pub use memory_files::MemoryFiles;
 pub use memory_sink::MemorySink;
 pub use sink::{Sink, SinkFail};
-
-#[cfg(test)]
-mod tests;

@@ -10,6 +10,3 @@ mod link;
 
 pub use chains::WatchChains;
 pub use link::Link;
-
-#[cfg(test)]
-mod tests;

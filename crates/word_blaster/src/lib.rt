@@ -17,8 +17,6 @@ mod comparisons;
 mod literals;
 mod products;
 mod quotients;
-#[cfg(test)]
-mod tests;
 
 pub use adders::{add, neg, sub};
 pub use comparisons::{equal, less};

@@ -1,0 +1,153 @@
+// The chains beside one plain list of links with their codes.
+ghost use Rattle.std.specs.Prelude.{◌≡◌, ◌<◌, length, IfOk, OnOk, IsTrue};
+ghost use Rattle.watch_chains.specs.Watches.{list_at, IsSlot, IsAbsent, IsFollowed};
+
+use std::alloc::{AllocError, Global};
+use std::test::Fail;
+use watch_chains::{Link, WatchChains};
+
+fn made(alloc: Global, codes: usize, clauses: usize) -> Result<WatchChains, AllocError>
+    ensures codes { IfOk result (λ chains. length chains.lists ≡ codes) }
+    ensures room { IfOk result (λ chains. chains.room ≡ clauses) }
+{
+    let mut chains = WatchChains::new(alloc, codes)?;
+    chains.reserve(clauses)?;
+    Ok(chains)
+}
+
+// The list of a code, read link by link.
+fn contents(alloc: Global, chains: &WatchChains, code: usize) -> Result<Vec<Link>, AllocError>
+    requires { code < length chains.now.lists }
+    ensures { IfOk result (λ links. links.items ≡ list_at chains.now.lists code) }
+{
+    let mut links = Vec::new(alloc);
+    let mut at = chains.first(code);
+    'links: while let Some(l) = at {
+        links.push(l)?;
+        at = chains.next_of(code, l);
+    }
+    Ok(links)
+}
+
+fn is_free(alloc: Global, chains: &WatchChains, codes: usize, l: Link) -> Result<bool, AllocError>
+    requires { codes ≡ length chains.now.lists }
+    ensures { IfOk result (λ free. IsTrue free → IsAbsent chains.now.lists l) }
+{
+    for code in 0..codes {
+        if contents(alloc, chains, code)?.as_slice().contains(&l) {
+            return Ok(false);
+        }
+    }
+    Ok(true)
+}
+
+// What stands before the place, as `unlink` takes it.
+fn before(list: &[Link], at: usize) -> Option<Link>
+    requires { at < length list.now }
+    ensures { IsFollowed list.now result }
+{
+    if at == 0 { None } else { Some(list[at - 1]) }
+}
+
+// Links a free link, and otherwise unlinks what stands at the place, if there is something. It answers
+// whether that was taken out.
+fn apply(
+    alloc: Global,
+    chains: &mut WatchChains,
+    plain: &mut Vec<(usize, Link)>,
+    codes: usize,
+    code: usize,
+    l: Link,
+    at: usize,
+) -> Result<bool, AllocError>
+    requires codes { codes ≡ length chains.old.lists }
+    requires code { code < codes }
+    requires slot { IsSlot chains.old.room l }
+    ensures codes { length chains.new.lists ≡ length chains.old.lists }
+    ensures room { chains.new.room ≡ chains.old.room }
+{
+    if is_free(alloc, chains, codes, l)? {
+        chains.link(code, l);
+        plain.insert(0, (code, l))?;
+        return Ok(true);
+    }
+    let list = contents(alloc, chains, code)?;
+    if at >= list.len() {
+        return Ok(true);
+    }
+    let taken = chains.unlink(code, before(&list, at));
+    plain.retain(|(_, link)| *link != taken);
+    Ok(taken == list[at])
+}
+
+// Whether the list has the links of the code in the plain list.
+fn agrees(list: &[Link], plain: &[(usize, Link)], code: usize) -> bool {
+    let mut rest = list.iter();
+    for (owner, l) in plain {
+        if *owner == code && rest.next() != Some(l) {
+            return false;
+        }
+    }
+    rest.next().is_none()
+}
+
+// The next number of a pseudo-random sequence.
+fn draw(state: &mut u64) -> usize {
+    *state = state
+        .wrapping_mul(6364136223846793005)
+        .wrapping_add(1442695040888963407);
+    (*state >> 33) as usize
+}
+
+#[test]
+fn links_go_to_the_front_and_come_out_behind_another(rt: HostRuntime) -> Result<(), Fail> {
+    let c0 = Link { clause: 0, slot: 0 };
+    let c1 = Link { clause: 1, slot: 1 };
+    let c2 = Link { clause: 2, slot: 0 };
+    let mut chains = made(rt.alloc(), 6, 3)?;
+    let mut plain = Vec::new(rt.alloc());
+    // The link to link, or the place to take out, and the list of 5 afterwards.
+    let steps: [(Link, usize, &[Link]); 6] = [
+        (c0, 0, &[c0]),
+        (c1, 0, &[c1, c0]),
+        (c2, 0, &[c2, c1, c0]),
+        (c0, 1, &[c2, c0]),
+        (c0, 1, &[c2]),
+        (c2, 0, &[]),
+    ];
+    'steps: for (l, at, expected) in steps {
+        assert!(rt; l.clause < 3 && l.slot < 2);
+        assert!(rt; apply(rt.alloc(), &mut chains, &mut plain, 6, 5, l, at)?);
+        let list = contents(rt.alloc(), &chains, 5)?;
+        assert!(rt; list.as_slice() == expected);
+        assert!(rt; chains.first(4).is_none());
+    }
+    Ok(())
+}
+
+#[test]
+fn thousands_of_random_calls_agree_with_a_plain_list(rt: HostRuntime) -> Result<(), Fail> {
+    let mut chains = made(rt.alloc(), 3, 6)?;
+    let mut plain = Vec::new(rt.alloc());
+    let mut state = 1;
+    'calls: for call in 0..4000 {
+        let code = draw(&mut state) % 3;
+        let l = Link {
+            clause: draw(&mut state) % 6,
+            slot: (draw(&mut state) % 2) as u8,
+        };
+        let at = draw(&mut state) % 5;
+        assert!(rt;
+            apply(rt.alloc(), &mut chains, &mut plain, 3, code, l, at)?,
+            "call {call}"
+        );
+        for code in 0..3 {
+            let list = contents(rt.alloc(), &chains, code)?;
+            assert!(rt;
+                agrees(&list, &plain, code),
+                "list {code} after call {call}"
+            );
+        }
+    }
+    Ok(())
+}

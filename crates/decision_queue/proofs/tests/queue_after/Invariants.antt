@@ -1,5 +1,0 @@
-use Rattle.std.proofs.Common.{◌≡◌}
-use Rattle.decision_queue.proofs.tests.queue_after.Given as goal
-
-abbrev pub invariant-calls : goal.invariant-calls
-invariant-calls l = record { same : l.plain.items ≡ l.queue.items; room : l.n ≡ l.queue.room }

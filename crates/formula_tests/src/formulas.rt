@@ -1,0 +1,211 @@
+//! Gates against their truth tables, and what each call adds.
+
+ghost use Rattle.std.specs.Prelude.{◌<◌, IfOk};
+
+use sat_formula::{Assignment, Cnf, Formula, Lit, value};
+use std::alloc::{AllocError, Global};
+use std::test::Fail;
+
+#[derive(Clone, Copy, Debug)]
+enum Gate {
+    And,
+    Or,
+    Xor,
+    Iff,
+    Mux,
+    All,
+}
+
+const GATES: [Gate; 6] = [
+    Gate::And,
+    Gate::Or,
+    Gate::Xor,
+    Gate::Iff,
+    Gate::Mux,
+    Gate::All,
+];
+
+// A gate of three literals: those of two take the first two.
+fn gate_of(
+    alloc: Global,
+    f: &mut Formula,
+    g: Gate,
+    x: Lit,
+    y: Lit,
+    z: Lit,
+) -> Result<Lit, AllocError>
+    requires x_below { x.var < f.old.vars }
+    requires y_below { y.var < f.old.vars }
+    requires z_below { z.var < f.old.vars }
+    ensures { IfOk result (λ l. l.var < f.new.vars) }
+{
+    let l = match g {
+        Gate::And => f.and(x, y)?,
+        Gate::Or => f.or(x, y)?,
+        Gate::Xor => f.xor(x, y)?,
+        Gate::Iff => f.iff(x, y)?,
+        Gate::Mux => f.mux(x, y, z)?,
+        Gate::All => f.and_all(alloc, &[x, y, z])?,
+    };
+    Ok(l)
+}
+
+fn truth(g: Gate, x: bool, y: bool, z: bool) -> bool {
+    match g {
+        Gate::And => x && y,
+        Gate::Or => x || y,
+        Gate::Xor => x != y,
+        Gate::Iff => x == y,
+        Gate::Mux => if x { y } else { z },
+        Gate::All => x && y && z,
+    }
+}
+
+// Whether these are the values of all variables, and satisfy the formula.
+fn satisfied(alloc: Global, f: &Formula, values: &[bool]) -> Result<bool, AllocError> {
+    let a = Assignment::from_vec(values.to_vec(alloc)?);
+    Ok(a.values().len() == f.vars() && f.satisfies(&a))
+}
+
+const CASES: [(bool, bool, bool); 8] = [
+    (false, false, false),
+    (false, false, true),
+    (false, true, false),
+    (false, true, true),
+    (true, false, false),
+    (true, false, true),
+    (true, true, false),
+    (true, true, true),
+];
+
+// A gate over three free variables: whether the formula holds at these values with the gate's
+// value as it should be, with the other value, and with a false `top`.
+fn choices(alloc: Global, g: Gate, x: bool, y: bool, z: bool) -> Result<[bool; 3], AllocError> {
+    let mut f = Formula::new(alloc)?;
+    let a = f.fresh()?;
+    let b = f.fresh()?;
+    let c = f.fresh()?;
+    let out = gate_of(alloc, &mut f, g, a, b, c)?;
+    let right = truth(g, x, y, z) != out.neg;
+    Ok([
+        satisfied(alloc, &f, &[true, x, y, z, right])?,
+        satisfied(alloc, &f, &[true, x, y, z, !right])?,
+        satisfied(alloc, &f, &[false, x, y, z, right])?,
+    ])
+}
+
+#[test]
+fn gates_have_their_truth_tables(rt: HostRuntime) -> Result<(), Fail> {
+    for g in GATES {
+        for (x, y, z) in CASES {
+            assert_eq!(rt;
+                choices(rt.alloc(), g, x, y, z)?,
+                [true, false, false],
+                "{g:?}"
+            );
+        }
+    }
+    Ok(())
+}
+
+// A gate over `top` or a free variable, each as it is or negated: how many variables and clauses
+// there are then, and the gate's value where the variable is p.
+fn folded(
+    alloc: Global,
+    g: Gate,
+    x: (bool, bool),
+    y: (bool, bool),
+    p: bool,
+) -> Result<(usize, usize, bool), AllocError> {
+    let mut f = Formula::new(alloc)?;
+    let top = f.top();
+    let free = f.fresh()?;
+    let a = Lit {
+        var: if x.0 { free.var } else { top.var },
+        neg: x.1,
+    };
+    let b = Lit {
+        var: if y.0 { free.var } else { top.var },
+        neg: y.1,
+    };
+    let out = gate_of(alloc, &mut f, g, a, b, top)?;
+    let values = Assignment::from_vec([true, p].to_vec(alloc)?);
+    let set = out.var < values.values().len() && value(out, &values);
+    Ok((f.vars(), f.clauses().clauses().len(), set))
+}
+
+#[test]
+fn gates_fold_known_and_equal_operands(rt: HostRuntime) -> Result<(), Fail> {
+    for g in [Gate::And, Gate::Or, Gate::Xor, Gate::Iff] {
+        for (x_free, x_neg, _) in CASES {
+            for (y_free, y_neg, p) in CASES {
+                let now = folded(rt.alloc(), g, (x_free, x_neg), (y_free, y_neg), p)?;
+                let x = (!x_free || p) != x_neg;
+                let y = (!y_free || p) != y_neg;
+                assert_eq!(rt; now, (2, 1, truth(g, x, y, true)), "{g:?}");
+            }
+        }
+    }
+    Ok(())
+}
+
+#[test]
+fn gates_add_one_variable_and_few_clauses(rt: HostRuntime) -> Result<(), Fail> {
+    let alloc = rt.alloc();
+    for (g, clauses) in [
+        (Gate::And, 3),
+        (Gate::Or, 3),
+        (Gate::Xor, 4),
+        (Gate::Iff, 4),
+        (Gate::Mux, 4),
+        (Gate::All, 4),
+    ] {
+        let mut f = Formula::new(alloc)?;
+        let a = f.fresh()?;
+        let b = f.fresh()?;
+        let c = f.fresh()?;
+        let _out = gate_of(alloc, &mut f, g, a, b.negated(), c)?;
+        assert_eq!(rt;
+            (f.vars(), f.clauses().clauses().len()),
+            (5, clauses + 1),
+            "{g:?}"
+        );
+    }
+    Ok(())
+}
+
+#[test]
+fn a_choice_by_a_known_literal_adds_nothing(rt: HostRuntime) -> Result<(), Fail> {
+    let alloc = rt.alloc();
+    let mut f = Formula::new(alloc)?;
+    let top = f.top();
+    let a = f.fresh()?;
+    let b = f.fresh()?;
+    assert_eq!(rt; f.mux(top, a, b)?, a);
+    assert_eq!(rt; f.mux(top.negated(), a, b)?, b);
+    assert_eq!(rt; f.mux(a, b, b)?, b);
+    assert_eq!(rt; (f.vars(), f.clauses().clauses().len()), (3, 1));
+    // A known branch leaves an `and` or an `or`.
+    let both = f.mux(a, b, top.negated())?;
+    assert_eq!(rt; (both.var, f.clauses().clauses().len()), (3, 4));
+    Ok(())
+}
+
+#[test]
+fn a_unit_clause_comes_last(rt: HostRuntime) -> Result<(), Fail> {
+    let alloc = rt.alloc();
+    let mut f = Formula::new(alloc)?;
+    let a = f.fresh()?;
+    let b = f.fresh()?;
+    f.add(&[a, b.negated()])?;
+    f.add(&[])?;
+    let Cnf { vars, clauses } = f.with_unit(alloc, b)?;
+    assert_eq!(rt; vars, 3);
+    let listed = clauses.clauses();
+    assert_eq!(rt; listed.len(), 4);
+    assert_eq!(rt; listed[0].lits(), [f.top()].as_slice());
+    assert_eq!(rt; listed[1].lits(), [a, b.negated()].as_slice());
+    assert_eq!(rt; listed[2].lits(), [].as_slice());
+    assert_eq!(rt; listed[3].lits(), [b].as_slice());
+    Ok(())
+}
