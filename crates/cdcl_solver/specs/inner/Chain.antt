@@ -6,8 +6,6 @@ use Rattle.refutation_checker.specs.Follows.{IsFalse, IsUnit}
 use Rattle.cdcl_solver.specs.declared.entry.Entry.{Entry}
 use Rattle.cdcl_solver.specs.declared.propagation.Status.{Status}
 use Rattle.cdcl_solver.specs.declared.propagation.Status.TheVariants.{AllFalse, OneLeft, Other}
-use Rattle.cdcl_solver.specs.declared.propagation.Scan.{Scan}
-use Rattle.cdcl_solver.specs.declared.propagation.Scan.TheVariants.{Conflict, Forces, Nothing}
 use Rattle.refutation_checker.specs.declared.log.Step.{Step}
 use Rattle.cdcl_solver.specs.inner.Trail.{DecisionTrail, IsFree, lits_of}
 use Rattle.cdcl_solver.specs.inner.Weight.{weight}
@@ -60,11 +58,6 @@ abbrev pub IsStatus : List Lit → List Lit → Status → Type 0
 IsStatus T c AllFalse = IsFalse T c
 IsStatus T c (OneLeft u) = IsUnit T c u
 IsStatus T c Other = Quiet T c
-
-abbrev pub IsScan : List (List Lit) → List Lit → Scan → Type 0
-IsScan known T (Conflict h) = IsConflict known T h
-IsScan known T (Forces u h) = IsForced known T u h
-IsScan known T Nothing = All (Quiet T) known
 
 -- the place of the last decision, if there is one
 abbrev pub IsLastDecision : List Entry → Option ℕ → Type 0
