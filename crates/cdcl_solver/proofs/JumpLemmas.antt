@@ -1,21 +1,20 @@
-use Rattle.std.proofs.Common.{◌≡◌, ◌≢◌, ℕ, suc, ◌+◌, ◌-◌, ◌<◌, ◌≤◌, ◌↔◌, ◌⊎◌, inl, inr, Bool, true, false, not, List, [], ◌∷◌, ◌++◌, length, drop, take, map, All, Option, Some, None, get_or, refl, sym, ◌∙◌, ap, subst, arith, append_assoc}
+use Rattle.std.proofs.Common.{◌≡◌, ℕ, ◌+◌, ◌-◌, ◌<◌, ◌≤◌, inl, inr, List, [], ◌∷◌, ◌++◌, length, drop, take, All, Some, None, get_or, refl, sym, ◌∙◌, ap, subst, arith, append_assoc}
 use Rattle.std.specs.Prelude.{Contains}
-use Rattle.std.proofs.lemmas.List.{append-nil, length_push, get_or_push, get_or_append_left, drop-append-le, take-take, take_at, take-map, length-take-le}
+use Rattle.std.proofs.lemmas.List.{append-nil, length_push, get_or_push, drop-append-le, take-take, take_at, take-map, length-take-le}
 use Rattle.std.proofs.lemmas.List.Elements.{All-push, Contains-append_left, Contains-append_right, Contains-push}
 use Rattle.sat_formula.specs.declared.lit.Lit.{Lit}
 use Rattle.sat_formula.specs.Lit.{IsBelow}
 use Rattle.refutation_checker.specs.declared.log.Step.{Step}
 use Rattle.refutation_checker.specs.Follows.{negation}
-use Rattle.refutation_checker.specs.Follows.{IsFalse, IsUnit}
-use Rattle.refutation_checker.specs.Follows.{known, Follows, EachFollows}
+use Rattle.refutation_checker.specs.Follows.{IsUnit}
+use Rattle.refutation_checker.specs.Follows.{known, Follows}
 use Rattle.refutation_checker.proofs.FollowLemmas.{EachFollows-push}
 use Rattle.refutation_checker.proofs.StatusLemmas.{Other-two, Contains-take}
 use Rattle.refutation_checker.proofs.TrailLemmas.{Contains-nil}
 use Rattle.std.proofs.lemmas.Bool.{cases_lt}
 use Rattle.cdcl_solver.specs.declared.entry.Entry.{Entry}
-use Rattle.cdcl_solver.specs.inner.Trail.{DecisionTrail, lits_of, IsFree}
-use Rattle.cdcl_solver.specs.inner.Chain.{Quiet, Why, IsForced, IsNext, Chain, IsLastDecision, decisions}
-use Rattle.cdcl_solver.specs.Answers.{IsNew, EachNew}
+use Rattle.cdcl_solver.specs.inner.Trail.{lits_of}
+use Rattle.cdcl_solver.specs.inner.Chain.{Quiet, Chain, IsLastDecision, decisions}
 use Rattle.cdcl_solver.specs.inner.Search.{IsSearch, IsSearching, IsStepped, Advances, stepped}
 use Rattle.cdcl_solver.specs.declared.searching.Search.{Search}
 use Rattle.cdcl_solver.specs.inner.Weight.{weight}

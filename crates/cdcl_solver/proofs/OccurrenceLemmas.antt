@@ -1,15 +1,15 @@
-use Rattle.std.proofs.Common.{◌≡◌, ℕ, ◌+◌, ◌*◌, ◌-◌, ◌<◌, ◌≤◌, ◌⊎◌, inl, inr, Bool, true, false, not, List, [], ◌∷◌, ◌++◌, length, take, drop, map, All, Option, Some, None, get_or, refl, sym, ◌∙◌, ap, subst, arith, append_assoc, length-append, set, length-set}
+use Rattle.std.proofs.Common.{◌≡◌, ℕ, ◌+◌, ◌*◌, ◌-◌, ◌<◌, ◌≤◌, ◌⊎◌, inl, inr, Bool, true, false, List, [], ◌∷◌, ◌++◌, length, take, All, Option, Some, None, get_or, refl, sym, ◌∙◌, ap, subst, arith, append_assoc, length-append, set, length-set}
 use Rattle.std.specs.Prelude.{Contains, if◌then◌else◌}
-use Rattle.std.proofs.lemmas.Bool.{cases_eq, cases_lt}
-use Rattle.std.proofs.lemmas.List.{append-nil, take-append-le, take_more, take-map, length-map, length_push, get_or_append_left, get_or_push, get_or-map, get_or_default, get_or-set_same, get_or-set_other, take-append-drop, take_all}
-use Rattle.std.proofs.lemmas.List.Elements.{All-push, All-weaker, All-contains, Contains-append_left, Contains-append_right, Contains-push, Contains-push_cases, Contains-get_or}
+use Rattle.std.proofs.lemmas.Bool.{cases_eq}
+use Rattle.std.proofs.lemmas.List.{append-nil, take-append-le, take_more, length-map, get_or-map, get_or_default, get_or-set_same, get_or-set_other, take_all}
+use Rattle.std.proofs.lemmas.List.Elements.{All-weaker, Contains-append_left, Contains-append_right, Contains-push, Contains-push_cases, Contains-get_or}
 use Rattle.sat_formula.specs.declared.lit.Lit.{Lit}
 use Rattle.refutation_checker.specs.Follows.{negation, IsFalse, IsUnit}
 use Rattle.refutation_checker.proofs.TrailLemmas.{Lit-same, Contains-nil, Contains-cons_cases}
 use Rattle.refutation_checker.proofs.StatusLemmas.{Contains-take}
 use Rattle.refutation_checker.proofs.HintLemmas.{IsUnit-not_false, IsUnit-unique}
 use Rattle.cdcl_solver.specs.declared.entry.Entry.{Entry}
-use Rattle.cdcl_solver.specs.inner.Trail.{DecisionTrail, StandsAt, lits_of, IsFree}
+use Rattle.cdcl_solver.specs.inner.Trail.{DecisionTrail, StandsAt, lits_of}
 use Rattle.cdcl_solver.specs.inner.Chain.{Quiet, Chain, IsConflict}
 use Rattle.cdcl_solver.specs.inner.Weight.{weight}
 use Rattle.cdcl_solver.specs.inner.Occurrences.{code_of, places_at, IsIndex, Adds, Kept, AllKept, IsLooked}

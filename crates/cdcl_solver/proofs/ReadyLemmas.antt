@@ -1,4 +1,4 @@
-use Rattle.std.proofs.Common.{◌≡◌, ℕ, ◌+◌, ◌-◌, ◌*◌, ◌<◌, ◌≤◌, ◌⊎◌, inl, inr, List, [], ◌∷◌, ◌++◌, length, take, map, All, Option, Some, None, get_or, refl, sym, ◌∙◌, ap, subst, arith}
+use Rattle.std.proofs.Common.{◌≡◌, ℕ, ◌≤◌, inl, inr, List, [], ◌∷◌, ◌++◌, length, take, All, Option, Some, None, get_or, refl, sym, ◌∙◌, ap, subst, arith}
 use Rattle.std.specs.Prelude.{Contains, MatchOption}
 use Rattle.std.proofs.lemmas.Bool.{cases_lt}
 use Rattle.std.proofs.lemmas.List.{take-append-le, take_all, length-map, length_push, length-take-le, get_or_append_left, get_or_push}
@@ -11,8 +11,8 @@ use Rattle.cdcl_solver.specs.declared.entry.Entry.{Entry}
 use Rattle.cdcl_solver.specs.declared.searching.Search.{Search}
 use Rattle.cdcl_solver.specs.inner.Trail.{DecisionTrail, lits_of}
 use Rattle.cdcl_solver.specs.inner.Chain.{Quiet}
-use Rattle.cdcl_solver.specs.inner.Occurrences.{places_at, IsIndex, Adds, Kept, AllKept, IsLooked}
-use Rattle.cdcl_solver.specs.inner.Search.{IsSearching, IsReady, IsOpened, Keeps, Meets, stepped}
+use Rattle.cdcl_solver.specs.inner.Occurrences.{places_at, IsIndex, Adds, AllKept, IsLooked}
+use Rattle.cdcl_solver.specs.inner.Search.{IsSearching, IsReady, IsOpened, Meets, stepped}
 use Rattle.cdcl_solver.proofs.ChainLemmas.{lits-append}
 use Rattle.cdcl_solver.proofs.LearnLemmas.{known-push}
 use Rattle.cdcl_solver.proofs.OccurrenceLemmas.{Quiet-kept, Kept-more, Kept-less, Kept-unit, sub_grown}

@@ -1,6 +1,6 @@
-use Rattle.std.proofs.Common.{◌≡◌, ◌≢◌, ℕ, suc, ◌+◌, ◌-◌, ◌<◌, ◌≤◌, ◌↔◌, ◌⊎◌, inl, inr, Bool, true, false, not, List, [], ◌∷◌, ◌++◌, length, drop, take, map, IsTrue, All, Option, Some, None, get_or, refl, sym, ◌∙◌, ap, subst, arith, append_assoc, length-append, eq-eqb}
+use Rattle.std.proofs.Common.{◌≡◌, ℕ, ◌+◌, ◌-◌, ◌<◌, ◌≤◌, true, List, [], ◌∷◌, ◌++◌, length, drop, take, map, All, Option, Some, None, get_or, refl, sym, ◌∙◌, ap, subst, arith, length-append}
 use Rattle.std.specs.Prelude.{Contains, slice_get}
-use Rattle.std.proofs.lemmas.List.{append-nil, length_push, get_or_push, get_or-append_right, get_or-map, length-map, length-take-le}
+use Rattle.std.proofs.lemmas.List.{length_push, get_or_push, get_or-append_right, get_or-map, length-map, length-take-le}
 use Rattle.std.proofs.lemmas.Option.{slice_get-get_or}
 use Rattle.std.proofs.lemmas.List.Elements.{All-nil, All-push, All-map, All-weaker, All-contains, All-contains_itself, Contains-append_left}
 use Rattle.sat_formula.specs.declared.lit.Lit.{Lit}
@@ -8,17 +8,17 @@ use Rattle.sat_formula.specs.Lit.{IsBelow}
 use Rattle.refutation_checker.specs.declared.log.Step.{Step}
 use Rattle.refutation_checker.specs.Follows.{negation}
 use Rattle.refutation_checker.specs.Follows.{IsUnit}
-use Rattle.refutation_checker.specs.Follows.{known, Follows, EachFollows, Refutes, ends_empty, is_empty_step}
-use Rattle.refutation_checker.proofs.FollowLemmas.{EachFollows-push, length-known}
+use Rattle.refutation_checker.specs.Follows.{known, Follows, Refutes, is_empty_step}
+use Rattle.refutation_checker.proofs.FollowLemmas.{EachFollows-push}
 use Rattle.cdcl_solver.specs.declared.entry.Entry.{Entry}
 use Rattle.cdcl_solver.specs.inner.Trail.{DecisionTrail, lits_of, IsFree}
-use Rattle.cdcl_solver.specs.inner.Chain.{Quiet, Why, IsConflict, IsForced, IsNext, Chain, IsLastDecision, IsExplained, IsPropagated, decided, decisions, reasons}
+use Rattle.cdcl_solver.specs.inner.Chain.{Quiet, IsConflict, IsNext, Chain, IsLastDecision, IsExplained, IsPropagated, decisions}
 use Rattle.cdcl_solver.specs.inner.Weight.{weight}
-use Rattle.cdcl_solver.specs.Answers.{IsNew, EachNew, IsWithin, IsDerivation, IsRefutation, IsSpent}
+use Rattle.cdcl_solver.specs.Answers.{IsNew, IsWithin, IsDerivation, IsRefutation, IsSpent}
 use Rattle.sat_formula.specs.Clause.{NamesBelow}
 use Rattle.cdcl_solver.specs.inner.Search.{IsSearch, IsSearching, IsSettled, IsDecided, IsRefuted, IsUnspent, IsStepped, IsEnd, Keeps, Meets, Advances, stepped}
 use Rattle.cdcl_solver.specs.declared.searching.Search.{Search}
-use Rattle.cdcl_solver.proofs.ChainLemmas.{negation-negation, decisions-append, decisions-within, Chain-front, Chain-at, Chain-push, Chain-more, split_at}
+use Rattle.cdcl_solver.proofs.ChainLemmas.{decisions-append, decisions-within, Chain-front, Chain-at, Chain-push, Chain-more, split_at}
 use Rattle.cdcl_solver.proofs.LearnLemmas.{IsUnit-new, decisions-unit, Contains-negation, learned-follows, EachNew-push, known-push}
 use Rattle.cdcl_solver.proofs.ReadyLemmas.{index_more, kept_entered, stepped_ready}
 use Rattle.cdcl_solver.specs.declared.searching.End.{End}

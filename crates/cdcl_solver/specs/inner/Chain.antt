@@ -1,5 +1,5 @@
 -- What ties the trail to the clauses. A clause says nothing under a trail where it is neither false nor a unit there.
-use Rattle.std.specs.Prelude.{◌≡◌, ℕ, ◌+◌, ◌-◌, ◌<◌, ◌≤◌, ◌++◌, Bool, true, false, List, [], ◌∷◌, length, map, MatchOption, All, Contains, slice_index_or, take, drop, Option, Some, None}
+use Rattle.std.specs.Prelude.{◌≡◌, ℕ, ◌+◌, ◌-◌, ◌<◌, ◌≤◌, ◌++◌, List, [], ◌∷◌, length, map, MatchOption, All, slice_index_or, drop, Option, Some, None}
 use Rattle.sat_formula.specs.declared.lit.Lit.{Lit}
 use Rattle.refutation_checker.specs.Follows.{negation}
 use Rattle.refutation_checker.specs.Follows.{IsFalse, IsUnit}

@@ -1,4 +1,4 @@
-use Rattle.std.proofs.Common.{◌≡◌, ◌+◌, ◌-◌, ◌<◌, ◌≤◌, length, arith}
+use Rattle.std.proofs.Common.{◌≡◌, ◌+◌, ◌-◌, ◌<◌, length, arith}
 use Rattle.refutation_checker.specs.Follows.{known}
 use Rattle.refutation_checker.proofs.FollowLemmas.{length-known}
 use Rattle.cdcl_solver.proofs.OccurrenceLemmas.{looked_none, looked_false, looked_unit}

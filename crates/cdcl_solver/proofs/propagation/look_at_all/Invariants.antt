@@ -1,5 +1,4 @@
-use Rattle.std.proofs.Common.{◌<◌, take, None}
-use Rattle.std.specs.Prelude.{Contains}
+use Rattle.std.proofs.Common.{◌<◌, None}
 use Rattle.refutation_checker.specs.Follows.{known}
 use Rattle.cdcl_solver.specs.inner.Occurrences.{IsLooked}
 use Rattle.cdcl_solver.proofs.propagation.look_at_all.Given as goal

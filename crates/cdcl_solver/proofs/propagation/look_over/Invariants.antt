@@ -1,4 +1,4 @@
-use Rattle.std.proofs.Common.{◌<◌, take, None}
+use Rattle.std.proofs.Common.{take, None}
 use Rattle.std.specs.Prelude.{Contains}
 use Rattle.refutation_checker.specs.Follows.{known}
 use Rattle.cdcl_solver.specs.inner.Occurrences.{IsLooked}

@@ -1,4 +1,3 @@
-use Rattle.std.proofs.Common.{◌≡◌}
 use Rattle.cdcl_solver.proofs.ReadyLemmas.{opened}
 use Rattle.cdcl_solver.proofs.searching.begin.Goals as goal
 

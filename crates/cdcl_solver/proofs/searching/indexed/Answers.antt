@@ -1,4 +1,4 @@
-use Rattle.std.proofs.Common.{◌≡◌, ℕ, List, take, length, arith, sym, subst}
+use Rattle.std.proofs.Common.{ℕ, List, take, arith, sym, subst}
 use Rattle.std.proofs.lemmas.List.{take_more, length-take-le}
 use Rattle.sat_formula.specs.declared.lit.Lit.{Lit}
 use Rattle.cdcl_solver.specs.inner.Occurrences.{Adds}

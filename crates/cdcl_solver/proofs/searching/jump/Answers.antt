@@ -1,4 +1,4 @@
-use Rattle.std.proofs.Common.{◌≡◌, ◌+◌, ◌∙◌, refl, sym}
+use Rattle.std.proofs.Common.{◌+◌, ◌∙◌, refl, sym}
 use Rattle.refutation_checker.specs.declared.log.Step.{Step}
 use Rattle.cdcl_solver.proofs.JumpLemmas.{jumped_advances}
 use Rattle.cdcl_solver.proofs.searching.jump.Goals as goal

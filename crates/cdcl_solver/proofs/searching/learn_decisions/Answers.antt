@@ -1,4 +1,3 @@
-use Rattle.std.proofs.Common.{◌≡◌, ◌<◌, length, sym}
 use Rattle.std.proofs.lemmas.List.Elements.{All-contains}
 use Rattle.sat_formula.specs.Lit.{IsBelow}
 use Rattle.cdcl_solver.specs.inner.Trail.{lits_of}

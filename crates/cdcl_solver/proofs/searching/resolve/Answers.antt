@@ -1,4 +1,3 @@
-use Rattle.std.proofs.Common.{◌≡◌}
 use Rattle.cdcl_solver.proofs.SearchLemmas.{keeps_same, ends_spent}
 use Rattle.cdcl_solver.proofs.searching.resolve.Goals as goal
 

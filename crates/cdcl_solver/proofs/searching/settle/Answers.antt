@@ -1,4 +1,3 @@
-use Rattle.std.proofs.Common.{◌≡◌}
 use Rattle.cdcl_solver.proofs.SearchLemmas.{settled}
 use Rattle.cdcl_solver.proofs.searching.settle.Goals as goal
 

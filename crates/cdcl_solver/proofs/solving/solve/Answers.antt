@@ -1,4 +1,4 @@
-use Rattle.std.proofs.Common.{◌≡◌, ◌∙◌, ap}
+use Rattle.std.proofs.Common.{◌∙◌, ap}
 use Rattle.sat_formula.specs.declared.cnf.Cnf.{Cnf}
 use Rattle.refutation_checker.proofs.Soundness.{Refutes-sound}
 use Rattle.cdcl_solver.specs.inner.Trail.{DecisionTrail}

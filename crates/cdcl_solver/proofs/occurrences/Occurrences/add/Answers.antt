@@ -1,4 +1,4 @@
-use Rattle.std.proofs.Common.{◌≡◌, ℕ, ◌+◌, ◌*◌, ◌<◌, ◌∙◌, [], length, take, get_or, arith, ap, sym}
+use Rattle.std.proofs.Common.{◌≡◌, ℕ, ◌+◌, ◌*◌, ◌<◌, ◌∙◌, [], length, take, get_or, arith, ap}
 use Rattle.std.proofs.lemmas.List.{take_more, get_or_default}
 use Rattle.sat_formula.specs.declared.lit.Lit.{Lit}
 use Rattle.cdcl_solver.specs.inner.Occurrences.{code_of, places_at}
