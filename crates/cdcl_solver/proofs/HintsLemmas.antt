@@ -1,15 +1,15 @@
-use Rattle.std.proofs.Common.{◌≡◌, ◌≢◌, ℕ, suc, ◌+◌, ◌-◌, ◌<◌, ◌≤◌, ◌↔◌, ◌⊎◌, inl, inr, Bool, true, false, not, List, [], ◌∷◌, ◌++◌, length, drop, take, map, IsTrue, All, Option, Some, None, get_or, refl, sym, ◌∙◌, ap, subst, arith, append_assoc, length-append}
+use Rattle.std.proofs.Common.{◌≡◌, ℕ, ◌⊎◌, inl, inr, List, [], ◌∷◌, ◌++◌, Some, None, subst, append_assoc}
 use Rattle.std.specs.Prelude.{Contains}
-use Rattle.std.proofs.lemmas.List.{append-nil, map-append, get_or_append_left, length_push}
-use Rattle.std.proofs.lemmas.List.Elements.{All-push, All-weaker, Contains-append_left, Contains-append_right, Contains-push, Contains-push_cases, Contains-append_cases}
+use Rattle.std.proofs.lemmas.List.{append-nil}
+use Rattle.std.proofs.lemmas.List.Elements.{All-weaker, Contains-append_left, Contains-append_right, Contains-push, Contains-push_cases, Contains-append_cases}
 use Rattle.sat_formula.specs.declared.lit.Lit.{Lit}
 use Rattle.refutation_checker.specs.Follows.{negation}
 use Rattle.refutation_checker.specs.Follows.{IsFalse, IsUnit, Propagates}
 use Rattle.refutation_checker.proofs.HintLemmas.{Propagates-unit}
 use Rattle.cdcl_solver.specs.declared.entry.Entry.{Entry}
 use Rattle.cdcl_solver.specs.inner.Trail.{lits_of, IsFree}
-use Rattle.cdcl_solver.specs.inner.Chain.{IsConflict, IsForced, Why, IsNext, Chain, decided, decisions, reason_of, reasons}
-use Rattle.cdcl_solver.proofs.ChainLemmas.{negation-negation, Chain-apart, Chain-later, decisions-within}
+use Rattle.cdcl_solver.specs.inner.Chain.{IsConflict, Why, Chain, decided, decisions, reason_of, reasons}
+use Rattle.cdcl_solver.proofs.ChainLemmas.{Chain-later, decisions-within}
 
 -- the two lists have the same members
 pub record Same (T S : List Lit) : Type 0 where

@@ -1,24 +1,24 @@
-use Rattle.std.proofs.Common.{◌≡◌, ◌≢◌, ℕ, suc, ◌+◌, ◌-◌, ◌<◌, ◌≤◌, ◌↔◌, ◌⊎◌, inl, inr, Bool, true, false, not, List, [], ◌∷◌, ◌++◌, length, drop, take, map, All, Option, Some, None, get_or, refl, sym, ◌∙◌, ap, subst, arith, append_assoc}
+use Rattle.std.proofs.Common.{◌≡◌, ℕ, ◌+◌, ◌-◌, ◌<◌, ◌≤◌, inl, inr, List, [], ◌∷◌, ◌++◌, length, drop, take, All, Some, None, get_or, refl, sym, ◌∙◌, ap, subst, arith, append_assoc}
 use Rattle.std.specs.Prelude.{Contains}
-use Rattle.std.proofs.lemmas.List.{append-nil, length_push, get_or_push, get_or_append_left, drop-append-le, take-take, take_at, take-map, length-take-le}
+use Rattle.std.proofs.lemmas.List.{append-nil, length_push, get_or_push, drop-append-le, take-take, take_at, take-map, length-take-le}
 use Rattle.std.proofs.lemmas.List.Elements.{All-push, Contains-append_left, Contains-append_right, Contains-push}
 use Rattle.sat_formula.specs.declared.lit.Lit.{Lit}
 use Rattle.sat_formula.specs.Lit.{IsBelow}
 use Rattle.refutation_checker.specs.declared.log.Step.{Step}
 use Rattle.refutation_checker.specs.Follows.{negation}
-use Rattle.refutation_checker.specs.Follows.{IsFalse, IsUnit}
-use Rattle.refutation_checker.specs.Follows.{known, Follows, EachFollows}
+use Rattle.refutation_checker.specs.Follows.{IsUnit}
+use Rattle.refutation_checker.specs.Follows.{known, Follows}
 use Rattle.refutation_checker.proofs.FollowLemmas.{EachFollows-push}
 use Rattle.refutation_checker.proofs.StatusLemmas.{Other-two, Contains-take}
 use Rattle.refutation_checker.proofs.TrailLemmas.{Contains-nil}
 use Rattle.std.proofs.lemmas.Bool.{cases_lt}
 use Rattle.cdcl_solver.specs.declared.entry.Entry.{Entry}
-use Rattle.cdcl_solver.specs.inner.Trail.{DecisionTrail, lits_of, IsFree}
-use Rattle.cdcl_solver.specs.inner.Chain.{Quiet, Why, IsForced, IsNext, Chain, IsLastDecision, decisions}
-use Rattle.cdcl_solver.specs.Answers.{IsNew, EachNew}
-use Rattle.cdcl_solver.specs.inner.Search.{IsSearch, IsSearching, Advances, stepped}
+use Rattle.cdcl_solver.specs.inner.Trail.{lits_of}
+use Rattle.cdcl_solver.specs.inner.Chain.{Quiet, Chain, IsLastDecision, decisions}
+use Rattle.cdcl_solver.specs.inner.Search.{IsSearch, IsSearching, IsStepped, Advances, stepped}
 use Rattle.cdcl_solver.specs.declared.searching.Search.{Search}
 use Rattle.cdcl_solver.specs.inner.Weight.{weight}
+use Rattle.cdcl_solver.proofs.ReadyLemmas.{index_more, stepped_ready}
 use Rattle.cdcl_solver.proofs.WeightLemmas.{weight-back}
 use Rattle.cdcl_solver.specs.inner.Jump.{HasSecond, IsJump}
 use Rattle.cdcl_solver.proofs.ChainLemmas.{no_entry, Why-more, decisions-append, Chain-front, Chain-at, Chain-push, split_at}
@@ -47,7 +47,7 @@ module _ (clauses : List (List Lit)) (steps : List Step) (room : ℕ) (es : List
     (search : IsSearch clauses steps (record { room = room; entries = es })) (lt : at < length es) (none : (get_or es at d).reason ≡ None)
     (follows : Follows (known clauses steps) s) (below : All (IsBelow room) s.lits)
     (unit : IsUnit (lits_of (take at es)) s.lits u) (second : HasSecond s.lits u [] (take at es)) where
-  quiet : All (Quiet (lits_of (take at es))) (known clauses steps)
+  pub quiet : All (Quiet (lits_of (take at es))) (known clauses steps)
   quiet = rw none at (Chain-at (known clauses steps) [] (take at es) (get_or es at d) (drop (at + 1) es) (rw (split_at es at d lt) at search.chain)).why
 
   some_lit : 0 < length s.lits
@@ -102,20 +102,24 @@ second_found D u es last w decision has ne free = λ xs e ys split none.
       ),
     )
 
-pub jumped_advances : (s : Search) (step : Step) (u : Lit) (at : ℕ) → IsSearching s → Follows (known s.clauses s.steps) step
-    → IsJump s.trail.room s.trail.entries step.lits u at → Advances s (stepped s step u at)
-jumped_advances s step u at searching follows jump =
+pub jumped_advances : (s : Search) (step : Step) (u : Lit) (at : ℕ) (new : Search) → IsSearching s → Follows (known s.clauses s.steps) step
+    → IsJump s.trail.room s.trail.entries step.lits u at → IsStepped s step u at new → Advances s new
+jumped_advances s step u at new searching follows jump went =
     let es : List Entry = s.trail.entries in
     let lt : at < length es = jump.within in
     let le : length es ≤ s.trail.room = jump.sized in
     let size = length-take-le at es (omega arith) in
-    let w = weight-back s.trail.room (take at es) (get_or es at no_entry) (drop (at + 1) es) (record { lit = u; reason = Some step.id }) step.id (jump.decision no_entry) refl (omega arith) in
-    record {
+    let none = jump.decision no_entry in
+    let w = weight-back s.trail.room (take at es) (get_or es at no_entry) (drop (at + 1) es) (record { lit = u; reason = Some step.id }) step.id none refl (omega arith) in
+    let all : Advances s (stepped s step u at went.lists) = record {
       searching = record {
-        search = jumped s.clauses s.steps s.trail.room es step u at no_entry searching.search lt (jump.decision no_entry) follows jump.below jump.unit jump.second;
+        search = jumped s.clauses s.steps s.trail.room es step u at no_entry searching.search lt none follows jump.below jump.unit jump.second;
         checking = searching.checking;
+        index = rw (known-push s.clauses s.steps step) (index_more s.trail.room s.occurrences went.lists (known s.clauses s.steps) step.lits searching.index went.adds);
       };
+      ready = stepped_ready s step u at went.lists (omega arith) (quiet s.clauses s.steps s.trail.room es step u at no_entry searching.search lt none follows jump.below jump.unit jump.second) jump.unit;
       keeps = record { clauses = refl; room = refl };
       longer = length_push s.steps step;
       smaller = subst (λ (r : List Entry). weight s.trail.room (take at es ++ record { lit = u; reason = Some step.id } ∷ []) < weight s.trail.room r) (sym (split_at es at no_entry lt)) w;
-    }
+    } in
+    subst (λ (n : Search). Advances s n) (sym went.same) all

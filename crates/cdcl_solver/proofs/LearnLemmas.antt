@@ -1,22 +1,22 @@
-use Rattle.std.proofs.Common.{◌≡◌, ◌≢◌, ℕ, suc, ◌+◌, ◌-◌, ◌<◌, ◌≤◌, ◌↔◌, ◌⊎◌, inl, inr, Bool, true, false, not, ◌||◌, List, [], ◌∷◌, ◌++◌, length, drop, take, map, IsTrue, All, Option, Some, None, get_or, refl, sym, ◌∙◌, ap, subst, arith, append_assoc, length-append}
+use Rattle.std.proofs.Common.{◌≡◌, ℕ, ◌<◌, ◌≤◌, ◌⊎◌, inl, inr, Bool, true, false, ◌||◌, List, [], ◌∷◌, ◌++◌, length, take, map, All, get_or, refl, sym, subst, arith, append_assoc}
 use Rattle.std.specs.Prelude.{Contains}
-use Rattle.std.proofs.lemmas.Bool.{cases_lt, cases_Bool}
-use Rattle.std.proofs.lemmas.List.{append-nil, map-append, get_or_append_left, length_push, take-append-le, take_all, get_or_push}
-use Rattle.std.proofs.lemmas.List.Elements.{All-nil, All-head, All-tail, All-cons, All-map, All-contains, All-push, All-weaker, All-contains_itself, Contains-append_left, Contains-append_right, Contains-push, Contains-push_cases, Contains-append_cases}
+use Rattle.std.proofs.lemmas.Bool.{cases_lt}
+use Rattle.std.proofs.lemmas.List.{map-append, get_or_append_left, length_push, take-append-le, take_all, get_or_push}
+use Rattle.std.proofs.lemmas.List.Elements.{All-nil, All-head, All-tail, All-cons, All-map, All-contains, All-push, All-weaker, All-contains_itself, Contains-append_left, Contains-append_right, Contains-push}
 use Rattle.sat_formula.specs.declared.lit.Lit.{Lit}
 use Rattle.sat_formula.specs.Lit.{lit_value, IsBelow}
 use Rattle.sat_formula.specs.Clause.{clause_true, AllTrue}
 use Rattle.refutation_checker.specs.declared.log.Step.{Step}
 use Rattle.refutation_checker.specs.Follows.{negation}
-use Rattle.refutation_checker.specs.Follows.{IsFalse, IsUnit, Propagates, HasNoOpposites}
+use Rattle.refutation_checker.specs.Follows.{IsFalse, IsUnit}
 use Rattle.refutation_checker.specs.Follows.{known, Follows}
 use Rattle.refutation_checker.proofs.TrailLemmas.{Contains-cons_cases, Contains-nil}
 use Rattle.cdcl_solver.specs.declared.entry.Entry.{Entry}
 use Rattle.cdcl_solver.specs.inner.Trail.{lits_of, IsFree}
-use Rattle.cdcl_solver.specs.inner.Chain.{Quiet, IsConflict, IsForced, Why, IsNext, Chain, decided, decisions, reason_of, reasons, IsExplained}
+use Rattle.cdcl_solver.specs.inner.Chain.{Quiet, IsConflict, Chain, decisions, IsExplained}
 use Rattle.cdcl_solver.specs.Answers.{IsNew, EachNew}
-use Rattle.cdcl_solver.proofs.ChainLemmas.{negation-negation, Chain-apart, Chain-later, Chain-consistent, decisions-within}
-use Rattle.cdcl_solver.proofs.HintsLemmas.{Same, Chain-propagates}
+use Rattle.cdcl_solver.proofs.ChainLemmas.{negation-negation, Chain-consistent, decisions-within}
+use Rattle.cdcl_solver.proofs.HintsLemmas.{Chain-propagates}
 
 cases_Lit_bool : (a b : Bool) → (a ≡ b) ⊎ (a ≡ b → ⊥)
 cases_Lit_bool true true = inl refl

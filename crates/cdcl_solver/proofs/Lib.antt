@@ -6,3 +6,5 @@ pub mod TrailLemmas
 pub mod SearchLemmas
 pub mod SatisfyLemmas
 pub mod JumpLemmas
+pub mod OccurrenceLemmas
+pub mod ReadyLemmas

@@ -1,9 +1,8 @@
-use Rattle.std.proofs.Common.{◌≡◌, ℕ, ◌+◌, ◌<◌, ◌≤◌, Bool, true, false, ◌||◌, List, [], ◌∷◌, ◌++◌, length, All, get_or, refl, sym, ◌∙◌, ap, arith, IsTrue, length-append}
+use Rattle.std.proofs.Common.{◌≡◌, ℕ, ◌<◌, Bool, true, false, ◌||◌, List, [], ◌∷◌, ◌++◌, length, All, get_or, refl, sym, ◌∙◌, arith, IsTrue, length-append}
 use Rattle.std.proofs.lemmas.List.{get_or_append_left, get_or_push, length_push}
-use Rattle.std.proofs.lemmas.Bool.{cases_Bool}
 use Rattle.sat_formula.specs.declared.lit.Lit.{Lit}
 use Rattle.sat_formula.specs.declared.cnf.Cnf.{Cnf}
-use Rattle.sat_formula.specs.Lit.{lit_value, IsBelow}
+use Rattle.sat_formula.specs.Lit.{lit_value}
 use Rattle.sat_formula.specs.Clause.{clause_true, AllTrue, NamesBelow}
 use Rattle.sat_formula.specs.Formula.{Satisfies}
 use Rattle.refutation_checker.specs.declared.log.Step.{Step}

@@ -1,6 +1,6 @@
-use Rattle.std.proofs.Common.{◌≡◌, ◌≢◌, ℕ, suc, ◌+◌, ◌-◌, ◌<◌, ◌≤◌, ◌↔◌, ◌⊎◌, inl, inr, Bool, true, false, not, List, [], ◌∷◌, ◌++◌, length, drop, take, map, IsTrue, All, Option, Some, None, get_or, refl, sym, ◌∙◌, ap, subst, arith, append_assoc, length-append, eq-eqb}
+use Rattle.std.proofs.Common.{◌≡◌, ℕ, ◌+◌, ◌-◌, ◌<◌, ◌≤◌, true, List, [], ◌∷◌, ◌++◌, length, drop, take, map, All, Option, Some, None, get_or, refl, sym, ◌∙◌, ap, subst, arith, length-append}
 use Rattle.std.specs.Prelude.{Contains, slice_get}
-use Rattle.std.proofs.lemmas.List.{append-nil, length_push, get_or_push, get_or-append_right, get_or-map, length-map, length-take-le}
+use Rattle.std.proofs.lemmas.List.{length_push, get_or_push, get_or-append_right, get_or-map, length-map, length-take-le}
 use Rattle.std.proofs.lemmas.Option.{slice_get-get_or}
 use Rattle.std.proofs.lemmas.List.Elements.{All-nil, All-push, All-map, All-weaker, All-contains, All-contains_itself, Contains-append_left}
 use Rattle.sat_formula.specs.declared.lit.Lit.{Lit}
@@ -8,18 +8,21 @@ use Rattle.sat_formula.specs.Lit.{IsBelow}
 use Rattle.refutation_checker.specs.declared.log.Step.{Step}
 use Rattle.refutation_checker.specs.Follows.{negation}
 use Rattle.refutation_checker.specs.Follows.{IsUnit}
-use Rattle.refutation_checker.specs.Follows.{known, Follows, EachFollows, Refutes, ends_empty, is_empty_step}
-use Rattle.refutation_checker.proofs.FollowLemmas.{EachFollows-push, length-known}
+use Rattle.refutation_checker.specs.Follows.{known, Follows, Refutes, is_empty_step}
+use Rattle.refutation_checker.proofs.FollowLemmas.{EachFollows-push}
 use Rattle.cdcl_solver.specs.declared.entry.Entry.{Entry}
 use Rattle.cdcl_solver.specs.inner.Trail.{DecisionTrail, lits_of, IsFree}
-use Rattle.cdcl_solver.specs.inner.Chain.{Quiet, Why, IsConflict, IsForced, IsNext, Chain, IsLastDecision, IsExplained, IsPropagated, decided, decisions, reasons}
+use Rattle.cdcl_solver.specs.inner.Chain.{Quiet, IsConflict, IsNext, Chain, IsLastDecision, IsExplained, IsPropagated, decisions}
 use Rattle.cdcl_solver.specs.inner.Weight.{weight}
-use Rattle.cdcl_solver.specs.Answers.{IsNew, EachNew, IsWithin, IsDerivation, IsRefutation, IsSpent}
+use Rattle.cdcl_solver.specs.Answers.{IsNew, IsWithin, IsDerivation, IsRefutation, IsSpent}
 use Rattle.sat_formula.specs.Clause.{NamesBelow}
-use Rattle.cdcl_solver.specs.inner.Search.{IsSearch, IsSearching, IsSettled, IsDecided, IsRefuted, IsUnspent, Keeps, Meets, Advances, stepped}
+use Rattle.cdcl_solver.specs.inner.Search.{IsSearch, IsSearching, IsSettled, IsDecided, IsRefuted, IsUnspent, IsStepped, IsEnd, Keeps, Meets, Advances, stepped}
 use Rattle.cdcl_solver.specs.declared.searching.Search.{Search}
-use Rattle.cdcl_solver.proofs.ChainLemmas.{negation-negation, decisions-append, decisions-within, Chain-front, Chain-at, Chain-push, Chain-more, split_at}
+use Rattle.cdcl_solver.proofs.ChainLemmas.{decisions-append, decisions-within, Chain-front, Chain-at, Chain-push, Chain-more, split_at}
 use Rattle.cdcl_solver.proofs.LearnLemmas.{IsUnit-new, decisions-unit, Contains-negation, learned-follows, EachNew-push, known-push}
+use Rattle.cdcl_solver.proofs.ReadyLemmas.{index_more, kept_entered, stepped_ready}
+use Rattle.cdcl_solver.specs.declared.searching.End.{End}
+use Rattle.cdcl_solver.specs.declared.searching.End.TheVariants.{Satisfied, Refuted, Spent}
 use Rattle.cdcl_solver.proofs.WeightLemmas.{weight-back, weight-push}
 
 -- what the clauses name, each step names
@@ -32,6 +35,11 @@ names_of room clauses steps h = λ k d lt.
     let right : get_or (clauses ++ lits) (length clauses + k) d.lits ≡ get_or lits k d.lits =
     get_or-append_right clauses lits (length clauses) (length clauses + k) d.lits refl (omega arith) ∙ ap (λ (i : ℕ). get_or lits i d.lits) back in
     subst (λ (c : List Lit). All (IsBelow room) c) (right ∙ get_or-map (λ (s : Step). s.lits) steps k d d.lits lt) (h (length clauses + k) d.lits (omega arith))
+
+-- the negated decisions name no other variables than the trail
+pub decisions_below : (room : ℕ) (es : List Entry) → All (IsBelow room) (lits_of es) → All (IsBelow room) (map negation (decisions es))
+decisions_below room es below = All-map (IsBelow room) negation (decisions es)
+    (All-weaker (Contains (decisions es)) (λ l. IsBelow room (negation l)) (λ l has. All-contains (IsBelow room) (lits_of es) l below (decisions-within es l has)) (decisions es) (All-contains_itself (decisions es)))
 
 -- the last decision
 module _ (es xs : List Entry) (x : Entry) (ys : List Entry) (split : es ≡ xs ++ x ∷ ys) (later : decisions ys ≡ []) (none : x.reason ≡ None) where
@@ -108,9 +116,7 @@ module _ (clauses : List (List Lit)) (steps : List Step) (room : ℕ) (es : List
         let size : length s.lits ≡ length (decisions (take at es)) + 1 =
         rw (made.lits, ds) (length-map (decisions (take at es) ++ (get_or es at d).lit ∷ []) negation ∙ length_push (decisions (take at es)) (get_or es at d).lit) in
         record {
-          within = rw longer (All-push (λ c. All (IsBelow room) c) K s.lits search.within
-              (rw made.lits (All-map (IsBelow room) negation (decisions es)
-              (All-weaker (Contains (decisions es)) (λ l. IsBelow room (negation l)) (λ l has. All-contains (IsBelow room) (lits_of es) l below (decisions-within es l has)) (decisions es) (All-contains_itself (decisions es))))));
+          within = rw longer (All-push (λ c. All (IsBelow room) c) K s.lits search.within (rw made.lits (decisions_below room es below)));
           chain = rw (longer, made.lits) (chain-last es (take at es) (get_or es at d) (drop (at + 1) es) split last.1.0 (last.1.1 d) K search.chain s.id made.next);
           follow = EachFollows-push clauses steps s search.follow step-follows;
           new = EachNew-push clauses steps s search.new (λ _. rw made.lits (new-last es (take at es) (get_or es at d) (drop (at + 1) es) split last.1.0 (last.1.1 d) K search.chain));
@@ -125,18 +131,29 @@ weight-learned room es at d l id le last =
     let w = weight-back room (take at es) (get_or es at d) (drop (at + 1) es) (record { lit = l; reason = Some id }) id (last.1.1 d) refl (omega arith) in
     subst (λ (t : List Entry). weight room (take at es ++ record { lit = l; reason = Some id } ∷ []) < weight room t) (sym (split_at es at d lt)) w
 
-pub learned_advances : (s : Search) (h : ℕ) (step : Step) (at : ℕ) (d : Entry) → IsSearching s → Meets s h → IsExplained (length (known s.clauses s.steps)) s.trail.entries h step
+pub learned_advances : (s : Search) (h : ℕ) (step : Step) (at : ℕ) (d : Entry) (new : Search) → IsSearching s → Meets s h → IsExplained (length (known s.clauses s.steps)) s.trail.entries h step
     → All (IsBelow s.trail.room) (lits_of s.trail.entries) → length s.trail.entries ≤ s.trail.room → IsLastDecision s.trail.entries (Some at)
-    → Advances s (stepped s step (negation (get_or s.trail.entries at d).lit) at)
-learned_advances s h step at d searching meets made below le last = record {
-  searching = record {
-    search = learned s.clauses s.steps s.trail.room s.trail.entries h step searching.search meets made at d below last;
-    checking = searching.checking;
-  };
-  keeps = record { clauses = refl; room = refl };
-  longer = length_push s.steps step;
-  smaller = weight-learned s.trail.room s.trail.entries at d _ step.id le last;
-}
+    → IsStepped s step (negation (get_or s.trail.entries at d).lit) at new → Advances s new
+learned_advances s h step at d new searching meets made below le last went =
+    let es : List Entry = s.trail.entries in
+    let K : List (List Lit) = known s.clauses s.steps in
+    let x : Entry = get_or es at d in
+    let lt : at < length es = last.0 in
+    let split : es ≡ take at es ++ x ∷ drop (at + 1) es = split_at es at d lt in
+    let quiet = quiet-last es (take at es) x (drop (at + 1) es) split last.1.0 (last.1.1 d) K searching.search.chain in
+    let unit = unit-last es (take at es) x (drop (at + 1) es) split last.1.0 (last.1.1 d) K searching.search.chain in
+    let all : Advances s (stepped s step (negation x.lit) at went.lists) = record {
+      searching = record {
+        search = learned s.clauses s.steps s.trail.room s.trail.entries h step searching.search meets made at d below last;
+        checking = searching.checking;
+        index = rw (known-push s.clauses s.steps step) (index_more s.trail.room s.occurrences went.lists K step.lits searching.index went.adds);
+      };
+      ready = stepped_ready s step (negation x.lit) at went.lists (omega arith) quiet (rw made.lits unit);
+      keeps = record { clauses = refl; room = refl };
+      longer = length_push s.steps step;
+      smaller = weight-learned s.trail.room s.trail.entries at d _ step.id le last;
+    } in
+    subst (λ (n : Search). Advances s n) (sym went.same) all
 
 -- the trail goes on, and the log stays
 pub settled : (s : Search) (t : DecisionTrail) (conflict : Option ℕ) → IsSearching s → IsPropagated (known s.clauses s.steps) s.trail t conflict → IsSettled s (record s { trail = t }) conflict
@@ -150,6 +167,7 @@ settled s t conflict searching went = record {
       some = searching.search.some;
     };
     checking = searching.checking;
+    index = rw went.room searching.index;
   };
   keeps = record { clauses = refl; room = went.room };
   steps = refl;
@@ -158,7 +176,7 @@ settled s t conflict searching went = record {
 }
 
 pub decided_next : (s : Search) (e : Entry) → IsSearching s → e.reason ≡ None → All (Quiet (lits_of s.trail.entries)) (known s.clauses s.steps) → IsFree (lits_of s.trail.entries) e.lit
-    → length s.trail.entries < s.trail.room → IsDecided s (record s { trail = record s.trail { entries = s.trail.entries ++ e ∷ [] } })
+    → length s.trail.entries < s.trail.room → IsDecided s (record s { trail = record s.trail { entries = s.trail.entries ++ e ∷ [] }; head = length s.trail.entries })
 decided_next s e searching none quiet free lt = record {
   searching = record {
     search = record {
@@ -169,6 +187,11 @@ decided_next s e searching none quiet free lt = record {
       some = searching.search.some;
     };
     checking = searching.checking;
+    index = searching.index;
+  };
+  ready = record {
+    head = let size = length_push s.trail.entries e in omega arith;
+    kept = kept_entered (known s.clauses s.steps) s.trail.entries e quiet (length s.trail.entries) refl;
   };
   keeps = record { clauses = refl; room = refl };
   steps = refl;
@@ -183,6 +206,9 @@ refuted_next s h step searching meets made none = record {
   derived = refuted_derived s.clauses s.steps s.trail.room s.trail.entries h step searching.search meets made none;
   longer = length_push s.steps step;
 }
+
+pub keeps_same : (s : Search) → Keeps s s
+keeps_same s = record { clauses = refl; room = refl }
 
 pub keeps_more : (a b c : Search) → Keeps a b → Keeps b c → Keeps a c
 keeps_more a b c p q = record { clauses = q.clauses ∙ p.clauses; room = q.room ∙ p.room }
@@ -214,3 +240,8 @@ ends_spent budget begun s keeps searching e = record {
   };
   some = searching.search.some;
 }
+
+pub ends_after : (budget : Option ℕ) (a b c : Search) (e : End) → Keeps a b → IsEnd budget b c e → IsEnd budget a c e
+ends_after budget a b c Satisfied keeps end = (keeps_more a b c keeps end.0, end.1)
+ends_after budget a b c Refuted keeps end = rw (keeps.clauses, keeps.room) at end
+ends_after budget a b c Spent keeps end = rw (keeps.clauses, keeps.room) at end

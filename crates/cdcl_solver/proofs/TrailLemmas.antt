@@ -1,18 +1,18 @@
-use Rattle.std.proofs.Common.{ltb, ◌≡◌, ◌≢◌, ℕ, suc, ◌+◌, ◌-◌, ◌<◌, ◌≤◌, ◌↔◌, ◌⊎◌, inl, inr, Bool, true, false, not, List, [], ◌∷◌, ◌++◌, length, set, drop, take, map, IsTrue, All, Option, Some, None, get_or, refl, sym, ◌∙◌, ap, subst, arith, append_assoc, length-append, length-set, cond, if◌then◌else◌}
-use Rattle.std.specs.Prelude.{Contains, AllPairs, count_by, is_none, is_some}
+use Rattle.std.proofs.Common.{ltb, ◌≡◌, ◌≢◌, ℕ, ◌+◌, ◌<◌, ◌↔◌, ◌⊎◌, inl, inr, Bool, true, false, not, List, [], ◌∷◌, ◌++◌, length, set, take, map, IsTrue, All, Option, Some, None, get_or, refl, sym, ◌∙◌, ap, subst, arith, length-set, cond, if◌then◌else◌}
+use Rattle.std.specs.Prelude.{Contains, count_by, is_none, is_some}
 use Rattle.std.proofs.lemmas.Bool.{cases_eq, cases_lt, lt-ltb, ltb-true, false≢true}
-use Rattle.std.proofs.lemmas.List.{get_or-set_same, get_or-set_other, get_or_append_left, get_or_push, length_push, length-map, get_or-map, get_or-take, length-take, take-map, take-append-le, take_all}
+use Rattle.std.proofs.lemmas.List.{get_or-set_same, get_or-set_other, get_or_append_left, get_or_push, length_push, length-map, get_or-map, get_or-take, length-take, take-map, take-append-le}
 use Rattle.std.proofs.lemmas.List.Quantifiers.{all_pairs_push}
 use Rattle.std.proofs.lemmas.List.Sums.{sum_by-set}
-use Rattle.std.proofs.lemmas.List.Elements.{All-nil, All-push, All-get_or, All-weaker, All-from_get_or, All-contains, All-contains_itself, Contains-get_or, Contains-append_left, Contains-push, Contains-push_cases, Contains-append_cases}
+use Rattle.std.proofs.lemmas.List.Elements.{All-push, All-weaker, All-contains, All-contains_itself, Contains-get_or, Contains-append_left, Contains-push, Contains-push_cases}
 use Rattle.sat_formula.specs.declared.lit.Lit.{Lit}
 use Rattle.sat_formula.specs.Lit.{IsBelow, lit_value}
 use Rattle.refutation_checker.specs.Marks.{TellsValue}
 use Rattle.refutation_checker.specs.Follows.{negation}
-use Rattle.refutation_checker.proofs.TrailLemmas.{Lit-same, Contains-nil, told}
+use Rattle.refutation_checker.proofs.TrailLemmas.{Lit-same, told}
 use Rattle.refutation_checker.proofs.StatusLemmas.{Contains-take}
 use Rattle.cdcl_solver.specs.declared.entry.Entry.{Entry}
-use Rattle.cdcl_solver.specs.inner.Trail.{lits_of, DistinctVars, Marks, Marked, Placed, Tabled, IsFree, IsFirstFree, value_of}
+use Rattle.cdcl_solver.specs.inner.Trail.{lits_of, Marks, Marked, Placed, Tabled, IsFree, IsFirstFree, value_of}
 use Rattle.cdcl_solver.proofs.ChainLemmas.{lits-append}
 
 some≢none : (b : Bool) (A : Type 0) → None ≡ Some b → A

@@ -12,6 +12,7 @@ mod analysis;
 mod answer;
 mod entry;
 mod learning;
+mod occurrences;
 mod propagation;
 mod searching;
 mod solving;

@@ -1,13 +1,15 @@
 //! What the clauses force under a trail.
 
-ghost use Rattle.std.specs.Prelude.{◌≡◌, ℕ, ◌+◌, ◌-◌, ◌<◌, ◌≤◌, [], length, IfOk, All, slice_index_or};
+ghost use Rattle.std.specs.Prelude.{◌≡◌, ℕ, ◌+◌, ◌-◌, ◌<◌, ◌≤◌, [], Contains, length, take, IfOk, All, slice_index_or};
 ghost use Rattle.sat_formula.specs.Lit.{IsBelow};
 ghost use Rattle.sat_formula.specs.Clause.{NamesBelow};
 ghost use Rattle.refutation_checker.specs.Follows.{known};
 ghost use Rattle.cdcl_solver.specs.inner.Trail.{lits_of};
-ghost use Rattle.cdcl_solver.specs.inner.Chain.{Chain, IsStatus, IsScan, IsPropagated};
+ghost use Rattle.cdcl_solver.specs.inner.Chain.{Chain, IsStatus, IsPropagated};
+ghost use Rattle.cdcl_solver.specs.inner.Occurrences.{AllKept, IsIndex, IsLooked};
 
 use crate::entry::Entry;
+use crate::occurrences::Occurrences;
 use crate::trail::Trail;
 use refutation_checker::Step;
 use sat_formula::{Clause, Lit};
@@ -21,50 +23,100 @@ pub enum Status {
     Other,
 }
 
-// The number of a clause that is false, a clause that forces a literal, or that there is neither.
-#[derive(Clone, Copy, Debug)]
-pub enum Scan {
-    Conflict(u64),
-    Forces(Lit, u64),
-    Nothing,
+/// Looks at the clauses that name the negation of an entry from `head` on, and makes true what
+/// they force, until one is false, whose number it answers, or none forces more.
+pub fn propagate(
+    clauses: &[Clause],
+    steps: &[Step],
+    occurrences: &Occurrences,
+    head: usize,
+    trail: &mut Trail,
+) -> Result<Option<u64>, AllocError>
+    requires within { NamesBelow trail.old.room (known clauses.now steps.now) }
+    requires chain { Chain (known clauses.now steps.now) [] trail.old.entries }
+    requires index { IsIndex trail.old.room occurrences.now (known clauses.now steps.now) }
+    requires head { head ≤ length trail.old.entries }
+    requires kept { AllKept (known clauses.now steps.now) (take head (lits_of trail.old.entries)) (lits_of trail.old.entries) }
+    ensures { IfOk result (λ o. IsPropagated (known clauses.now steps.now) trail.old trail.new o) }
+{
+    let mut next = head;
+    'literals: loop {
+        let Some(l) = trail.literal(next) else {
+            return Ok(None);
+        };
+        let places = occurrences.places(l.negated());
+        let found = look_over(clauses, steps, places, trail)?;
+        if let Some(conflict) = found {
+            return Ok(Some(conflict));
+        }
+        next += 1;
+    }
 }
 
-/// Makes true what the clauses force, until one is false, whose number it answers, or none forces
-/// more.
-pub fn propagate(
+/// Looks at all clauses, once each.
+pub fn look_at_all(
     clauses: &[Clause],
     steps: &[Step],
     trail: &mut Trail,
 ) -> Result<Option<u64>, AllocError>
     requires within { NamesBelow trail.old.room (known clauses.now steps.now) }
     requires chain { Chain (known clauses.now steps.now) [] trail.old.entries }
-    ensures { IfOk result (λ o. IsPropagated (known clauses.now steps.now) trail.old trail.new o) }
+    ensures { IfOk result (λ o. IsLooked (known clauses.now steps.now) trail.old trail.new (λ k. Unit {0}) o) }
 {
-    'force: loop {
-        match look_over(clauses, steps, trail) {
-            Scan::Conflict(h) => return Ok(Some(h)),
-            Scan::Forces(u, h) => trail.push(Entry {
-                lit: u,
-                reason: Some(h),
-            })?,
-            Scan::Nothing => return Ok(None),
+    for k in 0..clauses.len() + steps.len() {
+        let found = look_at(clauses, steps, k, trail)?;
+        if let Some(conflict) = found {
+            return Ok(Some(conflict));
         }
     }
+    Ok(None)
 }
 
-// Looks at every clause.
-fn look_over(clauses: &[Clause], steps: &[Step], trail: &Trail) -> Scan
-    requires { NamesBelow trail.now.room (known clauses.now steps.now) }
-    ensures { IsScan (known clauses.now steps.now) (lits_of trail.now.entries) result }
+// Looks at the clauses at these places.
+fn look_over(
+    clauses: &[Clause],
+    steps: &[Step],
+    places: &[usize],
+    trail: &mut Trail,
+) -> Result<Option<u64>, AllocError>
+    requires within { NamesBelow trail.old.room (known clauses.now steps.now) }
+    requires chain { Chain (known clauses.now steps.now) [] trail.old.entries }
+    ensures { IfOk result (λ o. IsLooked (known clauses.now steps.now) trail.old trail.new (Contains places.now) o) }
 {
-    for i in 0..clauses.len() + steps.len() {
-        match status_of(clause_at(clauses, steps, i), trail) {
-            Status::AllFalse => return Scan::Conflict(i as u64 + 1),
-            Status::OneLeft(u) => return Scan::Forces(u, i as u64 + 1),
-            Status::Other => {}
+    for k in places {
+        let found = look_at(clauses, steps, *k, trail)?;
+        if let Some(conflict) = found {
+            return Ok(Some(conflict));
         }
     }
-    Scan::Nothing
+    Ok(None)
+}
+
+// Looks at the clause at `k`, if there is one, and makes true what it forces.
+fn look_at(
+    clauses: &[Clause],
+    steps: &[Step],
+    k: usize,
+    trail: &mut Trail,
+) -> Result<Option<u64>, AllocError>
+    requires within { NamesBelow trail.old.room (known clauses.now steps.now) }
+    requires chain { Chain (known clauses.now steps.now) [] trail.old.entries }
+    ensures { IfOk result (λ o. IsLooked (known clauses.now steps.now) trail.old trail.new (λ j. j ≡ k) o) }
+{
+    if k >= clauses.len() + steps.len() {
+        return Ok(None);
+    }
+    match status_of(clause_at(clauses, steps, k), trail) {
+        Status::AllFalse => Ok(Some(k as u64 + 1)),
+        Status::OneLeft(u) => {
+            trail.push(Entry {
+                lit: u,
+                reason: Some(k as u64 + 1),
+            })?;
+            Ok(None)
+        }
+        Status::Other => Ok(None),
+    }
 }
 
 // The clause at `i`: the formula's, and then those of the steps.

@@ -6,26 +6,31 @@ ghost use Rattle.sat_formula.specs.Clause.{NamesBelow};
 ghost use Rattle.refutation_checker.specs.Follows.{known};
 ghost use Rattle.cdcl_solver.specs.inner.Trail.{IsFree, lits_of};
 ghost use Rattle.cdcl_solver.specs.inner.Chain.{IsLastDecision, Quiet};
-ghost use Rattle.cdcl_solver.specs.inner.Search.{IsSearching, Meets, IsEnd, IsBegun, IsSettled, IsDecided, Advances, IsRefuted, stepped};
+ghost use Rattle.cdcl_solver.specs.inner.Occurrences.{IsIndex};
+ghost use Rattle.cdcl_solver.specs.inner.Search.{IsSearching, IsReady, Meets, IsEnd, IsBegun, IsOpened, IsSettled, IsDecided, IsUnspent, IsResolved, Advances, IsRefuted, IsStepped};
 
 use crate::acceptance::is_jump;
 use crate::analysis::{Candidate, first_unique_point};
 use crate::entry::Entry;
 use crate::learning::{explained, last_decision};
-use crate::propagation::propagate;
+use crate::occurrences::Occurrences;
+use crate::propagation::{look_at_all, propagate};
 use crate::trail::Trail;
 use refutation_checker::{Log, Step, Trail as Checking, follows};
 use sat_formula::{Clause, Clauses, Cnf, Lit};
 use std::alloc::{AllocError, Global};
 use tla_values::List;
 
-/// The clauses, the steps that were derived from them, what is true, and the checker's own trail,
-/// by which a proposed step is tested.
+/// The clauses, the steps that were derived from them, what is true, which clauses name a literal,
+/// and the checker's own trail, by which a proposed step is tested. What the entries of the trail
+/// before `head` make of the clauses is known.
 #[derive(Drop)]
 pub struct Search {
     pub clauses: Clauses,
     pub steps: Log,
     pub trail: Trail,
+    pub head: usize,
+    pub occurrences: Occurrences,
     pub checking: Checking,
 }
 
@@ -44,11 +49,14 @@ impl Search {
         ensures { IfOk result (λ s. IsBegun formula s) }
     {
         let trail = Trail::new(alloc, formula.vars)?;
+        let occurrences = indexed(alloc, formula.vars, formula.clauses.clauses())?;
         let checking = Checking::new(alloc, formula.vars)?;
         Ok(Search {
             clauses: formula.clauses,
             steps: List::new(alloc),
             trail,
+            head: 0,
+            occurrences,
             checking,
         })
     }
@@ -70,23 +78,35 @@ impl Search {
     }
 }
 
+// The index of these clauses.
+fn indexed(alloc: Global, room: usize, clauses: &[Clause]) -> Result<Occurrences, AllocError>
+    requires { NamesBelow room clauses.now }
+    ensures { IfOk result (λ t. IsIndex room t clauses.now) }
+{
+    let mut occurrences = Occurrences::new(alloc, room)?;
+    for (k, clause) in clauses.iter().enumerate() {
+        occurrences.add(clause.lits(), k)?;
+    }
+    Ok(occurrences)
+}
+
 /// Searches until each variable has a value, the empty clause is derived or the budget is spent.
 pub fn run(alloc: Global, search: &mut Search, budget: Option<u64>) -> Result<End, AllocError>
     requires searching { IsSearching search.old }
     requires empty { search.old.steps ≡ [] }
+    requires head { search.old.head ≡ 0 }
     ensures end { IfOk result (λ e. IsEnd budget search.old search.new e) }
 {
+    if let Some(conflict) = begin(search)? {
+        if let Some(end) = resolve(alloc, search, budget, conflict)? {
+            return Ok(end);
+        }
+    }
     'search: loop {
-        let found = settle(search)?;
-        if let Some(conflict) = found {
-            let Some(last) = last_decision(search.trail.entries()) else {
-                refute(alloc, search, conflict)?;
-                return Ok(End::Refuted);
-            };
-            if is_spent(budget, search.steps.len()) {
-                return Ok(End::Spent);
+        if let Some(conflict) = settle(search)? {
+            if let Some(end) = resolve(alloc, search, budget, conflict)? {
+                return Ok(end);
             }
-            learn(alloc, search, conflict, last)?;
         } else {
             let Some(var) = search.trail.first_free() else {
                 return Ok(End::Satisfied);
@@ -94,6 +114,43 @@ pub fn run(alloc: Global, search: &mut Search, budget: Option<u64>) -> Result<En
             decide(search, var)?;
         }
     }
+}
+
+// Looks at each clause once, since some force a literal before any is true.
+fn begin(search: &mut Search) -> Result<Option<u64>, AllocError>
+    requires searching { IsSearching search.old }
+    requires head { search.old.head ≡ 0 }
+    ensures { IfOk result (λ o. IsOpened search.old search.new o) }
+{
+    let found = look_at_all(
+        search.clauses.clauses(),
+        search.steps.as_slice(),
+        &mut search.trail,
+    )?;
+    Ok(found)
+}
+
+// Derives a step from a conflict, unless the budget is spent, and goes on behind it.
+fn resolve(
+    alloc: Global,
+    search: &mut Search,
+    budget: Option<u64>,
+    conflict: u64,
+) -> Result<Option<End>, AllocError>
+    requires searching { IsSearching search.old }
+    requires unspent { IsUnspent budget search.old.steps }
+    requires conflict { Meets search.old conflict }
+    ensures { IfOk result (λ o. IsResolved budget search.old search.new o) }
+{
+    let Some(last) = last_decision(search.trail.entries()) else {
+        refute(alloc, search, conflict)?;
+        return Ok(Some(End::Refuted));
+    };
+    if is_spent(budget, search.steps.len()) {
+        return Ok(Some(End::Spent));
+    }
+    learn(alloc, search, conflict, last)?;
+    Ok(None)
 }
 
 fn is_spent(budget: Option<u64>, count: usize) -> bool
@@ -107,12 +164,15 @@ fn is_spent(budget: Option<u64>, count: usize) -> bool
 
 // Makes true what the clauses force, and answers the number of a clause that is false, if one is.
 fn settle(search: &mut Search) -> Result<Option<u64>, AllocError>
-    requires { IsSearching search.old }
+    requires searching { IsSearching search.old }
+    requires ready { IsReady search.old }
     ensures { IfOk result (λ o. IsSettled search.old search.new o) }
 {
     let found = propagate(
         search.clauses.clauses(),
         search.steps.as_slice(),
+        &search.occurrences,
+        search.head,
         &mut search.trail,
     )?;
     Ok(found)
@@ -126,6 +186,7 @@ fn decide(search: &mut Search, var: usize) -> Result<(), AllocError>
     requires free { IsFree (lits_of search.old.trail.entries) (record { var = var; neg = true }) }
     ensures { OnOk result (IsDecided search.old search.new) }
 {
+    search.head = search.trail.entries().len();
     search.trail.push(Entry {
         lit: Lit { var, neg: true },
         reason: None,
@@ -220,12 +281,17 @@ fn learn_decisions(
 
 // Adds the step, goes back to the first `at` entries and makes the literal true by it.
 fn add_step(search: &mut Search, step: Step, forced: Lit, at: usize) -> Result<(), AllocError>
+    requires searching { IsSearching search.old }
+    requires names { All (IsBelow search.old.trail.room) step.lits }
     requires below { forced.var < search.old.trail.room }
     requires free { IsFree (lits_of (take at search.old.trail.entries)) forced }
-    ensures { OnOk result (search.new ≡ stepped search.old step forced at) }
+    ensures { OnOk result (IsStepped search.old step forced at search.new) }
 {
     let id = step.id;
+    let place = search.count();
+    search.occurrences.add(step.lits.lits(), place)?;
     search.steps.push(step)?;
+    search.head = at;
     search.trail.back(at);
     search.trail.push(Entry {
         lit: forced,

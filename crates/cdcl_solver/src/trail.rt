@@ -4,7 +4,7 @@ ghost use Rattle.std.specs.Prelude.{◌≡◌, ℕ, ◌+◌, ◌-◌, ◌<◌, �
 ghost use Rattle.sat_formula.specs.Lit.{lit_value, IsBelow};
 ghost use Rattle.refutation_checker.specs.Follows.{negation};
 ghost use Rattle.refutation_checker.specs.Marks.{TellsValue};
-ghost use Rattle.cdcl_solver.specs.inner.Trail.{Marked, IsFree, IsFirstFree, lits_of, value_of};
+ghost use Rattle.cdcl_solver.specs.inner.Trail.{Marked, IsFree, IsFirstFree, IsLitAt, lits_of, value_of};
 
 use crate::entry::Entry;
 use sat_formula::{Assignment, Lit};
@@ -85,6 +85,17 @@ impl Trail {
     {
         let _ = &self.marks;
         self.entries.as_slice()
+    }
+
+    /// The literal at this place, if there is one.
+    pub fn literal(&self, place: usize) -> Option<Lit>
+        ensures { IsLitAt self.now place result }
+    {
+        let entries = self.entries();
+        if place >= entries.len() {
+            return None;
+        }
+        Some(entries[place].lit)
     }
 
     /// The least variable without a value.

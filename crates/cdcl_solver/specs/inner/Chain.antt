@@ -1,13 +1,11 @@
 -- What ties the trail to the clauses. A clause says nothing under a trail where it is neither false nor a unit there.
-use Rattle.std.specs.Prelude.{◌≡◌, ℕ, ◌+◌, ◌-◌, ◌<◌, ◌≤◌, ◌++◌, Bool, true, false, List, [], ◌∷◌, length, map, MatchOption, All, Contains, slice_index_or, take, drop, Option, Some, None}
+use Rattle.std.specs.Prelude.{◌≡◌, ℕ, ◌+◌, ◌-◌, ◌<◌, ◌≤◌, ◌++◌, List, [], ◌∷◌, length, map, MatchOption, All, slice_index_or, drop, Option, Some, None}
 use Rattle.sat_formula.specs.declared.lit.Lit.{Lit}
 use Rattle.refutation_checker.specs.Follows.{negation}
 use Rattle.refutation_checker.specs.Follows.{IsFalse, IsUnit}
 use Rattle.cdcl_solver.specs.declared.entry.Entry.{Entry}
 use Rattle.cdcl_solver.specs.declared.propagation.Status.{Status}
 use Rattle.cdcl_solver.specs.declared.propagation.Status.TheVariants.{AllFalse, OneLeft, Other}
-use Rattle.cdcl_solver.specs.declared.propagation.Scan.{Scan}
-use Rattle.cdcl_solver.specs.declared.propagation.Scan.TheVariants.{Conflict, Forces, Nothing}
 use Rattle.refutation_checker.specs.declared.log.Step.{Step}
 use Rattle.cdcl_solver.specs.inner.Trail.{DecisionTrail, IsFree, lits_of}
 use Rattle.cdcl_solver.specs.inner.Weight.{weight}
@@ -60,11 +58,6 @@ abbrev pub IsStatus : List Lit → List Lit → Status → Type 0
 IsStatus T c AllFalse = IsFalse T c
 IsStatus T c (OneLeft u) = IsUnit T c u
 IsStatus T c Other = Quiet T c
-
-abbrev pub IsScan : List (List Lit) → List Lit → Scan → Type 0
-IsScan known T (Conflict h) = IsConflict known T h
-IsScan known T (Forces u h) = IsForced known T u h
-IsScan known T Nothing = All (Quiet T) known
 
 -- the place of the last decision, if there is one
 abbrev pub IsLastDecision : List Entry → Option ℕ → Type 0

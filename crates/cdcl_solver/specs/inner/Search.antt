@@ -11,6 +11,7 @@ use Rattle.cdcl_solver.specs.declared.searching.End.TheVariants.{Satisfied, Refu
 use Rattle.cdcl_solver.specs.Answers.{EachNew, IsDerivation, IsRefutation, IsSpent}
 use Rattle.cdcl_solver.specs.inner.Trail.{DecisionTrail, lits_of, IsFirstFree}
 use Rattle.cdcl_solver.specs.inner.Chain.{Quiet, Chain, IsConflict}
+use Rattle.cdcl_solver.specs.inner.Occurrences.{AllKept, IsIndex, Adds}
 use Rattle.cdcl_solver.specs.inner.Weight.{weight}
 
 -- what ties the trail to the log
@@ -21,16 +22,23 @@ pub record IsSearch (clauses : List (List Lit)) (steps : List Step) (t : Decisio
   pub new : EachNew clauses steps
   pub some : All (λ s. 0 < length s.lits) steps
 
--- the checker's trail is empty between two tests
+-- the checker's trail is empty between two tests, and each clause stands in the index
 pub record IsSearching (s : Search) : Type 0 where
   pub search : IsSearch s.clauses s.steps s.trail
   pub checking : s.checking ≡ []
+  pub index : IsIndex s.trail.room s.occurrences (known s.clauses s.steps)
+
+-- only what the entries from `head` on make of the clauses is left to look at
+pub record IsReady (s : Search) : Type 0 where
+  pub head : s.head ≤ length s.trail.entries
+  pub kept : AllKept (known s.clauses s.steps) (take s.head (lits_of s.trail.entries)) (lits_of s.trail.entries)
 
 -- nothing is true yet
 pub record IsBegun (formula : Cnf) (s : Search) : Type 0 where
   pub clauses : s.clauses ≡ formula.clauses
   pub steps : s.steps ≡ []
-  pub room : s.trail.room ≡ formula.vars
+  pub trail : s.trail ≡ record { room = formula.vars; entries = [] }
+  pub head : s.head ≡ 0
   pub searching : IsSearching s
 
 -- the clause of that number is false
@@ -41,6 +49,13 @@ Meets s conflict = IsConflict (known s.clauses s.steps) (lits_of s.trail.entries
 pub record Keeps (old new : Search) : Type 0 where
   pub clauses : new.clauses ≡ old.clauses
   pub room : new.trail.room ≡ old.trail.room
+
+-- each clause was looked at once
+pub record IsOpened (old new : Search) (conflict : Option ℕ) : Type 0 where
+  pub searching : IsSearching new
+  pub keeps : Keeps old new
+  pub steps : new.steps ≡ old.steps
+  pub found : MatchOption conflict (IsReady new) (λ h. Meets new h)
 
 -- the trail went on, until a clause is false or each says nothing
 pub record IsSettled (old new : Search) (conflict : Option ℕ) : Type 0 where
@@ -53,20 +68,29 @@ pub record IsSettled (old new : Search) (conflict : Option ℕ) : Type 0 where
 -- a literal was decided
 pub record IsDecided (old new : Search) : Type 0 where
   pub searching : IsSearching new
+  pub ready : IsReady new
   pub keeps : Keeps old new
   pub steps : new.steps ≡ old.steps
   pub smaller : weight old.trail.room new.trail.entries < weight old.trail.room old.trail.entries
 
 -- the step is added, and the literal forced by it behind the first `at` entries
-abbrev pub stepped : Search → Step → Lit → ℕ → Search
-stepped s step forced at = record s {
+abbrev pub stepped : Search → Step → Lit → ℕ → List (List ℕ) → Search
+stepped s step forced at lists = record s {
   steps = s.steps ++ step ∷ [];
   trail = record s.trail { entries = take at s.trail.entries ++ record { lit = forced; reason = Some step.id } ∷ [] };
+  head = at;
+  occurrences = lists;
 }
+
+pub record IsStepped (old : Search) (step : Step) (forced : Lit) (at : ℕ) (new : Search) : Type 0 where
+  pub lists : List (List ℕ)
+  pub adds : Adds old.occurrences lists step.lits (length (known old.clauses old.steps))
+  pub same : new ≡ stepped old step forced at lists
 
 -- one step more, and a lower trail
 pub record Advances (old new : Search) : Type 0 where
   pub searching : IsSearching new
+  pub ready : IsReady new
   pub keeps : Keeps old new
   pub longer : length new.steps ≡ length old.steps + 1
   pub smaller : weight old.trail.room new.trail.entries < weight old.trail.room old.trail.entries
@@ -92,3 +116,8 @@ abbrev pub IsEnd : Option ℕ → Search → Search → End → Type 0
 IsEnd budget old new Satisfied = Keeps old new × IsComplete (known new.clauses new.steps) new.trail
 IsEnd budget old new Refuted = IsRefutation old.trail.room old.clauses budget new.steps
 IsEnd budget old new Spent = IsSpent old.trail.room old.clauses budget new.steps
+
+-- a conflict was met: the search ended, or goes on
+abbrev pub IsResolved : Option ℕ → Search → Search → Option End → Type 0
+IsResolved budget old new None = Advances old new × IsUnspent budget new.steps
+IsResolved budget old new (Some e) = IsEnd budget old new e

@@ -1,5 +1,5 @@
 -- The solver's trail: what is true and why, beside tables by variable.
-use Rattle.std.specs.Prelude.{◌≡◌, ◌≢◌, ℕ, ◌+◌, ◌<◌, ◌⊎◌, ◌↔◌, Bool, false, not, List, length, map, All, AllPairs, Contains, slice_index_or, count_by, is_none, Option, Some, None}
+use Rattle.std.specs.Prelude.{◌≡◌, ◌≢◌, ℕ, ◌+◌, ◌^◌, ◌<◌, ◌≤◌, ◌⊎◌, ◌↔◌, Bool, false, not, List, length, map, All, AllPairs, Contains, slice_index_or, count_by, is_none, Option, Some, None}
 use Rattle.sat_formula.specs.declared.lit.Lit.{Lit}
 use Rattle.refutation_checker.specs.Follows.{negation}
 use Rattle.sat_formula.specs.Lit.{IsBelow}
@@ -46,6 +46,19 @@ IsFree T l = (Contains T l → ⊥) × (Contains T (negation l) → ⊥)
 abbrev pub IsFirstFree : ℕ → List Lit → Option ℕ → Type 0
 IsFirstFree room T None = (l : Lit) → l.var < room → Contains T l ⊎ Contains T (negation l)
 IsFirstFree room T (Some v) = (v < room) × ((n : Bool) → IsFree T (record { var = v; neg = n }))
+
+-- the literal stands at this place
+pub record StandsAt (t : DecisionTrail) (k : ℕ) (l : Lit) : Type 0 where
+  pub place : k < length t.entries
+  pub fits : k + 1 < 2 ^ 64
+  pub room : length t.entries ≤ t.room
+  pub below : l.var < t.room
+  pub same : (d : Entry) → (slice_index_or t.entries k d).lit ≡ l
+
+-- the literal at this place, if there is one
+abbrev pub IsLitAt : DecisionTrail → ℕ → Option Lit → Type 0
+IsLitAt t k None = length t.entries ≤ k
+IsLitAt t k (Some l) = StandsAt t k l
 
 -- the value that a mark tells; no value counts as false
 abbrev pub value_of : Option Bool → Bool

@@ -1,9 +1,8 @@
-use Rattle.std.proofs.Common.{◌≡◌, ◌≤◌, ◌<◌, ◌∙◌, sym, take, length, arith, true, false}
+use Rattle.std.proofs.Common.{◌<◌, sym, take, length, arith}
 use Rattle.std.proofs.lemmas.Bool.{false≢true}
 use Rattle.std.proofs.lemmas.List.{take-take, length-take-le}
 use Rattle.std.proofs.lemmas.List.Elements.{Contains-get_or}
 use Rattle.refutation_checker.proofs.StatusLemmas.{differ_lem}
-use Rattle.cdcl_solver.specs.inner.Chain.{IsLastDecision}
 use Rattle.cdcl_solver.proofs.ChainLemmas.{no_entry}
 use Rattle.cdcl_solver.proofs.JumpLemmas.{no_decision, second_found}
 use Rattle.cdcl_solver.proofs.acceptance.has_second.Goals as goal

@@ -1,4 +1,3 @@
-use Rattle.std.proofs.Common.{◌≡◌, ◌+◌, length, arith}
 use Rattle.cdcl_solver.proofs.ChainLemmas.{no_entry, reasons-some, reasons-none}
 use Rattle.cdcl_solver.proofs.learning.hints_of.Goals as goal
 use Rattle.cdcl_solver.proofs.learning.hints_of.Goals.{in-Some+in_ok-push, in_default}

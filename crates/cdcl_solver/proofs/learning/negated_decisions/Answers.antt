@@ -1,4 +1,3 @@
-use Rattle.std.proofs.Common.{◌≡◌, ◌+◌, length, arith}
 use Rattle.cdcl_solver.proofs.ChainLemmas.{no_entry, negated-next, negated-same}
 use Rattle.cdcl_solver.proofs.learning.negated_decisions.Goals as goal
 use Rattle.cdcl_solver.proofs.learning.negated_decisions.Goals.{then-is_none+in_ok-push, else-is_none}

@@ -1,8 +1,7 @@
-use Rattle.std.proofs.Common.{rules, ◌≡◌, ℕ, ◌+◌, ◌-◌, ◌<◌, ◌≤◌, ◌↔◌, ◌++◌, ◌∷◌, [], length, All, List, true, false, None, Some, inl, inr, sym, refl}
+use Rattle.std.proofs.Common.{inl}
 use Rattle.std.proofs.lemmas.List.{take_more, take_all}
 use Rattle.std.proofs.lemmas.List.Elements.{Contains-get_or}
-use Rattle.refutation_checker.specs.Follows.{IsFalse}
-use Rattle.refutation_checker.proofs.StatusLemmas.{Found, Found-false, IsUnit-first, IsUnit-more, Other-two, Contains-take, TellsValue-false_lem, differ_lem, same_lem}
+use Rattle.refutation_checker.proofs.StatusLemmas.{Found-false, IsUnit-first, IsUnit-more, Other-two, Contains-take, TellsValue-false_lem, differ_lem, same_lem}
 use Rattle.cdcl_solver.proofs.propagation.status_of.Goals as goal
 use Rattle.cdcl_solver.proofs.propagation.status_of.Goals.{in-Some-false, in-None+in-None-found, in-None+in-Some+else-ne}
 

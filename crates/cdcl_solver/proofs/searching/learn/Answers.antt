@@ -1,4 +1,3 @@
-use Rattle.std.proofs.Common.{◌≡◌}
 use Rattle.cdcl_solver.proofs.searching.learn.Goals as goal
 
 pub learn_decisions-requires-clause-conflict : goal.learn_decisions-requires-clause-conflict

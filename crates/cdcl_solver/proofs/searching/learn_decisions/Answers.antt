@@ -1,10 +1,9 @@
-use Rattle.std.proofs.Common.{◌≡◌, ◌<◌, length, sym}
 use Rattle.std.proofs.lemmas.List.Elements.{All-contains}
 use Rattle.sat_formula.specs.Lit.{IsBelow}
 use Rattle.cdcl_solver.specs.inner.Trail.{lits_of}
 use Rattle.cdcl_solver.proofs.ChainLemmas.{no_entry}
 use Rattle.cdcl_solver.proofs.TrailLemmas.{lit_of-entry}
-use Rattle.cdcl_solver.proofs.SearchLemmas.{free-learned, learned_advances}
+use Rattle.cdcl_solver.proofs.SearchLemmas.{free-learned, learned_advances, decisions_below}
 use Rattle.cdcl_solver.proofs.searching.learn_decisions.Goals as goal
 
 pub add_step-requires-clause-below : goal.add_step-requires-clause-below
@@ -19,9 +18,14 @@ add_step-requires-clause-free c =
     rw (c.negated.ensures, c.entries-entries.ensures.same)
     (free-learned s.clauses s.steps s.trail.room s.trail.entries c.args.conflict c.in_ok-step.step c.requires.searching.search c.requires.conflict made c.args.last no_entry c.entries-entries.ensures.below c.requires.last)
 
+pub add_step-requires-clause-names : goal.add_step-requires-clause-names
+add_step-requires-clause-names c =
+    let made = rw (c.count.ensures.count, c.entries-entries.ensures.same) at c.in_ok-step.ensures in
+    rw made.lits (decisions_below c.args.search.now.trail.room c.args.search.now.trail.entries c.entries-entries.ensures.below)
+
 pub returns : goal.returns
 returns c =
     let s = c.args.search.now in
     let made = rw (c.count.ensures.count, c.entries-entries.ensures.same) at c.in_ok-step.ensures in
-    rw (c.in_ok-add_step.ensures, c.negated.ensures, c.entries-entries.ensures.same)
-    (learned_advances s c.args.conflict c.in_ok-step.step c.args.last no_entry c.requires.searching c.requires.conflict made c.entries-entries.ensures.below c.entries-entries.ensures.room c.requires.last)
+    let went = rw (c.negated.ensures, c.entries-entries.ensures.same) at c.in_ok-add_step.ensures in
+    learned_advances s c.args.conflict c.in_ok-step.step c.args.last no_entry c.add_step.new.search c.requires.searching c.requires.conflict made c.entries-entries.ensures.below c.entries-entries.ensures.room c.requires.last went

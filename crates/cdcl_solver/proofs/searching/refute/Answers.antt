@@ -1,4 +1,3 @@
-use Rattle.std.proofs.Common.{◌≡◌}
 use Rattle.cdcl_solver.proofs.SearchLemmas.{refuted_next}
 use Rattle.cdcl_solver.proofs.searching.refute.Goals as goal
 

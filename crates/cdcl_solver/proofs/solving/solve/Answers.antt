@@ -1,6 +1,7 @@
-use Rattle.std.proofs.Common.{◌≡◌, ◌∙◌, ap}
+use Rattle.std.proofs.Common.{◌∙◌, ap}
 use Rattle.sat_formula.specs.declared.cnf.Cnf.{Cnf}
 use Rattle.refutation_checker.proofs.Soundness.{Refutes-sound}
+use Rattle.cdcl_solver.specs.inner.Trail.{DecisionTrail}
 use Rattle.cdcl_solver.proofs.SatisfyLemmas.{model}
 use Rattle.cdcl_solver.proofs.solving.solve.Goals as goal
 
@@ -10,7 +11,7 @@ returns-in_ok-assignment-in-Satisfied-clause-answer c =
     let ended = rw c.in-Satisfied.is at c.in_ok-run.ensures.end in
     let cnf = c.in_ok-cnf.ensures.same in
     model c.args.formula.now c.args.assume c.in_ok-assignment-in-Satisfied.field-0 c.run.new.search.steps c.run.new.search.trail
-    (ended.0.room ∙ begun.room ∙ ap (λ (f : Cnf). f.vars) cnf)
+    (ended.0.room ∙ ap (λ (t : DecisionTrail). t.room) begun.trail ∙ ap (λ (f : Cnf). f.vars) cnf)
     (rw cnf at c.in_ok-cnf.ensures.within)
     (rw (ended.0.clauses, begun.clauses, cnf) at ended.1)
     c.in_ok-assignment-in-Satisfied.ensures.agrees

@@ -1,4 +1,4 @@
-use Rattle.std.proofs.Common.{◌≡◌, length, take, vec_len}
+use Rattle.std.proofs.Common.{◌≡◌, length, take}
 use Rattle.cdcl_solver.specs.inner.Trail.{Marked}
 use Rattle.cdcl_solver.proofs.trail.take_back.Given as goal
 

@@ -1,4 +1,4 @@
-use Rattle.std.proofs.Common.{◌≡◌, ◌∙◌, length, arith, subst, ap, All, true}
+use Rattle.std.proofs.Common.{◌≡◌, ◌∙◌, subst, ap, All, true}
 use Rattle.std.proofs.lemmas.List.{length-map}
 use Rattle.sat_formula.specs.Lit.{lit_value}
 use Rattle.cdcl_solver.specs.inner.Trail.{DecisionTrail, lits_of, value_of}

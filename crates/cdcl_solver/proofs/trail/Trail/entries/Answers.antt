@@ -1,4 +1,4 @@
-use Rattle.std.proofs.Common.{◌≡◌, ◌+◌, ◌≤◌, length, arith, subst, All, ℕ}
+use Rattle.std.proofs.Common.{◌≤◌, length, arith, subst, All}
 use Rattle.sat_formula.specs.Lit.{IsBelow}
 use Rattle.cdcl_solver.specs.inner.Trail.{DecisionTrail, lits_of}
 use Rattle.cdcl_solver.proofs.trail.Trail.entries.Goals as goal

@@ -1,4 +1,4 @@
-use Rattle.std.proofs.Common.{◌≡◌, ◌<◌, ◌∙◌, sym, length, arith, subst, None, Some, below_more, get_or, ℕ}
+use Rattle.std.proofs.Common.{◌≡◌, ◌<◌, ◌∙◌, sym, length, arith, subst, None, Some, below_more, get_or}
 use Rattle.std.proofs.lemmas.List.{get_or_read}
 use Rattle.cdcl_solver.specs.inner.Trail.{DecisionTrail, lits_of, IsFirstFree}
 use Rattle.cdcl_solver.proofs.TrailLemmas.{no_free, one_free, none_of, not_none}

@@ -1,4 +1,4 @@
-use Rattle.std.proofs.Common.{ltb, ◌≡◌, ◌<◌, ◌∙◌, ◌↔◌, sym, subst, length, arith, take, true, false, IsTrue}
+use Rattle.std.proofs.Common.{ltb, ◌<◌, ◌↔◌, subst, length, arith, take, IsTrue}
 use Rattle.std.specs.Prelude.{Contains}
 use Rattle.std.proofs.lemmas.List.{get_or_read}
 use Rattle.refutation_checker.proofs.StatusLemmas.{TellsValue-true_lem, TellsValue-false_lem}

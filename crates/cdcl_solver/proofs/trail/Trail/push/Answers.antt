@@ -1,4 +1,4 @@
-use Rattle.std.proofs.Common.{◌≡◌, ◌<◌, ◌∙◌, sym, length, length-set, arith, subst}
+use Rattle.std.proofs.Common.{◌<◌, ◌∙◌, sym, length, length-set, subst}
 use Rattle.cdcl_solver.specs.inner.Trail.{DecisionTrail}
 use Rattle.cdcl_solver.proofs.TrailLemmas.{Marked-push, Marked-room, Placed-push}
 use Rattle.cdcl_solver.proofs.trail.Trail.push.Goals as goal

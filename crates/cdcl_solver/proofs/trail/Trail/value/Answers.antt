@@ -1,8 +1,8 @@
-use Rattle.std.proofs.Common.{◌≡◌, ◌∙◌, refl, sym, Some, Bool, not, ◌<◌, length, arith, Option, subst}
+use Rattle.std.proofs.Common.{◌∙◌, sym, Some, Bool, not, ◌<◌, length, Option, subst}
 use Rattle.std.specs.Bool.{beq}
 use Rattle.std.proofs.lemmas.List.{get_or_read}
 use Rattle.refutation_checker.specs.Marks.{TellsValue}
-use Rattle.refutation_checker.proofs.TrailLemmas.{told, differs_told}
+use Rattle.refutation_checker.proofs.TrailLemmas.{differs_told}
 use Rattle.cdcl_solver.proofs.TrailLemmas.{TellsValue-read}
 use Rattle.cdcl_solver.specs.inner.Trail.{DecisionTrail, lits_of}
 use Rattle.cdcl_solver.proofs.trail.Trail.value.Goals as goal
