@@ -10,3 +10,6 @@ pub mod NormalLemmas
 pub mod FunLaws
 pub mod SortLaws
 pub mod FileLemmas
+pub mod Members
+pub mod SameKind
+pub mod Extensional
