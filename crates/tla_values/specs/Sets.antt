@@ -4,7 +4,7 @@ use Rattle.std.specs.List.{list_all, list_any}
 use Rattle.std.specs.declared.cmp.Ordering.{Ordering}
 use Rattle.std.specs.declared.cmp.Ordering.TheVariants.{Less, Equal, Greater}
 use Rattle.tla_values.specs.Order.{Layer, same_value, value_lt, value_cmp}
-use Rattle.tla_values.specs.declared.value.Value.{Value, Fun}
+use Rattle.tla_values.specs.declared.value.Value.{Value, Fun, out-Value}
 use Rattle.tla_values.specs.declared.value.Value.TheOpen as layer
 use Rattle.tla_values.specs.declared.value.Value.TheFolds.{every-Value}
 
@@ -24,6 +24,17 @@ normal_here (layer.Int n) = true
 normal_here (layer.Text t) = true
 normal_here (layer.Set xs) = increasing xs
 normal_here (layer.Fun ps) = increasing (arguments ps)
+
+abbrev pub elements_here : Layer Value → List Value
+elements_here (layer.Bool b) = []
+elements_here (layer.Int n) = []
+elements_here (layer.Text t) = []
+elements_here (layer.Set xs) = xs
+elements_here (layer.Fun ps) = []
+
+-- the members of a set; of any other value none
+unfoldable pub elements : Value → List Value
+elements v = elements_here (out-Value v)
 
 -- so it is in the value and in everything within it
 unfoldable pub Normal : Value → Type 0

@@ -1,0 +1,5 @@
+pub mod Decoding
+pub mod Differing
+pub mod Held
+pub mod Assigned
+pub mod Growing

@@ -1,0 +1,4 @@
+pub mod Cells
+pub mod Decode
+pub mod Growth
+pub mod inner
