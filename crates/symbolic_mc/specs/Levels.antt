@@ -2,14 +2,14 @@
 use Rattle.std.specs.Prelude.{◌≡◌, ℕ, Bool, List, map, length, All}
 use Rattle.sat_formula.specs.declared.lit.Lit.{Lit}
 use Rattle.sat_formula.specs.declared.cnf.Cnf.{Cnf}
-use Rattle.sat_formula.specs.Lit.{lit_value, IsBelow}
+use Rattle.sat_formula.specs.Lit.{values, IsBelow}
 use Rattle.sat_formula.specs.Formula.{Satisfies}
 use Rattle.tla_meaning.specs.declared.boolean.BooleanModule.{BooleanModule}
 use Rattle.symbolic_mc.specs.Boolean.{IsRun}
 
 -- the truth values that an assignment gives a state's literals
 abbrev pub values_of : List Bool → List Lit → List Bool
-values_of a code = map (λ l. lit_value l a) code
+values_of a code = values code a
 
 -- a literal of the formula for each variable
 pub record IsCode (f : Cnf) (vars : ℕ) (code : List Lit) : Type 0 where

@@ -6,6 +6,21 @@ use tla_meaning::{Decl, Place, State};
 use tla_values::{List, Text, Value};
 use trace_text::{Fault, Part, Trace, Verdict, Where, report_text};
 
+// What is printed of the verdicts below, over the variables x and y and the file models/Row.tla.
+const EXPECTED: [&str; 11] = [
+    "no error to 5\n",
+    "inductive\n",
+    "unknown: conflict budget 1 spent at level 0\n",
+    "unknown: conflict budget 7 spent from a typed state\n",
+    "error at level 1: invariant Inv is FALSE\nstate 0\n/\\ x = 0\n/\\ y = 0\nstate 1\n/\\ x = 5\n/\\ y = 0\n",
+    "error at level 0: invariant Inv is outside an operator's domain at Row:8:24\nstate 0\n/\\ x = -1\n/\\ y = 2\n",
+    "error at level 0: start is outside an operator's domain at Row:6:9\nattempt\n/\\ x = 3\n/\\ y = 4\n",
+    "error at level 1: step is outside an operator's domain at Row:7:10\nstate 0\n/\\ x = <<1, 2>>\nattempt\n/\\ x = <<1, 2>>\n",
+    "unknown: integer out of range at level 1: step at Row:7:16\nstate 0\n/\\ x = 126\n/\\ y = 0\nstate 1\n/\\ x = 127\n/\\ y = 0\nattempt\n/\\ x = 127\n/\\ y = 0\n",
+    "unknown: integer out of range from a typed state: assumption at Row:8:10\nattempt\n/\\ x = 7\n/\\ y = 0\n",
+    "not inductive: invariant Inv is FALSE\nstate 0\n/\\ x = 3\n/\\ y = 0\nstate 1\n/\\ x = 5\n/\\ y = 0\n",
+];
+
 fn text(alloc: Global, bytes: &str) -> Result<Text, AllocError> {
     Ok(Text::from_vec(Vec::from_slice(alloc, bytes.as_bytes())?))
 }
@@ -14,201 +29,151 @@ fn at(line: u32, col: u32) -> Place {
     Place { file: 0, line, col }
 }
 
-// Variables of these names.
-fn variables(alloc: Global, names: &[&str]) -> Result<List<Decl>, AllocError> {
+fn variable(alloc: Global, name: &str) -> Result<Decl, AllocError> {
+    Ok(Decl {
+        name: text(alloc, name)?,
+        place: at(4, 3),
+        constant: false,
+        note: text(alloc, "")?,
+    })
+}
+
+fn variables(alloc: Global) -> Result<List<Decl>, AllocError> {
     let mut all = List::new(alloc);
-    for name in names {
-        all.push(Decl {
-            name: text(alloc, name)?,
-            place: at(4, 3),
-            constant: false,
-            note: text(alloc, "")?,
-        })?;
-    }
+    all.push(variable(alloc, "x")?)?;
+    all.push(variable(alloc, "y")?)?;
     Ok(all)
 }
 
-fn integers(alloc: Global, numbers: &[i128]) -> Result<State, AllocError> {
+fn files(alloc: Global) -> Result<List<Text>, AllocError> {
+    let mut all = List::new(alloc);
+    all.push(text(alloc, "models/Row.tla")?)?;
+    Ok(all)
+}
+
+fn state(alloc: Global, x: i128, y: i128) -> Result<State, AllocError> {
     let mut vals = List::new(alloc);
-    for n in numbers {
-        vals.push(Value::Int(*n))?;
-    }
+    vals.push(Value::Int(x))?;
+    vals.push(Value::Int(y))?;
     Ok(State { vals })
 }
 
-// The state at which one variable is the sequence 1, 2, 3.
+// A state with one value alone, the sequence 1, 2.
 fn counted(alloc: Global) -> Result<State, AllocError> {
     let mut pairs = List::new(alloc);
     pairs.push((Value::Int(1), Value::Int(1)))?;
     pairs.push((Value::Int(2), Value::Int(2)))?;
-    pairs.push((Value::Int(3), Value::Int(3)))?;
     let mut vals = List::new(alloc);
     vals.push(Value::Fun(pairs))?;
     Ok(State { vals })
 }
 
-// States of one integer.
-fn states_of(alloc: Global, numbers: &[i128]) -> Result<List<State>, AllocError> {
+fn none(alloc: Global) -> List<State> {
+    List::new(alloc)
+}
+
+fn one(alloc: Global, state: State) -> Result<List<State>, AllocError> {
     let mut states = List::new(alloc);
-    for n in numbers {
-        states.push(integers(alloc, &[*n])?)?;
-    }
+    states.push(state)?;
     Ok(states)
 }
 
-// The report over variables of these names and one file.
-fn report(
-    alloc: Global,
-    verdict: &Verdict,
-    names: &[&str],
-    file: &str,
-) -> Result<Vec<u8>, AllocError> {
-    let names = variables(alloc, names)?;
-    let mut files = List::new(alloc);
-    files.push(text(alloc, file)?)?;
-    report_text(alloc, verdict, &names, &files)
+fn two(alloc: Global, low: i128, high: i128) -> Result<List<State>, AllocError> {
+    let mut states = List::new(alloc);
+    states.push(state(alloc, low, 0)?)?;
+    states.push(state(alloc, high, 0)?)?;
+    Ok(states)
 }
 
-fn no_states(alloc: Global) -> Trace {
-    Trace {
-        states: List::new(alloc),
-        attempt: None,
+fn trace(states: List<State>, attempt: Option<State>) -> Trace {
+    Trace { states, attempt }
+}
+
+fn invariant(alloc: Global) -> Result<Text, AllocError> {
+    text(alloc, "Inv")
+}
+
+fn errors(alloc: Global, number: usize) -> Result<Verdict, AllocError> {
+    match number {
+        4 => Ok(Verdict::Error(
+            1,
+            Fault::InvFalse(invariant(alloc)?),
+            trace(two(alloc, 0, 5)?, None),
+        )),
+        5 => Ok(Verdict::Error(
+            0,
+            Fault::InvWrong(invariant(alloc)?, at(8, 24)),
+            trace(one(alloc, state(alloc, -1, 2)?)?, None),
+        )),
+        6 => Ok(Verdict::Error(
+            0,
+            Fault::StartWrong(at(6, 9)),
+            trace(none(alloc), Some(state(alloc, 3, 4)?)),
+        )),
+        _ => Ok(Verdict::Error(
+            1,
+            Fault::StepWrong(at(7, 10)),
+            trace(one(alloc, counted(alloc)?)?, Some(counted(alloc)?)),
+        )),
     }
 }
 
-#[test]
-fn lines_of_verdicts_without_states(rt: HostRuntime) -> Result<(), Fail> {
-    let alloc = rt.alloc();
-    let clean = report(alloc, &Verdict::Clean(5), &["big"], "DieHard.tla")?;
-    assert_eq!(rt; clean.as_slice(), b"no error to 5\n".as_slice());
-    let inductive = report(alloc, &Verdict::Inductive, &["x"], "Row.tla")?;
-    assert_eq!(rt; inductive.as_slice(), b"inductive\n".as_slice());
-    let spent = report(
-        alloc,
-        &Verdict::Spent(1, Where::Level(0)),
-        &["x"],
-        "Row.tla",
-    )?;
-    assert_eq!(rt;
-        spent.as_slice(),
-        b"unknown: conflict budget 1 spent at level 0\n".as_slice()
-    );
-    let typed = report(alloc, &Verdict::Spent(7, Where::Typed), &["x"], "Row.tla")?;
-    assert_eq!(rt;
-        typed.as_slice(),
-        b"unknown: conflict budget 7 spent from a typed state\n".as_slice()
-    );
-    Ok(())
+fn unknowns(alloc: Global, number: usize) -> Result<Verdict, AllocError> {
+    match number {
+        2 => Ok(Verdict::Spent(1, Where::Level(0))),
+        3 => Ok(Verdict::Spent(7, Where::Typed)),
+        8 => Ok(Verdict::Overflow(
+            Where::Level(1),
+            Part::Step,
+            at(7, 16),
+            trace(two(alloc, 126, 127)?, Some(state(alloc, 127, 0)?)),
+        )),
+        _ => Ok(Verdict::Overflow(
+            Where::Typed,
+            Part::Assumption,
+            at(8, 10),
+            trace(none(alloc), Some(state(alloc, 7, 0)?)),
+        )),
+    }
+}
+
+fn verdict(alloc: Global, number: usize) -> Result<Verdict, AllocError> {
+    match number {
+        0 => Ok(Verdict::Clean(5)),
+        1 => Ok(Verdict::Inductive),
+        2 | 3 | 8 | 9 => unknowns(alloc, number),
+        10 => Ok(Verdict::NotInductive(
+            Fault::InvFalse(invariant(alloc)?),
+            trace(two(alloc, 3, 5)?, None),
+        )),
+        _ => errors(alloc, number),
+    }
+}
+
+fn shown(alloc: Global, verdict: &Verdict) -> Result<Vec<u8>, AllocError> {
+    report_text(alloc, verdict, &variables(alloc)?, &files(alloc)?)
+}
+
+// Whether the report of a verdict is the expected one.
+fn agrees(alloc: Global, number: usize, expected: &str) -> Result<bool, AllocError> {
+    let verdict = verdict(alloc, number)?;
+    let report = shown(alloc, &verdict)?;
+    Ok(report.as_slice() == expected.as_bytes())
+}
+
+// How many of the reports differ from the expected ones.
+fn differing(alloc: Global) -> Result<u64, AllocError> {
+    let mut count: u64 = 0;
+    for number in 0..11 {
+        if !agrees(alloc, number, EXPECTED[number])? {
+            count = count.saturating_add(1);
+        }
+    }
+    Ok(count)
 }
 
 #[test]
-fn an_error_shows_its_states_in_the_order_of_the_names(rt: HostRuntime) -> Result<(), Fail> {
-    let alloc = rt.alloc();
-    let mut states = List::new(alloc);
-    states.push(integers(alloc, &[0, 0])?)?;
-    states.push(integers(alloc, &[5, 0])?)?;
-    let verdict = Verdict::Error(
-        1,
-        Fault::InvFalse(text(alloc, "Inv")?),
-        Trace {
-            states,
-            attempt: None,
-        },
-    );
-    let shown = report(alloc, &verdict, &["big", "small"], "DieHard.tla")?;
-    assert_eq!(rt;
-        shown.as_slice(),
-        b"error at level 1: invariant Inv is FALSE\nstate 0\n/\\ big = 0\n/\\ small = 0\nstate 1\n/\\ big = 5\n/\\ small = 0\n".as_slice()
-    );
-    Ok(())
-}
-
-#[test]
-fn a_fault_shows_its_place_and_its_attempt(rt: HostRuntime) -> Result<(), Fail> {
-    let alloc = rt.alloc();
-    let mut states = List::new(alloc);
-    states.push(counted(alloc)?)?;
-    let verdict = Verdict::Error(
-        1,
-        Fault::StepWrong(at(7, 10)),
-        Trace {
-            states,
-            attempt: Some(counted(alloc)?),
-        },
-    );
-    let shown = report(alloc, &verdict, &["x"], "models/Row.tla")?;
-    assert_eq!(rt;
-        shown.as_slice(),
-        b"error at level 1: step is outside an operator's domain at Row:7:10\nstate 0\n/\\ x = <<1, 2, 3>>\nattempt\n/\\ x = <<1, 2, 3>>\n".as_slice()
-    );
-    let start = Verdict::Error(0, Fault::StartWrong(at(6, 9)), no_states(alloc));
-    let line = report(alloc, &start, &["x"], "Row.tla")?;
-    assert_eq!(rt;
-        line.as_slice(),
-        b"error at level 0: start is outside an operator's domain at Row:6:9\n".as_slice()
-    );
-    let wrong = Verdict::Error(
-        0,
-        Fault::InvWrong(text(alloc, "Inv")?, at(8, 24)),
-        no_states(alloc),
-    );
-    let invariant = report(alloc, &wrong, &["x"], "Row.tla")?;
-    assert_eq!(rt;
-        invariant.as_slice(),
-        b"error at level 0: invariant Inv is outside an operator's domain at Row:8:24\n".as_slice()
-    );
-    Ok(())
-}
-
-#[test]
-fn an_overflow_shows_its_part_and_its_attempt(rt: HostRuntime) -> Result<(), Fail> {
-    let alloc = rt.alloc();
-    let verdict = Verdict::Overflow(
-        Where::Level(2),
-        Part::Step,
-        at(7, 16),
-        Trace {
-            states: states_of(alloc, &[126, 127])?,
-            attempt: Some(integers(alloc, &[127])?),
-        },
-    );
-    let shown = report(alloc, &verdict, &["x"], "Row.tla")?;
-    assert_eq!(rt;
-        shown.as_slice(),
-        b"unknown: integer out of range at level 2: step at Row:7:16\nstate 0\n/\\ x = 126\nstate 1\n/\\ x = 127\nattempt\n/\\ x = 127\n".as_slice()
-    );
-    let typed = Verdict::Overflow(
-        Where::Typed,
-        Part::Assumption,
-        at(8, 10),
-        Trace {
-            states: List::new(alloc),
-            attempt: Some(integers(alloc, &[7])?),
-        },
-    );
-    let alone = report(alloc, &typed, &["x"], "Row.tla")?;
-    assert_eq!(rt;
-        alone.as_slice(),
-        b"unknown: integer out of range from a typed state: assumption at Row:8:10\nattempt\n/\\ x = 7\n".as_slice()
-    );
-    Ok(())
-}
-
-#[test]
-fn a_refused_induction_shows_its_step(rt: HostRuntime) -> Result<(), Fail> {
-    let alloc = rt.alloc();
-    let states = states_of(alloc, &[3, 5])?;
-    let verdict = Verdict::NotInductive(
-        Fault::InvFalse(text(alloc, "Inv")?),
-        Trace {
-            states,
-            attempt: None,
-        },
-    );
-    let shown = report(alloc, &verdict, &["x"], "Row.tla")?;
-    assert_eq!(rt;
-        shown.as_slice(),
-        b"not inductive: invariant Inv is FALSE\nstate 0\n/\\ x = 3\nstate 1\n/\\ x = 5\n".as_slice()
-    );
+fn each_kind_of_verdict_is_printed_line_by_line(rt: HostRuntime) -> Result<(), Fail> {
+    assert_eq!(rt; differing(rt.alloc())?, 0);
     Ok(())
 }

@@ -2,20 +2,11 @@
 -- above 0, a = b * (a \div b) + (a % b) with a % b from 0 to b - 1 (Specifying Systems,
 -- section 18.4).
 use Rattle.std.specs.Prelude.{◌≡◌, ℕ, suc, ◌-◌, ◌/◌, ◌%◌, Bool, List, ℤ, pos, negsuc, ◌+ℤ◌, ◌*ℤ◌, ◌≤ℤ◌, ◌<ℤ◌}
+pub use Rattle.tla_values.specs.Integers.{floor_quotient, floor_remainder}
 use Rattle.sat_formula.specs.declared.lit.Lit.{Lit}
 use Rattle.sat_formula.specs.declared.cnf.Cnf.{Cnf}
 use Rattle.sat_formula.specs.Formula.{Satisfies}
 use Rattle.word_blaster.specs.Word.{word_value}
-
--- the quotient towards minus infinity by a divisor above 0
-abbrev pub floor_quotient : ℤ → ℕ → ℤ
-floor_quotient (pos a) b = pos (a / b)
-floor_quotient (negsuc a) b = negsuc (a / b)
-
--- what is left, from 0 to b - 1
-abbrev pub floor_remainder : ℤ → ℕ → ℤ
-floor_remainder (pos a) b = pos (a % b)
-floor_remainder (negsuc a) b = pos (b - 1 - a % b)
 
 -- x is y times q and r, which is from 0 to y - 1
 pub record IsDivision (x y q r : ℤ) : Type 0 where

@@ -1,6 +1,8 @@
 -- Lists of bits, lowest first, as numbers without a sign and in two's complement (Knuth, The Art of
 -- Computer Programming, volume 2, section 4.1).
 use Rattle.std.specs.Prelude.{◌≡◌, ℕ, ◌+◌, ◌-◌, ◌*◌, ◌^◌, Bool, false, not, List, [], ◌∷◌, map, length, All, nat_lt, slice_index_or, if◌then◌else◌, ℤ, pos, negsuc, ◌-ℤ◌}
+pub use Rattle.tla_values.specs.Integers.{fits_width}
+pub use Rattle.sat_formula.specs.Lit.{values}
 use Rattle.sat_formula.specs.declared.lit.Lit.{Lit}
 use Rattle.sat_formula.specs.declared.cnf.Cnf.{Cnf}
 use Rattle.sat_formula.specs.Lit.{lit_value, IsBelow}
@@ -30,10 +32,6 @@ signed bs = pos (number bs) -ℤ pos (taken bs)
 unfoldable pub WordBelow : ℕ → List Lit → Type 0
 WordBelow n w = All (IsBelow n) w
 
--- the values of literals under an assignment
-abbrev pub values : List Lit → List Bool → List Bool
-values w a = map (λ l. lit_value l a) w
-
 -- the number that a word stands for under an assignment
 abbrev pub word_value : List Lit → List Bool → ℤ
 word_value w a = signed (values w a)
@@ -42,11 +40,6 @@ word_value w a = signed (values w a)
 abbrev pub magnitude : ℤ → ℕ
 magnitude (pos n) = n
 magnitude (negsuc n) = n
-
--- from -2^(w-1) to 2^(w-1) - 1
-abbrev pub fits_width : ℕ → ℤ → Bool
-fits_width w (pos n) = nat_lt n (2 ^ (w - 1))
-fits_width w (negsuc n) = nat_lt n (2 ^ (w - 1))
 
 -- The word has the width, and it stands for the number that `exact` says wherever that number fits.
 -- The literal is true exactly where it does not.
