@@ -14,15 +14,13 @@ use Rattle.cdcl_solver.specs.declared.entry.Entry.{Entry}
 use Rattle.cdcl_solver.specs.inner.Trail.{DecisionTrail, lits_of, IsFree}
 use Rattle.cdcl_solver.specs.inner.Chain.{Quiet, IsConflict, IsNext, Chain, IsLastDecision, IsExplained, IsPropagated, decisions}
 use Rattle.cdcl_solver.specs.inner.Weight.{weight}
-use Rattle.cdcl_solver.specs.Answers.{IsNew, IsWithin, IsDerivation, IsRefutation, IsSpent}
+use Rattle.cdcl_solver.specs.Answers.{IsNew, IsDerivation, IsSpent}
 use Rattle.sat_formula.specs.Clause.{NamesBelow}
-use Rattle.cdcl_solver.specs.inner.Search.{IsSearch, IsSearching, IsSettled, IsDecided, IsRefuted, IsUnspent, IsStepped, IsEnd, Keeps, Meets, Advances, stepped}
+use Rattle.cdcl_solver.specs.inner.Search.{IsSearch, IsSearching, IsSettled, IsDecided, IsRefuted, IsStepped, Keeps, Meets, Advances, stepped}
 use Rattle.cdcl_solver.specs.declared.searching.Search.{Search}
 use Rattle.cdcl_solver.proofs.ChainLemmas.{decisions-append, decisions-within, Chain-front, Chain-at, Chain-push, Chain-more, split_at}
 use Rattle.cdcl_solver.proofs.LearnLemmas.{IsUnit-new, decisions-unit, Contains-negation, learned-follows, EachNew-push, known-push}
 use Rattle.cdcl_solver.proofs.ReadyLemmas.{index_more, kept_entered, stepped_ready}
-use Rattle.cdcl_solver.specs.declared.searching.End.{End}
-use Rattle.cdcl_solver.specs.declared.searching.End.TheVariants.{Satisfied, Refuted, Spent}
 use Rattle.cdcl_solver.proofs.WeightLemmas.{weight-back, weight-push}
 
 -- what the clauses name, each step names
