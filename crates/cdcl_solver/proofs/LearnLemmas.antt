@@ -18,12 +18,6 @@ use Rattle.cdcl_solver.specs.Answers.{IsNew, EachNew}
 use Rattle.cdcl_solver.proofs.ChainLemmas.{negation-negation, Chain-consistent, decisions-within}
 use Rattle.cdcl_solver.proofs.HintsLemmas.{Chain-propagates}
 
-cases_Lit_bool : (a b : Bool) → (a ≡ b) ⊎ (a ≡ b → ⊥)
-cases_Lit_bool true true = inl refl
-cases_Lit_bool true false = inr (λ e. cc)
-cases_Lit_bool false true = inr (λ e. cc)
-cases_Lit_bool false false = inl refl
-
 -- each literal is u or false: so u is in the clause, or the clause is false
 has_or_false : (T c : List Lit) (u : Lit) → All (λ l. (l ≡ u) ⊎ Contains T (negation l)) c → Contains c u ⊎ IsFalse T c
 has_or_false T [] u h = inr (All-nil (λ l. Contains T (negation l)))

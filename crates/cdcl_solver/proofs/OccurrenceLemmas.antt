@@ -201,10 +201,6 @@ grown_past old new more n e lt = let size = ap length e ∙ length-append old mo
 pub kept_quiet : (known : List (List Lit)) (T : List Lit) (n : ℕ) → length T ≤ n → AllKept known (take n T) T → All (Quiet T) known
 kept_quiet known T n le kept = λ k d lt. subst (λ (c : List Lit). Quiet T c) (get_or_default known k [] d lt) (Kept-quiet T (get_or known k []) (subst (λ (done : List Lit). Kept done T (get_or known k [])) (take_all n T le) (kept k lt)))
 
--- no literal yet
-pub adds_none : (lists : List (List ℕ)) (place : ℕ) → Adds lists lists [] place
-adds_none lists place = record { size = refl; kept = λ l k h. h; added = λ l h. absurd (Contains-nil l h) }
-
 -- a place more in the list of a literal
 places_more : (lists : List (List ℕ)) (l m : Lit) (place k : ℕ) → code_of l < length lists → Contains (places_at lists m) k
     → Contains (places_at (set lists (code_of l) (places_at lists l ++ place ∷ [])) m) k

@@ -14,15 +14,13 @@ use Rattle.cdcl_solver.specs.declared.entry.Entry.{Entry}
 use Rattle.cdcl_solver.specs.inner.Trail.{DecisionTrail, lits_of, IsFree}
 use Rattle.cdcl_solver.specs.inner.Chain.{Quiet, IsConflict, IsNext, Chain, IsLastDecision, IsExplained, IsPropagated, decisions}
 use Rattle.cdcl_solver.specs.inner.Weight.{weight}
-use Rattle.cdcl_solver.specs.Answers.{IsNew, IsWithin, IsDerivation, IsRefutation, IsSpent}
+use Rattle.cdcl_solver.specs.Answers.{IsNew, IsDerivation, IsSpent}
 use Rattle.sat_formula.specs.Clause.{NamesBelow}
-use Rattle.cdcl_solver.specs.inner.Search.{IsSearch, IsSearching, IsSettled, IsDecided, IsRefuted, IsUnspent, IsStepped, IsEnd, Keeps, Meets, Advances, stepped}
+use Rattle.cdcl_solver.specs.inner.Search.{IsSearch, IsSearching, IsSettled, IsDecided, IsRefuted, IsStepped, Keeps, Meets, Advances, stepped}
 use Rattle.cdcl_solver.specs.declared.searching.Search.{Search}
 use Rattle.cdcl_solver.proofs.ChainLemmas.{decisions-append, decisions-within, Chain-front, Chain-at, Chain-push, Chain-more, split_at}
 use Rattle.cdcl_solver.proofs.LearnLemmas.{IsUnit-new, decisions-unit, Contains-negation, learned-follows, EachNew-push, known-push}
 use Rattle.cdcl_solver.proofs.ReadyLemmas.{index_more, kept_entered, stepped_ready}
-use Rattle.cdcl_solver.specs.declared.searching.End.{End}
-use Rattle.cdcl_solver.specs.declared.searching.End.TheVariants.{Satisfied, Refuted, Spent}
 use Rattle.cdcl_solver.proofs.WeightLemmas.{weight-back, weight-push}
 
 -- what the clauses name, each step names
@@ -210,26 +208,6 @@ refuted_next s h step searching meets made none = record {
 pub keeps_same : (s : Search) → Keeps s s
 keeps_same s = record { clauses = refl; room = refl }
 
-pub keeps_more : (a b c : Search) → Keeps a b → Keeps b c → Keeps a c
-keeps_more a b c p q = record { clauses = q.clauses ∙ p.clauses; room = q.room ∙ p.room }
-
-pub unspent_more : (budget : Option ℕ) (old new : List Step) → IsUnspent budget old → (budget ≡ Some (length old) → ⊥) → length new ≡ length old + 1 → IsUnspent budget new
-unspent_more None old new h ne e = tt
-unspent_more (Some n) old new h ne e =
-    let differ : n ≡ length old → ⊥ = λ same. ne (ap Some same) in
-    omega (arith, differ)
-
-within_next : (budget : Option ℕ) (old new : List Step) → IsUnspent budget old → length new ≡ length old + 1 → IsWithin budget new
-within_next None old new h e = tt
-within_next (Some n) old new h e = omega arith
-
-pub ends_refuted : (budget : Option ℕ) (begun s new : Search) → Keeps begun s → IsUnspent budget s.steps → IsRefuted s new → IsRefutation begun.trail.room begun.clauses budget new.steps
-ends_refuted budget begun s new keeps unspent r = record {
-  refutes = rw keeps.clauses at r.refutes;
-  derived = rw (keeps.clauses, keeps.room) at r.derived;
-  within = within_next budget s.steps new.steps unspent r.longer;
-}
-
 pub ends_spent : (budget : Option ℕ) (begun s : Search) → Keeps begun s → IsSearching s → budget ≡ Some (length s.steps) → IsSpent begun.trail.room begun.clauses budget s.steps
 ends_spent budget begun s keeps searching e = record {
   count = e;
@@ -240,8 +218,3 @@ ends_spent budget begun s keeps searching e = record {
   };
   some = searching.search.some;
 }
-
-pub ends_after : (budget : Option ℕ) (a b c : Search) (e : End) → Keeps a b → IsEnd budget b c e → IsEnd budget a c e
-ends_after budget a b c Satisfied keeps end = (keeps_more a b c keeps end.0, end.1)
-ends_after budget a b c Refuted keeps end = rw (keeps.clauses, keeps.room) at end
-ends_after budget a b c Spent keeps end = rw (keeps.clauses, keeps.room) at end

@@ -264,13 +264,6 @@ Placed-push marks places es e h lt free = λ k below d.
           rw (get_or_push es e d k last) (get_or-set_same places e.lit.var (length es) 0 (omega arith) ∙ last))
     ]
 
-pub Placed-take : (places : List ℕ) (es : List Entry) (keep : ℕ) → Placed places es → Placed places (take keep es)
-Placed-take places es keep h = λ k lt d.
-    let size = length-take keep es in
-    let inside : k < keep = omega arith in
-    let below : k < length es = omega arith in
-    rw (get_or-take keep es k d inside) (h k below d)
-
 -- the table of places tells whether a true literal is among the first entries
 pub among : (places : List ℕ) (es : List Entry) (l : Lit) (place count : ℕ) → Placed places es → Contains (lits_of es) l → place ≡ get_or places l.var 0
     → IsTrue (ltb place count) ↔ Contains (lits_of (take count es)) l
