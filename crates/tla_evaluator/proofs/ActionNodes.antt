@@ -18,30 +18,30 @@ use Rattle.tla_meaning.specs.declared.outcome.Fault.{Fault}
 use Rattle.tla_meaning.specs.declared.outcome.Fault.TheVariants.{NoFault, IsWrong, IsBig}
 use Rattle.tla_meaning.specs.declared.outcome.Outcome.{Outcome}
 use Rattle.tla_meaning.specs.declared.outcome.Outcome.TheVariants.{Val, Wrong, Big}
-use Rattle.tla_meaning.specs.Actions.{any_holds, case_effect, effect_of, effects, effects_and, effects_or, exists_effect, fails_by, guard, guarded, if_effect, sense_of}
-use Rattle.tla_meaning.specs.Meaning.{Meaning, by_truth, choose, inner, kid, outcomes, outer, role, view}
+use Rattle.tla_meaning.specs.Actions.{any_mentions, case_effect, effect_of, effects, effects_and, effects_or, exists_effect, fails_by, guard, guarded, if_effect, denotation_of}
+use Rattle.tla_meaning.specs.Meaning.{Meaning, by_truth, choose, inner, child, outcomes, outer, role, view}
 use Rattle.tla_meaning.specs.Operators.{yes_no}
-use Rattle.tla_meaning.specs.Outcomes.{both, joined, unless, values}
-use Rattle.tla_meaning.specs.Scopes.{Marks, Sense, bound_to, nonsense}
-use Rattle.tla_meaning.specs.Scopes as scopes
+use Rattle.tla_meaning.specs.Outcomes.{join_faults, joined, fault_or, values}
+use Rattle.tla_meaning.specs.Scopes.{Denotation, bound_to, absent}
 use Rattle.tla_meaning.specs.Shapes.{all_set_items, choices}
 use Rattle.tla_meaning.proofs.Joins.{both_assoc, both_same}
-use Rattle.tla_evaluator.specs.declared.actions.Effect.{Effect}
-use Rattle.tla_evaluator.specs.Effects.{as_effect, behind, body_effect, either, exists_at, first_effect}
-use Rattle.tla_evaluator.specs.Marks.{marked}
+use Rattle.tla_meaning.specs.declared.actions.Assigned.{Assigned}
+use Rattle.tla_meaning.specs.declared.actions.Effect.{Effect}
+use Rattle.tla_evaluator.specs.Effects.{behind, body_effect, either, exists_at, first_effect}
+use Rattle.tla_evaluator.specs.Mentions.{mentions}
 use Rattle.tla_evaluator.specs.Trees.{effect_at, effects_at, lone, lone_node, outcomes_at, scope_at, stays, value_at}
-use Rattle.tla_evaluator.proofs.MarkLemmas.{holds_as}
+use Rattle.tla_evaluator.proofs.MentionLaws.{holds_as}
 use Rattle.tla_evaluator.proofs.TreeSizes.{most-drop}
 
 -- ---- a tree, by its node
 
 -- the sense of a node with this operator in place of its own
-abbrev sense_at : ℕ → Expr → List (List ℕ × Value) → Op → Sense
+abbrev sense_at : ℕ → Expr → List (List ℕ × Value) → Op → Denotation
 sense_at w e vars o =
     let x : Expr-F Expr = out-Expr e in
     elim (stays o) [
-      | true ↦ sense_of (Some w) x.place o (length x.binds) (view x.place (role o (length x.binds)) x.binds (map (lone (Some w)) x.args) (scope_at vars))
-      | false ↦ nonsense x.place
+      | true ↦ denotation_of (Some w) x.place o (length x.binds) (view x.place (role o (length x.binds)) x.binds (map (lone (Some w)) x.args) (scope_at vars))
+      | false ↦ absent x.place
     ]
 
 sense-out : (w : ℕ) (e : Expr) (vars : List (List ℕ × Value)) (o : Op) → (out-Expr e).op ≡ o → lone (Some w) e (scope_at vars) ≡ sense_at w e vars o
@@ -51,7 +51,7 @@ sense-out w e vars o h =
 
 -- ---- the children
 
-module _ (w : ℕ) (m : Marks) (p : Place) (vars : List (List ℕ × Value)) (s t : State) where
+module _ (w : ℕ) (m : Assigned) (p : Place) (vars : List (List ℕ × Value)) (s t : State) where
   effects_here : (es : List Expr) → effects m (outer p [] (map (lone (Some w)) es) (scope_at vars)) s t ≡ effects_at w m es vars s t
   effects_here [] = refl
   effects_here (e ∷ es) = ap (λ fs. effect_at w m e vars s t ∷ fs) (effects_here es)
@@ -60,9 +60,9 @@ module _ (w : ℕ) (m : Marks) (p : Place) (vars : List (List ℕ × Value)) (s 
   outcomes_here [] = refl
   outcomes_here (e ∷ es) = ap (λ os. value_at w e vars s t ∷ os) (outcomes_here es)
 
-  marked_here : (es : List Expr) → any_holds m false (outer p [] (map (lone (Some w)) es) (scope_at vars)) ≡ list_any (marked m false) es
+  marked_here : (es : List Expr) → any_mentions m (outer p [] (map (lone (Some w)) es) (scope_at vars)) ≡ list_any (mentions m) es
   marked_here [] = refl
-  marked_here (e ∷ es) = ap₂ ◌||◌ (holds_as (Some w) m false e vars) (marked_here es)
+  marked_here (e ∷ es) = ap₂ ◌||◌ (holds_as (Some w) m e vars) (marked_here es)
 
   -- the domains of a binder, which stand before its body
   domains_here : (n : ℕ) (es : List Expr) →
@@ -71,12 +71,12 @@ module _ (w : ℕ) (m : Marks) (p : Place) (vars : List (List ℕ × Value)) (s 
   domains_here (suc n) [] = refl
   domains_here (suc n) (e ∷ es) = ap (λ os. value_at w e vars s t ∷ os) (domains_here n es)
 
-  first_here : (es : List Expr) → (kid p 0 (outer p [] (map (lone (Some w)) es) (scope_at vars))).act m s t ≡ first_effect w m p es vars s t
+  first_here : (es : List Expr) → (child p 0 (outer p [] (map (lone (Some w)) es) (scope_at vars))).act m s t ≡ first_effect w m p es vars s t
   first_here [] = refl
   first_here (e ∷ es) = refl
 
   body_here : (n : ℕ) (es : List Expr) →
-      (kid p n (inner p (replicate n false ++ true ∷ []) (map (lone (Some w)) es) (scope_at vars))).act m s t ≡ first_effect w m p (drop n es) vars s t
+      (child p n (inner p (replicate n false ++ true ∷ []) (map (lone (Some w)) es) (scope_at vars))).act m s t ≡ first_effect w m p (drop n es) vars s t
   body_here zero [] = refl
   body_here zero (e ∷ es) = refl
   body_here (suc n) [] = refl
@@ -93,7 +93,7 @@ pub record ByValue (o : Op) : Type 0 where
   pub not_exists : o ≡ op.Exists → ⊥
   pub not_noted : (x : List ℕ) → o ≡ op.Noted x → ⊥
 
-module _ (w : ℕ) (m : Marks) (e : Expr) (vars : List (List ℕ × Value)) (s t : State) where
+module _ (w : ℕ) (m : Assigned) (e : Expr) (vars : List (List ℕ × Value)) (s t : State) where
   by_value : (o : Op) → ByValue o → (sense_at w e vars o).act m s t ≡ effect_of ((sense_at w e vars o).value s t)
   by_value op.And h = absurd (h.not_and refl)
   by_value op.Or h = absurd (h.not_or refl)
@@ -105,16 +105,16 @@ module _ (w : ℕ) (m : Marks) (e : Expr) (vars : List (List ℕ × Value)) (s t
 
   pub at_value : ByValue (out-Expr e).op → effect_at w m e vars s t ≡ effect_of (value_at w e vars s t)
   at_value h =
-      ap (λ (a : Sense). a.act m s t) (sense-out w e vars (out-Expr e).op refl) ∙ by_value (out-Expr e).op h
-      ∙ sym (ap (λ (a : Sense). effect_of (a.value s t)) (sense-out w e vars (out-Expr e).op refl))
+      ap (λ (a : Denotation). a.act m s t) (sense-out w e vars (out-Expr e).op refl) ∙ by_value (out-Expr e).op h
+      ∙ sym (ap (λ (a : Denotation). effect_of (a.value s t)) (sense-out w e vars (out-Expr e).op refl))
 
   pub at_and : (out-Expr e).op ≡ op.And → effect_at w m e vars s t ≡ effects_and (effects_at w m (out-Expr e).args vars s t)
   at_and h =
-      ap (λ (a : Sense). a.act m s t) (sense-out w e vars op.And h) ∙ ap effects_and (effects_here w m (out-Expr e).place vars s t (out-Expr e).args)
+      ap (λ (a : Denotation). a.act m s t) (sense-out w e vars op.And h) ∙ ap effects_and (effects_here w m (out-Expr e).place vars s t (out-Expr e).args)
 
   pub at_noted : (x : List ℕ) → (out-Expr e).op ≡ op.Noted x → effect_at w m e vars s t ≡ first_effect w m (out-Expr e).place (out-Expr e).args vars s t
   at_noted x h =
-      ap (λ (a : Sense). a.act m s t) (sense-out w e vars (op.Noted x) h) ∙ first_here w m (out-Expr e).place vars s t (out-Expr e).args
+      ap (λ (a : Denotation). a.act m s t) (sense-out w e vars (op.Noted x) h) ∙ first_here w m (out-Expr e).place vars s t (out-Expr e).args
 
   abbrev p : Place
   p = (out-Expr e).place
@@ -122,99 +122,99 @@ module _ (w : ℕ) (m : Marks) (e : Expr) (vars : List (List ℕ × Value)) (s t
   abbrev args : List Expr
   args = (out-Expr e).args
 
-  abbrev here : List Sense
+  abbrev here : List Denotation
   here = outer p [] (map (lone (Some w)) args) (scope_at vars)
 
   -- as the node has it, by whether a child is marked
-  abbrev by_mark : Op → Bool → scopes.Effect → scopes.Effect
+  abbrev by_mark : Op → Bool → Effect → Effect
   by_mark o b f = if b then f else effect_of ((sense_at w e vars o).value s t)
 
-  unmarked : (o : Op) (f : scopes.Effect) → (out-Expr e).op ≡ o →
-      (sense_at w e vars o).act m s t ≡ by_mark o (any_holds m false here) f → list_any (marked m false) args ≡ false →
+  unmarked : (o : Op) (f : Effect) → (out-Expr e).op ≡ o →
+      (sense_at w e vars o).act m s t ≡ by_mark o (any_mentions m here) f → list_any (mentions m) args ≡ false →
       effect_at w m e vars s t ≡ effect_of (value_at w e vars s t)
   unmarked o f h is k =
-      ap (λ (a : Sense). a.act m s t) (sense-out w e vars o h) ∙ is ∙ ap (λ b. by_mark o b f) (marked_here w m p vars s t args ∙ k)
-      ∙ sym (ap (λ (a : Sense). effect_of (a.value s t)) (sense-out w e vars o h))
+      ap (λ (a : Denotation). a.act m s t) (sense-out w e vars o h) ∙ is ∙ ap (λ b. by_mark o b f) (marked_here w m p vars s t args ∙ k)
+      ∙ sym (ap (λ (a : Denotation). effect_of (a.value s t)) (sense-out w e vars o h))
 
-  when_marked : (o : Op) (f g : scopes.Effect) → (out-Expr e).op ≡ o →
-      (sense_at w e vars o).act m s t ≡ by_mark o (any_holds m false here) f → list_any (marked m false) args ≡ true → f ≡ g →
+  when_marked : (o : Op) (f g : Effect) → (out-Expr e).op ≡ o →
+      (sense_at w e vars o).act m s t ≡ by_mark o (any_mentions m here) f → list_any (mentions m) args ≡ true → f ≡ g →
       effect_at w m e vars s t ≡ g
   when_marked o f g h is k same =
-      ap (λ (a : Sense). a.act m s t) (sense-out w e vars o h) ∙ is ∙ ap (λ b. by_mark o b f) (marked_here w m p vars s t args ∙ k) ∙ same
+      ap (λ (a : Denotation). a.act m s t) (sense-out w e vars o h) ∙ is ∙ ap (λ b. by_mark o b f) (marked_here w m p vars s t args ∙ k) ∙ same
 
-  pub at_or : (out-Expr e).op ≡ op.Or → list_any (marked m false) args ≡ true → effect_at w m e vars s t ≡ effects_or (effects_at w m args vars s t)
+  pub at_or : (out-Expr e).op ≡ op.Or → list_any (mentions m) args ≡ true → effect_at w m e vars s t ≡ effects_or (effects_at w m args vars s t)
   at_or h k = when_marked op.Or (effects_or (effects m here s t)) _ h refl k (ap effects_or (effects_here w m p vars s t args))
 
-  pub at_or_value : (out-Expr e).op ≡ op.Or → list_any (marked m false) args ≡ false → effect_at w m e vars s t ≡ effect_of (value_at w e vars s t)
+  pub at_or_value : (out-Expr e).op ≡ op.Or → list_any (mentions m) args ≡ false → effect_at w m e vars s t ≡ effect_of (value_at w e vars s t)
   at_or_value h k = unmarked op.Or (effects_or (effects m here s t)) h refl k
 
-  pub at_if : (out-Expr e).op ≡ op.If → list_any (marked m false) args ≡ true →
+  pub at_if : (out-Expr e).op ≡ op.If → list_any (mentions m) args ≡ true →
       effect_at w m e vars s t ≡ if_effect p (outcomes_at w args vars s t) (effects_at w m args vars s t)
   at_if h k =
       when_marked op.If (if_effect p (outcomes here s t) (effects m here s t)) _ h refl k
       (ap₂ (if_effect p) (outcomes_here w m p vars s t args) (effects_here w m p vars s t args))
 
-  pub at_if_value : (out-Expr e).op ≡ op.If → list_any (marked m false) args ≡ false → effect_at w m e vars s t ≡ effect_of (value_at w e vars s t)
+  pub at_if_value : (out-Expr e).op ≡ op.If → list_any (mentions m) args ≡ false → effect_at w m e vars s t ≡ effect_of (value_at w e vars s t)
   at_if_value h k = unmarked op.If (if_effect p (outcomes here s t) (effects m here s t)) h refl k
 
-  pub at_case : (other : Bool) → (out-Expr e).op ≡ op.Case other → list_any (marked m false) args ≡ true →
+  pub at_case : (other : Bool) → (out-Expr e).op ≡ op.Case other → list_any (mentions m) args ≡ true →
       effect_at w m e vars s t ≡ case_effect p (outcomes_at w args vars s t) (effects_at w m args vars s t)
   at_case other h k =
       when_marked (op.Case other) (case_effect p (outcomes here s t) (effects m here s t)) _ h refl k
       (ap₂ (case_effect p) (outcomes_here w m p vars s t args) (effects_here w m p vars s t args))
 
-  pub at_case_value : (other : Bool) → (out-Expr e).op ≡ op.Case other → list_any (marked m false) args ≡ false →
+  pub at_case_value : (other : Bool) → (out-Expr e).op ≡ op.Case other → list_any (mentions m) args ≡ false →
       effect_at w m e vars s t ≡ effect_of (value_at w e vars s t)
   at_case_value other h k = unmarked (op.Case other) (case_effect p (outcomes here s t) (effects m here s t)) h refl k
 
   pub at_exists : (out-Expr e).op ≡ op.Exists → effect_at w m e vars s t ≡ exists_at w m p (out-Expr e).binds args vars s t
   at_exists h =
       let xs : List (List ℕ) = (out-Expr e).binds in
-      let body : List Value → scopes.Effect = λ c.
-      (kid p (length xs) (inner p (replicate (length xs) false ++ true ∷ []) (map (lone (Some w)) args) (scope_at (vars ++ bound_to xs c)))).act m s t in
+      let body : List Value → Effect = λ c.
+      (child p (length xs) (inner p (replicate (length xs) false ++ true ∷ []) (map (lone (Some w)) args) (scope_at (vars ++ bound_to xs c)))).act m s t in
       let same : body ≡ (λ c. first_effect w m p (drop (length xs) args) (vars ++ bound_to xs c) s t) =
       λ i. λ c. body_here w m p (vars ++ bound_to xs c) s t (length xs) args i in
-      ap (λ (a : Sense). a.act m s t) (sense-out w e vars op.Exists h)
+      ap (λ (a : Denotation). a.act m s t) (sense-out w e vars op.Exists h)
       ∙ ap₂ (exists_effect p) (domains_here w m p vars s t (length xs) args) same
 
 -- ---- results
 
-pub is_now : {E : Type 0} (r : Result Effect E) (a b : scopes.Effect) → a ≡ b → IfOk r (λ f. as_effect f ≡ a) → IfOk r (λ f. as_effect f ≡ b)
-is_now r a b e h = subst (λ c. IfOk r (λ f. as_effect f ≡ c)) e h
+pub is_now : {E : Type 0} (r : Result Effect E) (a b : Effect) → a ≡ b → IfOk r (λ f. f ≡ a) → IfOk r (λ f. f ≡ b)
+is_now r a b e h = subst (λ c. IfOk r (λ f. f ≡ c)) e h
 
-pub first_some : (w : ℕ) (m : Marks) (q : Place) (es : List Expr) (e : Expr) (vars : List (List ℕ × Value)) (s t : State) →
+pub first_some : (w : ℕ) (m : Assigned) (q : Place) (es : List Expr) (e : Expr) (vars : List (List ℕ × Value)) (s t : State) →
     0 < length es → e ≡ get_or es 0 e → effect_at w m e vars s t ≡ first_effect w m q es vars s t
 first_some w m q [] e vars s t some is = absurd (omega arith)
 first_some w m q (x ∷ es) e vars s t some is = ap (λ y. effect_at w m y vars s t) is
 
-pub first_none : (w : ℕ) (m : Marks) (q : Place) (es : List Expr) (vars : List (List ℕ × Value)) (s t : State) →
+pub first_none : (w : ℕ) (m : Assigned) (q : Place) (es : List Expr) (vars : List (List ℕ × Value)) (s t : State) →
     length es < 1 → fails_by (IsWrong q) ≡ first_effect w m q es vars s t
 first_none w m q [] vars s t none = refl
 first_none w m q (e ∷ es) vars s t none = absurd (omega arith)
 
 -- ---- several effects
 
-pub behind_twice : (f g : Fault) (x : scopes.Effect) → behind (both f g) x ≡ behind f (behind g x)
+pub behind_twice : (f g : Fault) (x : Effect) → behind (join_faults f g) x ≡ behind f (behind g x)
 behind_twice f g x = ap (λ h. record { holds = x.holds; fault = h }) (both_assoc f g x.fault)
 
 pub not_not : (b : Bool) → not b ≡ false → b ≡ true
 not_not true e = refl
 not_not false e = absurd (cc)
 
-and_holds : (one : scopes.Effect) (more : List scopes.Effect) → one.holds ≡ true → effects_and (one ∷ more) ≡ behind one.fault (effects_and more)
+and_holds : (one : Effect) (more : List Effect) → one.holds ≡ true → effects_and (one ∷ more) ≡ behind one.fault (effects_and more)
 and_holds one more h =
-    let rest : scopes.Effect = effects_and more in
-    ap (λ (b : Bool). elim b as (λ _. scopes.Effect) [ true ↦ record { holds = rest.holds; fault = both one.fault rest.fault } | false ↦ one ]) h
+    let rest : Effect = effects_and more in
+    ap (λ (b : Bool). elim b as (λ _. Effect) [ true ↦ record { holds = rest.holds; fault = join_faults one.fault rest.fault } | false ↦ one ]) h
 
 or_or : (a b c : Bool) → ((a || b) || c) ≡ (a || (b || c))
 or_or true b c = refl
 or_or false b c = refl
 
-either_twice : (f g h : scopes.Effect) → either (either f g) h ≡ either f (either g h)
+either_twice : (f g h : Effect) → either (either f g) h ≡ either f (either g h)
 either_twice f g h = λ i. record { holds = or_or f.holds g.holds h.holds i; fault = both_assoc f.fault g.fault h.fault i }
 
-module _ (w : ℕ) (m : Marks) (vars : List (List ℕ × Value)) (s t : State) (args : List Expr) where
-  effects_from : (i : ℕ) (e : Expr) (one : scopes.Effect) → i < length args → e ≡ get_or args i e → one ≡ effect_at w m e vars s t →
+module _ (w : ℕ) (m : Assigned) (vars : List (List ℕ × Value)) (s t : State) (args : List Expr) where
+  effects_from : (i : ℕ) (e : Expr) (one : Effect) → i < length args → e ≡ get_or args i e → one ≡ effect_at w m e vars s t →
       effects_at w m (drop i args) vars s t ≡ one ∷ effects_at w m (drop (i + 1) args) vars s t
   effects_from i e one lt is h =
       ap (λ es. effects_at w m es vars s t) (drop-cons args i e lt)
@@ -222,29 +222,29 @@ module _ (w : ℕ) (m : Marks) (vars : List (List ℕ × Value)) (s t : State) (
       ∙ ap (λ x. x ∷ effects_at w m (drop (suc i) args) vars s t) (sym h)
       ∙ ap (λ n. one ∷ effects_at w m (drop n args) vars s t) (sym (add-one i))
 
-  pub and_next : (i : ℕ) (e : Expr) (one : scopes.Effect) (f g : Fault) (all : scopes.Effect) → i < length args → e ≡ get_or args i e →
-      one ≡ effect_at w m e vars s t → not one.holds ≡ false → g ≡ both f one.fault →
+  pub and_next : (i : ℕ) (e : Expr) (one : Effect) (f g : Fault) (all : Effect) → i < length args → e ≡ get_or args i e →
+      one ≡ effect_at w m e vars s t → not one.holds ≡ false → g ≡ join_faults f one.fault →
       behind f (effects_and (effects_at w m (drop i args) vars s t)) ≡ all →
       behind g (effects_and (effects_at w m (drop (i + 1) args) vars s t)) ≡ all
   and_next i e one f g all lt is h holds new old =
-      let more : List scopes.Effect = effects_at w m (drop (i + 1) args) vars s t in
+      let more : List Effect = effects_at w m (drop (i + 1) args) vars s t in
       ap (λ x. behind x (effects_and more)) new ∙ behind_twice f one.fault (effects_and more)
       ∙ ap (behind f) (sym (and_holds one more (not_not one.holds holds))) ∙ sym (ap (λ fs. behind f (effects_and fs)) (effects_from i e one lt is h)) ∙ old
 
-  pub or_next : (i : ℕ) (e : Expr) (one f g all : scopes.Effect) → i < length args → e ≡ get_or args i e →
+  pub or_next : (i : ℕ) (e : Expr) (one f g all : Effect) → i < length args → e ≡ get_or args i e →
       one ≡ effect_at w m e vars s t → g ≡ either f one →
       either f (effects_or (effects_at w m (drop i args) vars s t)) ≡ all →
       either g (effects_or (effects_at w m (drop (i + 1) args) vars s t)) ≡ all
   or_next i e one f g all lt is h new old =
-      let more : List scopes.Effect = effects_at w m (drop (i + 1) args) vars s t in
+      let more : List Effect = effects_at w m (drop (i + 1) args) vars s t in
       ap (λ x. either x (effects_or more)) new ∙ either_twice f one (effects_or more)
       ∙ sym (ap (λ fs. either f (effects_or fs)) (effects_from i e one lt is h)) ∙ old
 
-module _ (w : ℕ) (m : Marks) (body : Expr) (names : List (List ℕ)) (vars : List (List ℕ × Value)) (s t : State) (cs : List (List Value)) where
-  abbrev at : List Value → scopes.Effect
+module _ (w : ℕ) (m : Assigned) (body : Expr) (names : List (List ℕ)) (vars : List (List ℕ × Value)) (s t : State) (cs : List (List Value)) where
+  abbrev at : List Value → Effect
   at = body_effect w m body names vars s t
 
-  effects_behind : (i : ℕ) (c c' : List Value) (long : List (List ℕ × Value)) (one : scopes.Effect) → i < length cs → c ≡ get_or cs i c → c' ≡ c →
+  effects_behind : (i : ℕ) (c c' : List Value) (long : List (List ℕ × Value)) (one : Effect) → i < length cs → c ≡ get_or cs i c → c' ≡ c →
       long ≡ vars ++ bound_to names c' → one ≡ effect_at w m body long s t →
       map at (drop i cs) ≡ one ∷ map at (drop (i + 1) cs)
   effects_behind i c c' long one lt is same long_is h =
@@ -253,12 +253,12 @@ module _ (w : ℕ) (m : Marks) (body : Expr) (names : List (List ℕ)) (vars : L
       ∙ ap (λ x. x ∷ map at (drop (suc i) cs)) (sym (h ∙ ap (λ v. effect_at w m body v s t) long_is))
       ∙ ap (λ n. one ∷ map at (drop n cs)) (sym (add-one i))
 
-  pub bodies_next : (i : ℕ) (c c' : List Value) (long : List (List ℕ × Value)) (one f g all : scopes.Effect) → i < length cs → c ≡ get_or cs i c → c' ≡ c →
+  pub bodies_next : (i : ℕ) (c c' : List Value) (long : List (List ℕ × Value)) (one f g all : Effect) → i < length cs → c ≡ get_or cs i c → c' ≡ c →
       long ≡ vars ++ bound_to names c' → one ≡ effect_at w m body long s t → g ≡ either f one →
       either f (effects_or (map at (drop i cs))) ≡ all →
       either g (effects_or (map at (drop (i + 1) cs))) ≡ all
   bodies_next i c c' long one f g all lt is same long_is h new old =
-      let more : List scopes.Effect = map at (drop (i + 1) cs) in
+      let more : List Effect = map at (drop (i + 1) cs) in
       ap (λ x. either x (effects_or more)) new ∙ either_twice f one (effects_or more)
       ∙ sym (ap (λ fs. either f (effects_or fs)) (effects_behind i c c' long one lt is same long_is h)) ∙ old
 
@@ -285,14 +285,14 @@ no_deeper size n xs rest x back some is =
 
 -- ---- guards
 
-pub guard_true : (q : Place) (a b : scopes.Effect) → guarded q (yes_no true) a b ≡ a
+pub guard_true : (q : Place) (a b : Effect) → guarded q (yes_no true) a b ≡ a
 guard_true q a b = ap (λ l. guard q l a b) (value.outs-Bool true)
 
-pub guard_false : (q : Place) (a b : scopes.Effect) → guarded q (yes_no false) a b ≡ b
+pub guard_false : (q : Place) (a b : Effect) → guarded q (yes_no false) a b ≡ b
 guard_false q a b = ap (λ l. guard q l a b) (value.outs-Bool false)
 
 -- an outcome that chooses neither of any two is a fault
-pub guard_fault : (q : Place) (o f : Outcome) (a b : scopes.Effect) → ((x y : Outcome) → choose q o x y ≡ f) → effect_of f ≡ guarded q o a b
+pub guard_fault : (q : Place) (o f : Outcome) (a b : Effect) → ((x y : Outcome) → choose q o x y ≡ f) → effect_of f ≡ guarded q o a b
 guard_fault q (Val v) f a b h = go (out-Value v) h
   where
     differ : Wrong q ≡ Big q → ⊥
@@ -305,21 +305,21 @@ guard_fault q (Val v) f a b h = go (out-Value v) h
 guard_fault q (Wrong r) f a b h = ap effect_of (sym (h (Wrong r) (Wrong r)))
 guard_fault q (Big r) f a b h = ap effect_of (sym (h (Wrong r) (Wrong r)))
 
-pub if_fault : (w : ℕ) (m : Marks) (q : Place) (vars : List (List ℕ × Value)) (s t : State) (args : List Expr) (e : Expr) (o f : Outcome) →
+pub if_fault : (w : ℕ) (m : Assigned) (q : Place) (vars : List (List ℕ × Value)) (s t : State) (args : List Expr) (e : Expr) (o f : Outcome) →
     3 ≤ length args → length args < 4 → e ≡ get_or args 0 e → o ≡ value_at w e vars s t → ((x y : Outcome) → choose q o x y ≡ f) →
     effect_of f ≡ if_effect q (outcomes_at w args vars s t) (effects_at w m args vars s t)
 if_fault w m q vars s t [] e o f low high is h k = absurd (omega arith)
 if_fault w m q vars s t (a ∷ []) e o f low high is h k = absurd (omega arith)
 if_fault w m q vars s t (a ∷ b ∷ []) e o f low high is h k = absurd (omega arith)
 if_fault w m q vars s t (a ∷ b ∷ c ∷ []) e o f low high is h k =
-    let yes : scopes.Effect = effect_at w m b vars s t in
-    let no : scopes.Effect = effect_at w m c vars s t in
+    let yes : Effect = effect_at w m b vars s t in
+    let no : Effect = effect_at w m c vars s t in
     guard_fault q o f yes no k ∙ ap (λ x. guarded q x yes no) (h ∙ ap (λ x. value_at w x vars s t) is)
 if_fault w m q vars s t (a ∷ b ∷ c ∷ d ∷ es) e o f low high is h k = absurd (omega arith)
 
-module _ (w : ℕ) (m : Marks) (q : Place) (vars : List (List ℕ × Value)) (s t : State) (args : List Expr) where
+module _ (w : ℕ) (m : Assigned) (q : Place) (vars : List (List ℕ × Value)) (s t : State) (args : List Expr) where
   -- the cases from the i-th tree on
-  abbrev cases : List Expr → scopes.Effect
+  abbrev cases : List Expr → Effect
   cases es = case_effect q (outcomes_at w es vars s t) (effects_at w m es vars s t)
 
   two_more : (i : ℕ) (e d : Expr) → i + 1 < length args → e ≡ get_or args i e → d ≡ get_or args (i + 1) d → drop i args ≡ e ∷ d ∷ drop (i + 2) args
@@ -329,52 +329,52 @@ module _ (w : ℕ) (m : Marks) (q : Place) (vars : List (List ℕ × Value)) (s 
       drop-cons args i e (omega arith)
       ∙ ap₂ (λ x es. x ∷ es) (sym is) (ap (λ n. drop n args) (sym next) ∙ drop-cons args (i + 1) d lt ∙ ap₂ (λ x n. x ∷ drop n args) (sym is') after)
 
-  case_here : (i : ℕ) (e d : Expr) (o : Outcome) (all : scopes.Effect) → i + 1 < length args → e ≡ get_or args i e → d ≡ get_or args (i + 1) d →
+  case_here : (i : ℕ) (e d : Expr) (o : Outcome) (all : Effect) → i + 1 < length args → e ≡ get_or args i e → d ≡ get_or args (i + 1) d →
       o ≡ value_at w e vars s t → cases (drop i args) ≡ all → guarded q o (effect_at w m d vars s t) (cases (drop (i + 2) args)) ≡ all
   case_here i e d o all lt is is' h old =
       ap (λ x. guarded q x (effect_at w m d vars s t) (cases (drop (i + 2) args))) h ∙ sym (ap cases (two_more i e d lt is is')) ∙ old
 
-  pub case_true : (i : ℕ) (e d : Expr) (o : Outcome) (b : Bool) (all : scopes.Effect) → i + 1 < length args → e ≡ get_or args i e → d ≡ get_or args (i + 1) d →
+  pub case_true : (i : ℕ) (e d : Expr) (o : Outcome) (b : Bool) (all : Effect) → i + 1 < length args → e ≡ get_or args i e → d ≡ get_or args (i + 1) d →
       o ≡ value_at w e vars s t → o ≡ yes_no b → b ≡ true → cases (drop i args) ≡ all → effect_at w m d vars s t ≡ all
   case_true i e d o b all lt is is' h k holds old =
-      let branch : scopes.Effect = effect_at w m d vars s t in
-      let rest : scopes.Effect = cases (drop (i + 2) args) in
+      let branch : Effect = effect_at w m d vars s t in
+      let rest : Effect = cases (drop (i + 2) args) in
       sym (guard_true q branch rest) ∙ ap (λ x. guarded q (yes_no x) branch rest) (sym holds) ∙ ap (λ x. guarded q x branch rest) (sym k)
       ∙ case_here i e d o all lt is is' h old
 
-  pub case_false : (i : ℕ) (e : Expr) (o : Outcome) (b : Bool) (all : scopes.Effect) → i + 1 < length args → e ≡ get_or args i e →
+  pub case_false : (i : ℕ) (e : Expr) (o : Outcome) (b : Bool) (all : Effect) → i + 1 < length args → e ≡ get_or args i e →
       o ≡ value_at w e vars s t → o ≡ yes_no b → b ≡ false → cases (drop i args) ≡ all → cases (drop (i + 2) args) ≡ all
   case_false i e o b all lt is h k holds old =
       let d : Expr = get_or args (i + 1) e in
-      let branch : scopes.Effect = effect_at w m d vars s t in
-      let rest : scopes.Effect = cases (drop (i + 2) args) in
+      let branch : Effect = effect_at w m d vars s t in
+      let rest : Effect = cases (drop (i + 2) args) in
       sym (guard_false q branch rest) ∙ ap (λ x. guarded q (yes_no x) branch rest) (sym holds) ∙ ap (λ x. guarded q x branch rest) (sym k)
       ∙ case_here i e d o all lt is (get_or-default args (i + 1) e d lt) h old
 
-  pub case_fault : (i : ℕ) (e : Expr) (o f : Outcome) (all : scopes.Effect) → i + 1 < length args → e ≡ get_or args i e →
+  pub case_fault : (i : ℕ) (e : Expr) (o f : Outcome) (all : Effect) → i + 1 < length args → e ≡ get_or args i e →
       o ≡ value_at w e vars s t → ((x y : Outcome) → choose q o x y ≡ f) → cases (drop i args) ≡ all → effect_of f ≡ all
   case_fault i e o f all lt is h k old =
       let d : Expr = get_or args (i + 1) e in
       guard_fault q o f (effect_at w m d vars s t) (cases (drop (i + 2) args)) k
       ∙ case_here i e d o all lt is (get_or-default args (i + 1) e d lt) h old
 
-  pub case_other : (i : ℕ) (e : Expr) (all : scopes.Effect) → length args ≡ i + 1 → e ≡ get_or args i e → cases (drop i args) ≡ all →
+  pub case_other : (i : ℕ) (e : Expr) (all : Effect) → length args ≡ i + 1 → e ≡ get_or args i e → cases (drop i args) ≡ all →
       effect_at w m e vars s t ≡ all
   case_other i e all last is old =
       sym (ap cases (drop-cons args i e (omega arith) ∙ ap₂ (λ x es. x ∷ es) (sym is) (drop_end (suc i) args (omega arith)))) ∙ old
 
-  pub case_none : (i : ℕ) (all : scopes.Effect) → length args ≤ i → cases (drop i args) ≡ all → fails_by (IsWrong q) ≡ all
+  pub case_none : (i : ℕ) (all : Effect) → length args ≤ i → cases (drop i args) ≡ all → fails_by (IsWrong q) ≡ all
   case_none i all past old = sym (ap cases (drop_end i args past)) ∙ old
 
 -- ---- members of the domains
 
-module _ (q : Place) (at_choice : List Value → scopes.Effect) where
-  members : Option (List (List Value)) → scopes.Effect
+module _ (q : Place) (at_choice : List Value → Effect) where
+  members : Option (List (List Value)) → Effect
   members o = elim o [ None ↦ fails_by (IsWrong q) | Some xss ↦ effects_or (map at_choice (choices xss)) ]
 
   -- by the fault of the domains
-  abbrev by : List Outcome → Fault → scopes.Effect
-  by os f = elim f as (λ _. scopes.Effect) [
+  abbrev by : List Outcome → Fault → Effect
+  by os f = elim f as (λ _. Effect) [
     | NoFault ↦ members (all_set_items (values os))
     | IsWrong r ↦ fails_by (IsWrong r)
     | IsBig r ↦ fails_by (IsBig r)
@@ -388,7 +388,7 @@ module _ (q : Place) (at_choice : List Value → scopes.Effect) where
   unfolding members
   without_fault os h = by_fault os NoFault h
 
-  with_fault : (os : List Outcome) (f : Fault) → joined os ≡ f → ((a b : Outcome) → unless f a ≡ unless f b) → fails_by f ≡ exists_effect q os at_choice
+  with_fault : (os : List Outcome) (f : Fault) → joined os ≡ f → ((a b : Outcome) → fault_or f a ≡ fault_or f b) → fails_by f ≡ exists_effect q os at_choice
   with_fault os NoFault h k = let same : Wrong q ≡ Big q = k (Wrong q) (Big q) in absurd (cc)
   with_fault os (IsWrong r) h k = sym (by_fault os (IsWrong r) h)
   with_fault os (IsBig r) h k = sym (by_fault os (IsBig r) h)
@@ -398,9 +398,9 @@ module _ (q : Place) (at_choice : List Value → scopes.Effect) where
   at_choices None cs e = absurd (cc)
   at_choices (Some xss) cs e = let same : choices xss ≡ cs = cc in ap (λ yss. effects_or (map at_choice yss)) same
 
-module _ (w : ℕ) (m : Marks) (q : Place) (names : List (List ℕ)) (args : List Expr) (vars : List (List ℕ × Value)) (s t : State) where
+module _ (w : ℕ) (m : Assigned) (q : Place) (names : List (List ℕ)) (args : List Expr) (vars : List (List ℕ × Value)) (s t : State) where
   pub exists_fault : (sets : List Expr) (f : Fault) → sets ≡ take (length names) args → f ≡ joined (outcomes_at w sets vars s t) →
-      ((a b : Outcome) → unless f a ≡ unless f b) → fails_by f ≡ exists_at w m q names args vars s t
+      ((a b : Outcome) → fault_or f a ≡ fault_or f b) → fails_by f ≡ exists_at w m q names args vars s t
   exists_fault sets f front fault is =
       with_fault q (λ c. first_effect w m q (drop (length names) args) (vars ++ bound_to names c) s t) (outcomes_at w (take (length names) args) vars s t) f
       (ap (λ es. joined (outcomes_at w es vars s t)) (sym front) ∙ sym fault) is
@@ -411,7 +411,7 @@ module _ (w : ℕ) (m : Marks) (q : Place) (names : List (List ℕ)) (args : Lis
       option_map choices (all_set_items vs') ≡ Some cs → cs' ≡ cs → 0 < length rest → body ≡ get_or rest 0 body →
       effects_or (map (body_effect w m body names vars s t) cs') ≡ exists_at w m q names args vars s t
   exists_body sets rest f vs vs' cs cs' body front back fault none read same_vs chosen same_cs some is =
-      let bodies : List Expr → List Value → scopes.Effect = λ es c. first_effect w m q es (vars ++ bound_to names c) s t in
+      let bodies : List Expr → List Value → Effect = λ es c. first_effect w m q es (vars ++ bound_to names c) s t in
       let first : rest ≡ body ∷ drop 1 rest = drop-cons rest 0 body some ∙ ap (λ x. x ∷ drop 1 rest) (sym is) in
       let os : List Outcome = outcomes_at w (take (length names) args) vars s t in
       let calm : joined os ≡ NoFault = ap (λ es. joined (outcomes_at w es vars s t)) (sym front) ∙ sym fault ∙ none in

@@ -10,7 +10,7 @@ use Rattle.tla_meaning.specs.declared.outcome.Outcome.{Outcome}
 use Rattle.tla_meaning.specs.declared.place.Place.{Place}
 use Rattle.tla_meaning.specs.Meaning.{by_truth, case_chosen, choose, conjoined, disjoined}
 use Rattle.tla_meaning.specs.Operators.{yes_no}
-use Rattle.tla_meaning.specs.Outcomes.{both, fault_of, joined, strict, unless, values}
+use Rattle.tla_meaning.specs.Outcomes.{join_faults, fault_of, joined, strict, fault_or, values}
 use Rattle.tla_meaning.proofs.Joins.{both_unit}
 use Rattle.tla_evaluator.specs.Nodes.{junction}
 use Rattle.tla_evaluator.proofs.OutcomeLemmas.{fault_step, values_step}
@@ -46,18 +46,18 @@ drop_all (suc n) [] h = refl
 drop_all (suc n) (x ∷ xs) h = drop_all n xs (omega (arith, h))
 
 module _ {X : Type 0} (f : X → Outcome) (xs : List X) (i : ℕ) where
-  pub fault_next : (x : X) (o : Outcome) (g h : Fault) → i < length xs → x ≡ get_or xs i x → o ≡ f x → h ≡ both g (fault_of o) →
-      both g (joined (map f (drop i xs))) ≡ joined (map f xs) → both h (joined (map f (drop (i + 1) xs))) ≡ joined (map f xs)
+  pub fault_next : (x : X) (o : Outcome) (g h : Fault) → i < length xs → x ≡ get_or xs i x → o ≡ f x → h ≡ join_faults g (fault_of o) →
+      join_faults g (joined (map f (drop i xs))) ≡ joined (map f xs) → join_faults h (joined (map f (drop (i + 1) xs))) ≡ joined (map f xs)
   fault_next x o g h lt is v e k =
-      fault_step g h o (map f (drop (i + 1) xs)) (map f xs) e (ap (λ os. both g (joined os)) (sym (map_next f xs i x o lt is v)) ∙ k)
+      fault_step g h o (map f (drop (i + 1) xs)) (map f xs) e (ap (λ os. join_faults g (joined os)) (sym (map_next f xs i x o lt is v)) ∙ k)
 
   pub values_next : (x : X) (o : Outcome) (vs ws : List Value) → i < length xs → x ≡ get_or xs i x → o ≡ f x → ws ≡ vs ++ values (o ∷ []) →
       vs ++ values (map f (drop i xs)) ≡ values (map f xs) → ws ++ values (map f (drop (i + 1) xs)) ≡ values (map f xs)
   values_next x o vs ws lt is v e k =
       values_step vs ws o (map f (drop (i + 1) xs)) (map f xs) e (ap (λ os. vs ++ values os) (sym (map_next f xs i x o lt is v)) ∙ k)
 
-  pub fault_done : (g : Fault) → length xs ≤ i → both g (joined (map f (drop i xs))) ≡ joined (map f xs) → g ≡ joined (map f xs)
-  fault_done g le k = sym (both_unit g) ∙ ap (λ ys. both g (joined (map f ys))) (sym (drop_all i xs le)) ∙ k
+  pub fault_done : (g : Fault) → length xs ≤ i → join_faults g (joined (map f (drop i xs))) ≡ joined (map f xs) → g ≡ joined (map f xs)
+  fault_done g le k = sym (both_unit g) ∙ ap (λ ys. join_faults g (joined (map f ys))) (sym (drop_all i xs le)) ∙ k
 
   pub values_done : (vs : List Value) → length xs ≤ i → vs ++ values (map f (drop i xs)) ≡ values (map f xs) → vs ≡ values (map f xs)
   values_done vs le k = sym (append-nil vs) ∙ ap (λ ys. vs ++ values (map f ys)) (sym (drop_all i xs le)) ∙ k
@@ -109,11 +109,11 @@ module _ {X : Type 0} (f : X → Outcome) (xs : List X) (i : ℕ) where
 -- where there is no fault, the outcome is that of the values
 pub strict_done : (f : Fault) (vs : List Value) (os : List Outcome) (g : List Value → Outcome) → f ≡ NoFault → f ≡ joined os → vs ≡ values os →
     g vs ≡ strict os g
-strict_done f vs os g none e v = ap (λ h. unless h (g vs)) (sym none ∙ e) ∙ ap (λ ws. unless (joined os) (g ws)) v
+strict_done f vs os g none e v = ap (λ h. fault_or h (g vs)) (sym none ∙ e) ∙ ap (λ ws. fault_or (joined os) (g ws)) v
 
-pub strict_fault : (f : Fault) (os : List Outcome) (g : List Value → Outcome) (o : Outcome) → ((x y : Outcome) → unless f x ≡ unless f y) → f ≡ joined os →
-    unless f o ≡ strict os g
-strict_fault f os g o same e = same o (g (values os)) ∙ ap (λ h. unless h (g (values os))) e
+pub strict_fault : (f : Fault) (os : List Outcome) (g : List Value → Outcome) (o : Outcome) → ((x y : Outcome) → fault_or f x ≡ fault_or f y) → f ≡ joined os →
+    fault_or f o ≡ strict os g
+strict_fault f os g o same e = same o (g (values os)) ∙ ap (λ h. fault_or h (g (values os))) e
 
 -- ---- CASE and IF
 

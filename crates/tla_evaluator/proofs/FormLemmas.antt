@@ -1,7 +1,7 @@
--- What a set form stands for, by its kind.
+-- Set forms by their kinds, and what belongs to lists of them.
 use Rattle.std.proofs.lemmas.Bool.Decides.{nat_tests}
 use Rattle.std.proofs.lemmas.List.{length-map}
-use Rattle.std.proofs.Common.{◌≡◌, ℕ, zero, suc, ◌≤◌, ◌==◌, ◌&&◌, Bool, true, false, length, drop, arith, List, [], ◌∷◌, map, refl, ap, ◌∙◌, sym, Box, Global}
+use Rattle.std.proofs.Common.{◌≡◌, ℕ, zero, suc, ◌≤◌, ◌==◌, ◌&&◌, Bool, true, false, length, drop, arith, List, [], ◌∷◌, map, refl, ap, ◌∙◌, sym}
 use Rattle.tla_values.specs.Order.{Layer, same_value, text_cmp, value_cmp}
 use Rattle.tla_values.proofs.Laws.{value_back}
 use Rattle.std.specs.declared.cmp.Ordering.{Ordering}
@@ -11,51 +11,51 @@ use Rattle.tla_values.proofs.OrderLemmas.{by_kinds}
 use Rattle.tla_values.specs.declared.value.Value.{Value, out-Value, roll-Value, roll-out-Value, Text, Set, Fun}
 use Rattle.tla_values.specs.declared.value.Value.TheVariants.{outs-Text, outs-Set, outs-Fun, rolls-Text, rolls-Set, rolls-Fun}
 use Rattle.tla_values.specs.declared.value.Value.TheOpen as layer
-use Rattle.tla_meaning.specs.Forms.{SetForm, Plain, AllInts, AllNats, AllTexts, Sequences, Functions, Subsets, Records, Tuples, set_passes, function_passes, belongs, all_belong, fields_at, results}
-use Rattle.tla_evaluator.specs.declared.forms.SetRule.{SetRule, out-SetRule}
-use Rattle.tla_evaluator.specs.declared.forms.SetRule.TheVariants as rules
-use Rattle.tla_evaluator.specs.declared.forms.SetRule.TheVariants.{outs-Plain, outs-AllInts, outs-AllNats, outs-AllTexts, outs-Sequences, outs-Functions, outs-Subsets, outs-Records, outs-Tuples}
-use Rattle.tla_evaluator.specs.declared.forms.SetRule.TheOpen as rule
-use Rattle.tla_evaluator.specs.declared.forms.SetRule.TheFolds.{fold_out-SetRule, map-SetRule}
-use Rattle.tla_evaluator.specs.SetRules.{form_of, forms_of, layer_form}
+use Rattle.tla_meaning.specs.declared.forms.SetForm.{SetForm, out-SetForm}
+use Rattle.tla_meaning.specs.declared.forms.SetForm.TheVariants.{Plain, AllInts, AllNats, AllTexts, Sequences, Functions, Subsets, Records, Tuples, outs-Plain, outs-AllInts, outs-AllNats, outs-AllTexts, outs-Sequences, outs-Functions, outs-Subsets, outs-Records, outs-Tuples}
+use Rattle.tla_meaning.specs.declared.forms.SetForm.TheOpen as form
+use Rattle.tla_meaning.specs.declared.forms.SetForm.TheFolds.{fold_out-SetForm, map-SetForm}
+use Rattle.tla_meaning.specs.Forms.{set_passes, function_passes, belongs, all_belong, part_belongs, fields_at, has_fields, is_natural, is_number, is_text, passes, results, same_set}
+use Rattle.tla_meaning.specs.Shapes.{items_of}
+use Rattle.tla_values.specs.Sets.{arguments, member}
+use Rattle.std.specs.List.{list_all}
 
-abbrev opened : rule.SetRule-F SetRule → SetForm
-opened x = layer_form (map-SetRule SetRule SetForm form_of x)
+pub belongs_out : (f : SetForm) (v : Value) → belongs f v ≡ part_belongs (map-SetForm SetForm (Value → Bool) belongs (out-SetForm f)) v
+unfolding belongs
+belongs_out f v = ap (λ (b : Value → Bool). b v) (fold_out-SetForm (Value → Bool) part_belongs f)
 
-pub form_of_out : (f : SetRule) → form_of f ≡ opened (out-SetRule f)
-unfolding form_of
-form_of_out f = fold_out-SetRule SetForm layer_form f
+at : (f : SetForm) (v : Value) (x : form.SetForm-F SetForm) → out-SetForm f ≡ x → belongs f v ≡ part_belongs (map-SetForm SetForm (Value → Bool) belongs x) v
+at f v x e = belongs_out f v ∙ ap (λ y. part_belongs (map-SetForm SetForm (Value → Bool) belongs y) v) e
 
-at : (f : SetRule) (x : rule.SetRule-F SetRule) → out-SetRule f ≡ x → form_of f ≡ opened x
-at f x e = form_of_out f ∙ ap opened e
+module _ (f : SetForm) (v : Value) where
+  pub at_plain : (s : Value) → f ≡ Plain s → belongs f v ≡ set_passes (member v) (out-Value s)
+  at_plain s e = at f v (form.Plain s) (ap out-SetForm e ∙ outs-Plain s)
 
-module _ (f : SetRule) where
-  pub at_plain : (v : Value) → f ≡ rules.Plain v → form_of f ≡ Plain v
-  at_plain v e = at f (rule.Plain v) (ap out-SetRule e ∙ outs-Plain v)
+  pub at_ints : f ≡ AllInts → belongs f v ≡ is_number (out-Value v)
+  at_ints e = at f v form.AllInts (ap out-SetForm e ∙ outs-AllInts)
 
-  pub at_ints : f ≡ rules.AllInts → form_of f ≡ AllInts
-  at_ints e = at f rule.AllInts (ap out-SetRule e ∙ outs-AllInts)
+  pub at_nats : f ≡ AllNats → belongs f v ≡ is_natural (out-Value v)
+  at_nats e = at f v form.AllNats (ap out-SetForm e ∙ outs-AllNats)
 
-  pub at_nats : f ≡ rules.AllNats → form_of f ≡ AllNats
-  at_nats e = at f rule.AllNats (ap out-SetRule e ∙ outs-AllNats)
+  pub at_texts : f ≡ AllTexts → belongs f v ≡ is_text (out-Value v)
+  at_texts e = at f v form.AllTexts (ap out-SetForm e ∙ outs-AllTexts)
 
-  pub at_texts : f ≡ rules.AllTexts → form_of f ≡ AllTexts
-  at_texts e = at f rule.AllTexts (ap out-SetRule e ∙ outs-AllTexts)
+  pub at_sequences : (g : SetForm) → f ≡ Sequences g → belongs f v ≡ function_passes (λ ps. passes (list_all (belongs g)) (items_of ps)) (out-Value v)
+  at_sequences g e = at f v (form.Sequences g) (ap out-SetForm e ∙ outs-Sequences g)
 
-  pub at_sequences : (b : Box SetRule Global) → f ≡ rules.Sequences b → form_of f ≡ Sequences (form_of b.value)
-  at_sequences b e = at f (rule.Sequences b) (ap out-SetRule e ∙ outs-Sequences b)
+  pub at_functions : (xs : List Value) (g : SetForm) → f ≡ Functions xs g →
+      belongs f v ≡ function_passes (λ ps. same_set xs (arguments ps) && list_all (belongs g) (results ps)) (out-Value v)
+  at_functions xs g e = at f v (form.Functions xs g) (ap out-SetForm e ∙ outs-Functions xs g)
 
-  pub at_functions : (xs : List Value) (b : Box SetRule Global) → f ≡ rules.Functions xs b → form_of f ≡ Functions xs (form_of b.value)
-  at_functions xs b e = at f (rule.Functions xs b) (ap out-SetRule e ∙ outs-Functions xs b)
+  pub at_subsets : (g : SetForm) → f ≡ Subsets g → belongs f v ≡ set_passes (list_all (belongs g)) (out-Value v)
+  at_subsets g e = at f v (form.Subsets g) (ap out-SetForm e ∙ outs-Subsets g)
 
-  pub at_subsets : (b : Box SetRule Global) → f ≡ rules.Subsets b → form_of f ≡ Subsets (form_of b.value)
-  at_subsets b e = at f (rule.Subsets b) (ap out-SetRule e ∙ outs-Subsets b)
+  pub at_records : (names : List (List ℕ)) (fs : List SetForm) → f ≡ Records names fs →
+      belongs f v ≡ function_passes (λ ps. has_fields names ps && all_belong fs (fields_at names ps)) (out-Value v)
+  at_records names fs e = at f v (form.Records names fs) (ap out-SetForm e ∙ outs-Records names fs)
 
-  pub at_records : (names : List (List ℕ)) (fs : List SetRule) → f ≡ rules.Records names fs → form_of f ≡ Records names (forms_of (map form_of fs))
-  at_records names fs e = at f (rule.Records names fs) (ap out-SetRule e ∙ outs-Records names fs)
-
-  pub at_tuples : (fs : List SetRule) → f ≡ rules.Tuples fs → form_of f ≡ Tuples (forms_of (map form_of fs))
-  at_tuples fs e = at f (rule.Tuples fs) (ap out-SetRule e ∙ outs-Tuples fs)
+  pub at_tuples : (fs : List SetForm) → f ≡ Tuples fs → belongs f v ≡ function_passes (λ ps. passes (all_belong fs) (items_of ps)) (out-Value v)
+  at_tuples fs e = at f v (form.Tuples fs) (ap out-SetForm e ∙ outs-Tuples fs)
 
 -- ---- values by their kinds
 
@@ -106,14 +106,14 @@ and_false : (a b : Bool) → b ≡ false → (a && b) ≡ false
 and_false true b e = e
 and_false false b e = refl
 
-pub all_differ : (fs : List SetRule) (vs : List Value) → (length fs ≡ length vs → ⊥) → all_belong (forms_of (map form_of fs)) vs ≡ false
+pub all_differ : (fs : List SetForm) (vs : List Value) → (length fs ≡ length vs → ⊥) → all_belong fs vs ≡ false
 all_differ [] [] h = absurd (h refl)
 all_differ [] (v ∷ vs) h = refl
 all_differ (f ∷ fs) [] h = refl
 all_differ (f ∷ fs) (v ∷ vs) h =
-    and_false (belongs (form_of f) v) (all_belong (forms_of (map form_of fs)) vs) (all_differ fs vs (λ e. h (ap suc e)))
+    and_false (belongs f v) (all_belong fs vs) (all_differ fs vs (λ e. h (ap suc e)))
 
-pub none_left : (fs : List SetRule) (i : ℕ) → i ≤ length fs → (i == length fs) ≡ all_belong (forms_of (map form_of (drop i fs))) []
+pub none_left : (fs : List SetForm) (i : ℕ) → i ≤ length fs → (i == length fs) ≡ all_belong (drop i fs) []
 none_left [] zero le = refl
 none_left [] (suc i) le = absurd (omega arith)
 none_left (f ∷ fs) zero le = grind (arith, nat_tests)
@@ -126,12 +126,12 @@ drop_past zero (x ∷ xs) le = absurd (omega arith)
 drop_past (suc n) [] le = refl
 drop_past (suc n) (x ∷ xs) le = drop_past n xs (omega arith)
 
-pub fields_done : (fs : List SetRule) (names : List (List ℕ)) (ps : List (Value × Value)) (i n : ℕ) → i ≤ length fs → length names ≤ n →
-    all_belong (forms_of (map form_of fs)) (fields_at names ps) ≡ all_belong (forms_of (map form_of (drop i fs))) (fields_at (drop n names) ps) →
-    (i == length fs) ≡ all_belong (forms_of (map form_of fs)) (fields_at names ps)
+pub fields_done : (fs : List SetForm) (names : List (List ℕ)) (ps : List (Value × Value)) (i n : ℕ) → i ≤ length fs → length names ≤ n →
+    all_belong fs (fields_at names ps) ≡ all_belong (drop i fs) (fields_at (drop n names) ps) →
+    (i == length fs) ≡ all_belong fs (fields_at names ps)
 fields_done fs names ps i n le past e =
-    none_left fs i le ∙ ap (λ l. all_belong (forms_of (map form_of (drop i fs))) (fields_at l ps)) (sym (drop_past n names past)) ∙ sym e
+    none_left fs i le ∙ ap (λ l. all_belong (drop i fs) (fields_at l ps)) (sym (drop_past n names past)) ∙ sym e
 
-pub items_differ : (fs : List SetRule) (ps : List (Value × Value)) → (length fs ≡ length ps → ⊥) → false ≡ all_belong (forms_of (map form_of fs)) (results ps)
+pub items_differ : (fs : List SetForm) (ps : List (Value × Value)) → (length fs ≡ length ps → ⊥) → false ≡ all_belong fs (results ps)
 items_differ fs ps h =
     let k : length (results ps) ≡ length ps = simp length-map in sym (all_differ fs (results ps) (λ e. h (e ∙ k)))

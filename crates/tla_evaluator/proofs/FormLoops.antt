@@ -8,11 +8,12 @@ use Rattle.tla_meaning.specs.declared.outcome.Fault.{Fault}
 use Rattle.tla_meaning.specs.declared.outcome.Fault.TheVariants.{IsWrong}
 use Rattle.tla_meaning.specs.declared.outcome.Outcome.{Outcome}
 use Rattle.tla_meaning.specs.declared.place.Place.{Place}
-use Rattle.tla_meaning.specs.Forms.{Broken, Formed, SetForm, form_fault, form_faults}
+use Rattle.tla_meaning.specs.Forms.{Broken, Formed, form_fault, form_faults, made}
+use Rattle.tla_meaning.specs.declared.forms.SetForm.{SetForm}
 use Rattle.tla_meaning.specs.Meaning.{case_chosen, function_form, if_chosen}
-use Rattle.tla_meaning.specs.Outcomes.{both}
+use Rattle.tla_meaning.specs.Outcomes.{join_faults}
 use Rattle.tla_evaluator.specs.declared.memberships.FormOutcome.{FormOutcome}
-use Rattle.tla_evaluator.specs.SetRules.{formed_of, forms_in}
+use Rattle.tla_evaluator.specs.SetRules.{formed_of}
 use Rattle.tla_evaluator.specs.Trees.{first_form_at, form_at, forms_at, outcomes_at, value_at}
 use Rattle.tla_evaluator.proofs.EvalSteps.{map_next}
 use Rattle.tla_evaluator.proofs.FormSteps.{form_fault_step, forms_step}
@@ -22,22 +23,22 @@ form_via r e h = subst (λ z. IfOk r (λ f. formed_of f ≡ z)) e h
 
 -- the form of a set of functions, by its parts
 pub function_ok : {E : Type 0} (r : Result FormOutcome E) (p : Place) (o : Outcome) (fault : Fault) (rules : List SetForm) (count : ℕ) →
-    IfOk r (λ f. (os : List Outcome) (d : Formed) (fs : List Formed) → fault ≡ form_faults fs → rules ≡ forms_in fs → count ≡ length fs → formed_of f ≡ function_form p (o ∷ os) (d ∷ fs)) →
-    (os : List Outcome) (d : Formed) (fs : List Formed) → fault ≡ form_faults fs → rules ≡ forms_in fs → count ≡ length fs →
+    IfOk r (λ f. (os : List Outcome) (d : Formed) (fs : List Formed) → fault ≡ form_faults fs → rules ≡ made fs → count ≡ length fs → formed_of f ≡ function_form p (o ∷ os) (d ∷ fs)) →
+    (os : List Outcome) (d : Formed) (fs : List Formed) → fault ≡ form_faults fs → rules ≡ made fs → count ≡ length fs →
     IfOk r (λ f. formed_of f ≡ function_form p (o ∷ os) (d ∷ fs))
 function_ok (Ok f) p o fault rules count h os d fs a b c = h os d fs a b c
 function_ok (Err e) p o fault rules count h os d fs a b c = tt
 
 module _ {X : Type 0} (f : X → Formed) (xs : List X) (i : ℕ) where
-  pub form_fault_next : (x : X) (o : Formed) (g h : Fault) → i < length xs → x ≡ get_or xs i x → o ≡ f x → h ≡ both g (form_fault o) →
-      both g (form_faults (map f (drop i xs))) ≡ form_faults (map f xs) → both h (form_faults (map f (drop (i + 1) xs))) ≡ form_faults (map f xs)
+  pub form_fault_next : (x : X) (o : Formed) (g h : Fault) → i < length xs → x ≡ get_or xs i x → o ≡ f x → h ≡ join_faults g (form_fault o) →
+      join_faults g (form_faults (map f (drop i xs))) ≡ form_faults (map f xs) → join_faults h (form_faults (map f (drop (i + 1) xs))) ≡ form_faults (map f xs)
   form_fault_next x o g h lt is v e k =
-      form_fault_step g h o (map f (drop (i + 1) xs)) (map f xs) e (ap (λ os. both g (form_faults os)) (sym (map_next f xs i x o lt is v)) ∙ k)
+      form_fault_step g h o (map f (drop (i + 1) xs)) (map f xs) e (ap (λ os. join_faults g (form_faults os)) (sym (map_next f xs i x o lt is v)) ∙ k)
 
-  pub forms_next : (x : X) (o : Formed) (vs ws : List SetForm) → i < length xs → x ≡ get_or xs i x → o ≡ f x → ws ≡ vs ++ forms_in (o ∷ []) →
-      vs ++ forms_in (map f (drop i xs)) ≡ forms_in (map f xs) → ws ++ forms_in (map f (drop (i + 1) xs)) ≡ forms_in (map f xs)
+  pub forms_next : (x : X) (o : Formed) (vs ws : List SetForm) → i < length xs → x ≡ get_or xs i x → o ≡ f x → ws ≡ vs ++ made (o ∷ []) →
+      vs ++ made (map f (drop i xs)) ≡ made (map f xs) → ws ++ made (map f (drop (i + 1) xs)) ≡ made (map f xs)
   forms_next x o vs ws lt is v e k =
-      forms_step vs ws o (map f (drop (i + 1) xs)) (map f xs) e (ap (λ os. vs ++ forms_in os) (sym (map_next f xs i x o lt is v)) ∙ k)
+      forms_step vs ws o (map f (drop (i + 1) xs)) (map f xs) e (ap (λ os. vs ++ made os) (sym (map_next f xs i x o lt is v)) ∙ k)
 
 module _ (w : ℕ) (vars : List (List ℕ × Value)) (s t : State) (p : Place) (es trees : List Expr) (same : es ≡ trees) where
   pub no_first_form : length es < 1 → Broken (IsWrong p) ≡ first_form_at w p trees vars s t

@@ -6,18 +6,19 @@ use Rattle.tla_meaning.specs.declared.job.State.{State}
 use Rattle.tla_meaning.specs.declared.op.Op.{Op}
 use Rattle.tla_meaning.specs.declared.op.Op.TheVariants as op
 use Rattle.tla_meaning.specs.declared.place.Place.{Place}
-use Rattle.tla_meaning.specs.Actions.{sense_of}
-use Rattle.tla_meaning.specs.Forms.{AllInts, AllNats, AllTexts, Made, Records, Sequences, Subsets, Tuples}
+use Rattle.tla_meaning.specs.Actions.{denotation_of}
+use Rattle.tla_meaning.specs.Forms.{Made}
+use Rattle.tla_meaning.specs.declared.forms.SetForm.TheVariants.{AllInts, AllNats, AllTexts, Records, Sequences, Subsets, Tuples}
 use Rattle.tla_meaning.specs.Meaning.{Meaning, form_of_all, form_of_one, function_form, plain, role, view}
-use Rattle.tla_meaning.specs.Scopes.{Scope, Sense}
+use Rattle.tla_meaning.specs.Scopes.{Scope, Denotation}
 use Rattle.tla_evaluator.specs.Nodes.{has_form}
 use Rattle.tla_evaluator.specs.Trees.{first_form_at, form_at, forms_at, outcomes_at, scope_at, stays, value_at}
 use Rattle.tla_evaluator.proofs.TreeLemmas.{sense_at, sense_gone}
-use Rattle.tla_evaluator.proofs.NodeLemmas.{false≢true, here_first_form, here_forms, here_outcomes, kids}
+use Rattle.tla_evaluator.proofs.NodeLemmas.{false≢true, here_first_form, here_forms, here_outcomes, children}
 
 -- a node that is no set form is the set that its value is
 plain_form : (w : ℕ) (p : Place) (o : Op) (xs : List (List ℕ)) (ks : List Meaning) (sc : Scope) (s t : State) → IsTrue (stays o) → has_form o ≡ false →
-    plain ((sense_of (Some w) p o (length xs) (view p (role o (length xs)) xs ks sc)).value s t) ≡ (sense_of (Some w) p o (length xs) (view p (role o (length xs)) xs ks sc)).form s t
+    plain ((denotation_of (Some w) p o (length xs) (view p (role o (length xs)) xs ks sc)).value s t) ≡ (denotation_of (Some w) p o (length xs) (view p (role o (length xs)) xs ks sc)).form s t
 plain_form w p op.IntSet xs ks sc s t g h = absurd (false≢true (sym h))
 plain_form w p op.NatSet xs ks sc s t g h = absurd (false≢true (sym h))
 plain_form w p op.StringSet xs ks sc s t g h = absurd (false≢true (sym h))
@@ -46,11 +47,11 @@ module _ (w : ℕ) (e : Expr) (vars : List (List ℕ × Value)) (s t : State) wh
   abbrev names : List (List ℕ)
   names = (out-Expr e).binds
 
-  abbrev sense : Op → Sense
-  sense o = sense_of (Some w) place o (length names) (view place (role o (length names)) names (kids w place names vars s t trees) (scope_at vars))
+  abbrev sense : Op → Denotation
+  sense o = denotation_of (Some w) place o (length names) (view place (role o (length names)) names (children w place names vars s t trees) (scope_at vars))
 
   form_is : (o : Op) → (out-Expr e).op ≡ o → IsTrue (stays o) → form_at w e vars s t ≡ (sense o).form s t
-  form_is o is h = ap (λ (a : Sense). a.form s t) (sense_at (Some w) e (scope_at vars) o is h)
+  form_is o is h = ap (λ (a : Denotation). a.form s t) (sense_at (Some w) e (scope_at vars) o is h)
 
   pub ints_is : (out-Expr e).op ≡ op.IntSet → Made AllInts ≡ form_at w e vars s t
   ints_is is = sym (form_is op.IntSet is refl)
@@ -81,12 +82,12 @@ module _ (w : ℕ) (e : Expr) (vars : List (List ℕ × Value)) (s t : State) wh
 
   by_stays : (b : Bool) → stays (out-Expr e).op ≡ b → has_form (out-Expr e).op ≡ false → plain (value_at w e vars s t) ≡ form_at w e vars s t
   by_stays true k h =
-      ap (λ (a : Sense). plain (a.value s t)) (sense_at (Some w) e (scope_at vars) (out-Expr e).op refl k)
-      ∙ plain_form w place (out-Expr e).op names (kids w place names vars s t trees) (scope_at vars) s t k h
+      ap (λ (a : Denotation). plain (a.value s t)) (sense_at (Some w) e (scope_at vars) (out-Expr e).op refl k)
+      ∙ plain_form w place (out-Expr e).op names (children w place names vars s t trees) (scope_at vars) s t k h
       ∙ sym (form_is (out-Expr e).op refl k)
   by_stays false k h =
-      ap (λ (a : Sense). plain (a.value s t)) (sense_gone (Some w) e (scope_at vars) k)
-      ∙ sym (ap (λ (a : Sense). a.form s t) (sense_gone (Some w) e (scope_at vars) k))
+      ap (λ (a : Denotation). plain (a.value s t)) (sense_gone (Some w) e (scope_at vars) k)
+      ∙ sym (ap (λ (a : Denotation). a.form s t) (sense_gone (Some w) e (scope_at vars) k))
 
   pub plain_is : has_form (out-Expr e).op ≡ false → plain (value_at w e vars s t) ≡ form_at w e vars s t
   plain_is h = by_stays (stays (out-Expr e).op) refl h

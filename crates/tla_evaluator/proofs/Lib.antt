@@ -9,7 +9,8 @@ pub mod FunctionLemmas
 pub mod ListLemmas
 pub mod ListSteps
 pub mod LoneLaws
-pub mod MarkLemmas
+pub mod MentionLaws
+pub mod MentionLemmas
 pub mod NameLemmas
 pub mod NodeLemmas
 pub mod NormalBinds

@@ -17,9 +17,9 @@ use Rattle.tla_meaning.specs.Forms.{results}
 use Rattle.tla_meaning.specs.Meaning.{At, NoFunction, Outside, Reached, Update, at_path, folded, set_path, updated}
 use Rattle.tla_meaning.specs.Scopes.{bound_to}
 use Rattle.tla_meaning.specs.Shapes.{all_set_items, choices}
-use Rattle.tla_meaning.specs.Outcomes.{both, joined, values, with_value}
+use Rattle.tla_meaning.specs.Outcomes.{join_faults, joined, values, with_value}
 use Rattle.tla_meaning.proofs.Joins.{both_assoc, joined_append}
-use Rattle.tla_meaning.proofs.NormalTable.{NormalOutcome}
+use Rattle.tla_meaning.proofs.NormalTable.{IsNormalOutcome as NormalOutcome}
 use Rattle.tla_meaning.proofs.NormalNodes.{NormalOutcomes, NormalReached, at_path_normal, values_normal}
 use Rattle.tla_evaluator.specs.Nodes.{index_trees, paths_at, update_at, updates_at}
 use Rattle.tla_evaluator.specs.Trees.{AreNormal, first_at, outcomes_at, value_at}
@@ -78,14 +78,14 @@ module _ (w : ℕ) (vars : List (List ℕ × Value)) (s t : State) (counts : Lis
   abbrev behind : List Expr
   behind = drop 1 (drop n rest)
 
-  pub index_fault_next : (g h part all : Fault) → i < length counts → n ≡ get_or counts i n → part ≡ joined (outcomes_at w (take n rest) vars s t) → h ≡ both g part →
-      both g (joined (outcomes_at w (index_trees (drop i counts) rest) vars s t)) ≡ all →
-      both h (joined (outcomes_at w (index_trees (drop (i + 1) counts) behind) vars s t)) ≡ all
+  pub index_fault_next : (g h part all : Fault) → i < length counts → n ≡ get_or counts i n → part ≡ joined (outcomes_at w (take n rest) vars s t) → h ≡ join_faults g part →
+      join_faults g (joined (outcomes_at w (index_trees (drop i counts) rest) vars s t)) ≡ all →
+      join_faults h (joined (outcomes_at w (index_trees (drop (i + 1) counts) behind) vars s t)) ≡ all
   index_fault_next g h part all lt is ep eh k =
       let more : List Expr = index_trees (drop (i + 1) counts) behind in
-      ap (λ x. both x (joined (outcomes_at w more vars s t))) eh
+      ap (λ x. join_faults x (joined (outcomes_at w more vars s t))) eh
       ∙ both_assoc g part (joined (outcomes_at w more vars s t))
-      ∙ ap (both g) (ap (λ x. both x (joined (outcomes_at w more vars s t))) ep
+      ∙ ap (join_faults g) (ap (λ x. join_faults x (joined (outcomes_at w more vars s t))) ep
       ∙ sym (joined_append (outcomes_at w (take n rest) vars s t) (outcomes_at w more vars s t))
       ∙ ap joined (sym (outcomes_both w (take n rest) more vars s t))
       ∙ ap (λ m. joined (outcomes_at w (take n rest ++ index_trees (drop m counts) behind) vars s t)) (add-one i)

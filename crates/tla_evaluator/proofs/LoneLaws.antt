@@ -10,12 +10,12 @@ use Rattle.tla_meaning.specs.declared.job.State.{State}
 use Rattle.tla_meaning.specs.Actions.{meaning, node}
 use Rattle.tla_meaning.specs.Meaning.{Meaning}
 use Rattle.tla_meaning.specs.Numbers.{Width}
-use Rattle.tla_meaning.specs.Scopes.{Scope, Sense, nonsense}
+use Rattle.tla_meaning.specs.Scopes.{Scope, Denotation, absent}
 use Rattle.tla_meaning.specs.Substitution.{Test}
 use Rattle.tla_meaning.proofs.Laws.{simulate}
 use Rattle.tla_meaning.proofs.Views.{AllAgree}
-use Rattle.tla_meaning.proofs.NormalTable.{NormalOutcome}
-use Rattle.tla_meaning.proofs.NormalNodes.{NormalSense, nonsense_normal}
+use Rattle.tla_meaning.proofs.NormalTable.{IsNormalOutcome as NormalOutcome}
+use Rattle.tla_meaning.proofs.NormalNodes.{NormalDenotation, absent_normal}
 use Rattle.tla_meaning.proofs.NormalLaw.{NormalMeaning, NormalMeanings, NormalScope, fold_normal, node_normal}
 use Rattle.tla_evaluator.specs.Trees.{AreNormal, is_expanded, lone, lone_node, scope_at, stays, value_at}
 
@@ -42,7 +42,7 @@ layer_same : (w : Width) (x : Expr-F Expr) → IsTrue (stays x.op) → AllAgree 
 layer_same w x h k a b r =
     let y : Expr-F Meaning = map-Expr Expr Meaning (lone w) x in
     ap (λ (m : Meaning). m a) (lone-roll w x)
-    ∙ ap (λ (b : Bool). elim b as (λ _. Sense) [ true ↦ node w y a | false ↦ nonsense y.place ]) h
+    ∙ ap (λ (b : Bool). elim b as (λ _. Denotation) [ true ↦ node w y a | false ↦ absent y.place ]) h
     ∙ ap (λ (ks : List Meaning). node w (record y { args = ks }) a) (all_same (map (lone w) x.args) (map (meaning w) x.args) k)
     ∙ ap (node w (map-Expr Expr Meaning (meaning w) x)) r
 
@@ -54,9 +54,9 @@ lone_is w e h sc = simulate w Same left_over (lone w) (layer_same w) e h sc sc r
 lone_layer : (w : Width) (x : Expr-F Meaning) → NormalMeanings x.args → NormalMeaning (lone_node w x)
 lone_layer w x h a r = by_kind (stays x.op)
   where
-    by_kind : (b : Bool) → NormalSense (elim b [ true ↦ node w x a | false ↦ nonsense x.place ])
+    by_kind : (b : Bool) → NormalDenotation (elim b [ true ↦ node w x a | false ↦ absent x.place ])
     by_kind true = node_normal w x h a r
-    by_kind false = nonsense_normal x.place
+    by_kind false = absent_normal x.place
 
 lone_normal : (w : Width) (e : Expr) → NormalMeaning (lone w e)
 unfolding lone

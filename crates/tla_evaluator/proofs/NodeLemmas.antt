@@ -9,24 +9,24 @@ use Rattle.tla_meaning.specs.declared.op.Op.TheVariants as op
 use Rattle.tla_meaning.specs.declared.outcome.Outcome.{Outcome}
 use Rattle.tla_meaning.specs.declared.outcome.Outcome.TheVariants.{Val, Wrong}
 use Rattle.tla_meaning.specs.declared.place.Place.{Place}
-use Rattle.tla_meaning.specs.Actions.{sense_of}
-use Rattle.tla_meaning.specs.Meaning.{Meaning, Update, all_indexes, bound_table, case_chosen, conjoined, disjoined, except, except_marks, first_updated, fold_over, forms, if_chosen, implied, in_form, inner, kid, outcomes, outer, over_members, read, role, senses, updates, view}
+use Rattle.tla_meaning.specs.Actions.{denotation_of}
+use Rattle.tla_meaning.specs.Meaning.{Meaning, Update, all_indexes, bound_table, case_chosen, conjoined, disjoined, except, except_marks, first_updated, fold_over, forms, if_chosen, implied, in_form, inner, child, outcomes, outer, over_members, read, role, denotations, updates, view}
 use Rattle.tla_meaning.specs.Numbers.{number}
 use Rattle.tla_meaning.specs.Operators.{on_all_sets, table}
 use Rattle.tla_meaning.specs.Outcomes.{strict, values}
-use Rattle.tla_meaning.specs.Scopes.{Scope, Sense, bind, bound_to, find_last, value_found}
+use Rattle.tla_meaning.specs.Scopes.{Scope, Denotation, bind, bound_to, find_last, value_found}
 use Rattle.tla_meaning.specs.Shapes.{choices}
 use Rattle.tla_meaning.specs.Strict.{is_strict}
 use Rattle.tla_evaluator.specs.Nodes.{bound_at, except_at, fold_at, index_trees, is_binder, is_membership, junction, membership_test, paths_at, updates_at}
 use Rattle.tla_evaluator.specs.Trees.{first_at, first_form_at, forms_at, lone, outcomes_at, scope_at, stays, value_at}
-use Rattle.tla_evaluator.proofs.TreeLemmas.{first_given, forms_given, here_given, inner_back, inner_kid, outcomes_given, outer_back, outer_front, sense_at, sense_gone, take_map, drop_map}
+use Rattle.tla_evaluator.proofs.TreeLemmas.{first_given, forms_given, here_given, inner_back, inner_child, outcomes_given, outer_back, outer_front, sense_at, sense_gone, take_map, drop_map}
 
 pub false≢true : false ≡ true → ⊥
 false≢true e = cc
 
 -- an operator that joins its operands reads them alone
 strict_value : (w : ℕ) (p : Place) (o : Op) (xs : List (List ℕ)) (ks : List Meaning) (sc : Scope) (s t : State) → IsTrue (is_strict o) →
-    strict (outcomes (outer p [] ks sc) s t) (table (Some w) p o) ≡ (sense_of (Some w) p o (length xs) (view p (role o (length xs)) xs ks sc)).value s t
+    strict (outcomes (outer p [] ks sc) s t) (table (Some w) p o) ≡ (denotation_of (Some w) p o (length xs) (view p (role o (length xs)) xs ks sc)).value s t
 strict_value w p (op.Bool b) xs ks sc s t h = absurd (false≢true h)
 strict_value w p (op.Int n) xs ks sc s t h = absurd (false≢true h)
 strict_value w p (op.Str a) xs ks sc s t h = absurd (false≢true h)
@@ -68,7 +68,7 @@ strict_stays op.Angled h = absurd (false≢true h)
 strict_stays o h = refl
 
 binder_value : (w : ℕ) (p : Place) (o : Op) (xs : List (List ℕ)) (ks : List Meaning) (sc : Scope) (s t : State) → IsTrue (is_binder o) →
-    over_members p o (length xs) (view p (role op.Exists (length xs)) xs ks sc) s t ≡ (sense_of (Some w) p o (length xs) (view p (role o (length xs)) xs ks sc)).value s t
+    over_members p o (length xs) (view p (role op.Exists (length xs)) xs ks sc) s t ≡ (denotation_of (Some w) p o (length xs) (view p (role o (length xs)) xs ks sc)).value s t
 binder_value w p op.Exists xs ks sc s t h = refl
 binder_value w p op.Forall xs ks sc s t h = refl
 binder_value w p op.Filter xs ks sc s t h = refl
@@ -85,7 +85,7 @@ binder_stays op.Lambda h = refl
 binder_stays o h = absurd (false≢true h)
 
 membership_value : (w : ℕ) (p : Place) (o : Op) (xs : List (List ℕ)) (ks : List Meaning) (sc : Scope) (s t : State) → IsTrue (is_membership o) →
-    in_form p (membership_test o p) (outcomes (outer p [] ks sc) s t) (forms (outer p [] ks sc) s t) ≡ (sense_of (Some w) p o (length xs) (view p (role o (length xs)) xs ks sc)).value s t
+    in_form p (membership_test o p) (outcomes (outer p [] ks sc) s t) (forms (outer p [] ks sc) s t) ≡ (denotation_of (Some w) p o (length xs) (view p (role o (length xs)) xs ks sc)).value s t
 membership_value w p op.In xs ks sc s t h = refl
 membership_value w p op.NotIn xs ks sc s t h = refl
 membership_value w p op.SubsetEq xs ks sc s t h = refl
@@ -98,44 +98,44 @@ membership_stays op.SubsetEq h = refl
 membership_stays o h = absurd (false≢true h)
 
 module _ (w : ℕ) (p : Place) (xs : List (List ℕ)) (vars : List (List ℕ × Value)) (s t : State) where
-  abbrev pub kids : List Expr → List Meaning
-  kids es = map (lone (Some w)) es
+  abbrev pub children : List Expr → List Meaning
+  children es = map (lone (Some w)) es
 
   abbrev scope : Scope
   scope = scope_at vars
 
-  pub here_outcomes : (es : List Expr) → outcomes (outer p [] (kids es) scope) s t ≡ outcomes_at w es vars s t
-  here_outcomes es = ap (λ (as' : List Sense). outcomes as' s t) (here_given w vars s t p es) ∙ outcomes_given w vars s t es
+  pub here_outcomes : (es : List Expr) → outcomes (outer p [] (children es) scope) s t ≡ outcomes_at w es vars s t
+  here_outcomes es = ap (λ (as' : List Denotation). outcomes as' s t) (here_given w vars s t p es) ∙ outcomes_given w vars s t es
 
-  pub here_forms : (es : List Expr) → forms (outer p [] (kids es) scope) s t ≡ forms_at w es vars s t
-  here_forms es = ap (λ (as' : List Sense). forms as' s t) (here_given w vars s t p es) ∙ forms_given w vars s t es
+  pub here_forms : (es : List Expr) → forms (outer p [] (children es) scope) s t ≡ forms_at w es vars s t
+  here_forms es = ap (λ (as' : List Denotation). forms as' s t) (here_given w vars s t p es) ∙ forms_given w vars s t es
 
-  here_first : (es : List Expr) → (kid p 0 (outer p [] (kids es) scope)).value s t ≡ first_at w p es vars s t
+  here_first : (es : List Expr) → (child p 0 (outer p [] (children es) scope)).value s t ≡ first_at w p es vars s t
   here_first [] = refl
   here_first (e ∷ es) = refl
 
-  pub here_first_form : (es : List Expr) → (kid p 0 (outer p [] (kids es) scope)).form s t ≡ first_form_at w p es vars s t
+  pub here_first_form : (es : List Expr) → (child p 0 (outer p [] (children es) scope)).form s t ≡ first_form_at w p es vars s t
   here_first_form [] = refl
   here_first_form (e ∷ es) = refl
 
   -- the child that stands under the bound names, where these have values
   under_value : (n : ℕ) (ms : List Bool) (vs : List Value) (es : List Expr) →
-      (kid p n (inner p (replicate n false ++ true ∷ ms) (kids es) (bind xs vs scope))).value s t ≡ first_at w p (drop n es) (vars ++ bound_to xs vs) s t
+      (child p n (inner p (replicate n false ++ true ∷ ms) (children es) (bind xs vs scope))).value s t ≡ first_at w p (drop n es) (vars ++ bound_to xs vs) s t
   under_value n ms vs es =
-      ap (λ (a : Sense). a.value s t) (inner_kid p n ms (kids es) (bind xs vs scope)
-      ∙ ap (λ (ks : List Meaning). kid p 0 (senses ks (bind xs vs scope))) (drop_map (lone (Some w)) n es))
+      ap (λ (a : Denotation). a.value s t) (inner_child p n ms (children es) (bind xs vs scope)
+      ∙ ap (λ (ks : List Meaning). child p 0 (denotations ks (bind xs vs scope))) (drop_map (lone (Some w)) n es))
       ∙ first_given w (vars ++ bound_to xs vs) s t p (drop n es)
 
   front_outcomes : (n : ℕ) (ms : List Bool) (es : List Expr) →
-      outcomes (take n (outer p (replicate n false ++ true ∷ ms) (kids es) scope)) s t ≡ outcomes_at w (take n es) vars s t
+      outcomes (take n (outer p (replicate n false ++ true ∷ ms) (children es) scope)) s t ≡ outcomes_at w (take n es) vars s t
   front_outcomes n ms es =
-      ap (λ (as' : List Sense). outcomes as' s t) (outer_front p n ms (kids es) scope
-      ∙ ap (λ (ks : List Meaning). senses ks scope) (take_map (lone (Some w)) n es))
+      ap (λ (as' : List Denotation). outcomes as' s t) (outer_front p n ms (children es) scope
+      ∙ ap (λ (ks : List Meaning). denotations ks scope) (take_map (lone (Some w)) n es))
       ∙ outcomes_given w vars s t (take n es)
 
   -- ---- EXCEPT
 
-  outcomes_plus : (as' bs : List Sense) → outcomes (as' ++ bs) s t ≡ outcomes as' s t ++ outcomes bs s t
+  outcomes_plus : (as' bs : List Denotation) → outcomes (as' ++ bs) s t ≡ outcomes as' s t ++ outcomes bs s t
   outcomes_plus [] bs = refl
   outcomes_plus (a ∷ as') bs = ap (λ (os : List Outcome). a.value s t ∷ os) (outcomes_plus as' bs)
 
@@ -144,36 +144,36 @@ module _ (w : ℕ) (p : Place) (xs : List (List ℕ)) (vars : List (List ℕ × 
   outcomes_both (e ∷ es) fs = ap (λ (os : List Outcome). value_at w e vars s t ∷ os) (outcomes_both es fs)
 
   indexes_given : (ns : List ℕ) (es : List Expr) →
-      outcomes (all_indexes ns (outer p (except_marks ns) (kids es) scope)) s t ≡ outcomes_at w (index_trees ns es) vars s t
+      outcomes (all_indexes ns (outer p (except_marks ns) (children es) scope)) s t ≡ outcomes_at w (index_trees ns es) vars s t
   indexes_given [] es = refl
   indexes_given (n ∷ ns) es =
-      let all : List Sense = outer p (except_marks (n ∷ ns)) (kids es) scope in
-      let rest : List Sense = outer p (except_marks ns) (kids (drop (suc n) es)) scope in
+      let all : List Denotation = outer p (except_marks (n ∷ ns)) (children es) scope in
+      let rest : List Denotation = outer p (except_marks ns) (children (drop (suc n) es)) scope in
       outcomes_plus (take n all) (all_indexes ns (drop (suc n) all))
       ∙ ap₂ (λ (os qs : List Outcome). os ++ qs) (front_outcomes n (except_marks ns) es)
-      (ap (λ (as' : List Sense). outcomes (all_indexes ns as') s t) (outer_back p n (except_marks ns) (kids es) scope
+      (ap (λ (as' : List Denotation). outcomes (all_indexes ns as') s t) (outer_back p n (except_marks ns) (children es) scope
       ∙ ap (λ (ks : List Meaning). outer p (except_marks ns) ks scope) (drop_map (lone (Some w)) (suc n) es))
       ∙ indexes_given ns (drop (suc n) es))
       ∙ outcomes_both (take n es) (index_trees ns (drop (suc n) es))
 
-  abbrev underneath : List Bool → List Expr → List Value → List Sense
-  underneath ms es vs = inner p ms (kids es) (bind xs vs scope)
+  abbrev underneath : List Bool → List Expr → List Value → List Denotation
+  underneath ms es vs = inner p ms (children es) (bind xs vs scope)
 
   updates_given : (ns : List ℕ) (es : List Expr) →
-      updates p ns (outer p (except_marks ns) (kids es) scope) (underneath (except_marks ns) es) s t ≡ updates_at w p xs (paths_at w ns es vars s t) es vars s t
+      updates p ns (outer p (except_marks ns) (children es) scope) (underneath (except_marks ns) es) s t ≡ updates_at w p xs (paths_at w ns es vars s t) es vars s t
   updates_given [] es = refl
   updates_given (n ∷ ns) es =
       let ms : List Bool = except_marks ns in
       ap₂ (λ (u : Update) (us : List Update). u ∷ us)
       (ap₂ (λ (vs : List Value) (f : Value → Outcome). (vs, f)) (ap values (front_outcomes n ms es)) (λ i. λ old. under_value n ms (old ∷ []) es i))
-      (ap₂ (λ (as' : List Sense) (f : List Value → List Sense). updates p ns as' f s t)
-      (outer_back p n ms (kids es) scope ∙ ap (λ (ks : List Meaning). outer p ms ks scope) (drop_map (lone (Some w)) (suc n) es))
-      (λ i. λ vs. (inner_back p n ms (kids es) (bind xs vs scope) ∙ ap (λ (ks : List Meaning). inner p ms ks (bind xs vs scope)) (drop_map (lone (Some w)) (suc n) es)) i)
+      (ap₂ (λ (as' : List Denotation) (f : List Value → List Denotation). updates p ns as' f s t)
+      (outer_back p n ms (children es) scope ∙ ap (λ (ks : List Meaning). outer p ms ks scope) (drop_map (lone (Some w)) (suc n) es))
+      (λ i. λ vs. (inner_back p n ms (children es) (bind xs vs scope) ∙ ap (λ (ks : List Meaning). inner p ms ks (bind xs vs scope)) (drop_map (lone (Some w)) (suc n) es)) i)
       ∙ updates_given ns (drop (suc n) es))
 
   except_given : (ns : List ℕ) (es : List Expr) →
       except_at w p ns xs es vars s t
-      ≡ except p ns (outer p (false ∷ except_marks ns) (kids es) scope) (λ vs. inner p (false ∷ except_marks ns) (kids es) (bind xs vs scope)) s t
+      ≡ except p ns (outer p (false ∷ except_marks ns) (children es) scope) (λ vs. inner p (false ∷ except_marks ns) (children es) (bind xs vs scope)) s t
   except_given ns [] = refl
   except_given ns (e ∷ es) =
       sym (ap₂ (λ (os : List Outcome) (us : List Update). strict (value_at w e vars s t ∷ os) (first_updated p us)) (indexes_given ns es) (updates_given ns es))
@@ -182,16 +182,16 @@ module _ (w : ℕ) (p : Place) (xs : List (List ℕ)) (vars : List (List ℕ × 
 
   fold_given : (es : List Expr) →
       fold_at w p xs es vars s t
-      ≡ strict (outcomes (drop 1 (outer p (true ∷ []) (kids es) scope)) s t)
-      (fold_over p (λ a b. (kid p 0 (inner p (true ∷ []) (kids es) (bind xs (a ∷ b ∷ []) scope))).value s t))
+      ≡ strict (outcomes (drop 1 (outer p (true ∷ []) (children es) scope)) s t)
+      (fold_over p (λ a b. (child p 0 (inner p (true ∷ []) (children es) (bind xs (a ∷ b ∷ []) scope))).value s t))
   fold_given es =
       sym (ap₂ (λ (os : List Outcome) (f : Value → Value → Outcome). strict os (fold_over p f))
-      (ap (λ (as' : List Sense). outcomes as' s t) (outer_back p 0 [] (kids es) scope ∙ ap (λ (ks : List Meaning). outer p [] ks scope) (drop_map (lone (Some w)) 1 es))
+      (ap (λ (as' : List Denotation). outcomes as' s t) (outer_back p 0 [] (children es) scope ∙ ap (λ (ks : List Meaning). outer p [] ks scope) (drop_map (lone (Some w)) 1 es))
       ∙ here_outcomes (drop 1 es))
       (λ i. λ a b. under_value 0 [] (a ∷ b ∷ []) es i))
 
   bound_given : (o : Op) (es : List Expr) →
-      bound_at w p o xs es vars s t ≡ over_members p o (length xs) (view p (role op.Exists (length xs)) xs (kids es) scope) s t
+      bound_at w p o xs es vars s t ≡ over_members p o (length xs) (view p (role op.Exists (length xs)) xs (children es) scope) s t
   bound_given o es =
       sym (ap₂ (λ (os : List Outcome) (f : List Value → Outcome). strict os (on_all_sets p (λ xss. strict (map f (choices xss)) (bound_table p o (choices xss)))))
       (front_outcomes (length xs) [] es)
@@ -208,11 +208,11 @@ module _ (w : ℕ) (e : Expr) (vars : List (List ℕ × Value)) (s t : State) wh
   names = (out-Expr e).binds
 
   value_is : (o : Op) → (out-Expr e).op ≡ o → IsTrue (stays o) →
-      value_at w e vars s t ≡ (sense_of (Some w) place o (length names) (view place (role o (length names)) names (kids w place names vars s t trees) (scope_at vars))).value s t
-  value_is o is h = ap (λ (a : Sense). a.value s t) (sense_at (Some w) e (scope_at vars) o is h)
+      value_at w e vars s t ≡ (denotation_of (Some w) place o (length names) (view place (role o (length names)) names (children w place names vars s t trees) (scope_at vars))).value s t
+  value_is o is h = ap (λ (a : Denotation). a.value s t) (sense_at (Some w) e (scope_at vars) o is h)
 
   pub gone_is : stays (out-Expr e).op ≡ false → Wrong place ≡ value_at w e vars s t
-  gone_is h = sym (ap (λ (a : Sense). a.value s t) (sense_gone (Some w) e (scope_at vars) h))
+  gone_is h = sym (ap (λ (a : Denotation). a.value s t) (sense_gone (Some w) e (scope_at vars) h))
 
   pub bool_is : (b : Bool) → (out-Expr e).op ≡ op.Bool b → Val (value.Bool b) ≡ value_at w e vars s t
   bool_is b is = sym (value_is (op.Bool b) is refl)
@@ -249,7 +249,7 @@ module _ (w : ℕ) (e : Expr) (vars : List (List ℕ × Value)) (s t : State) wh
   membership_is o is h =
       ap (λ (o : Op). in_form place (membership_test o place) (outcomes_at w trees vars s t) (forms_at w trees vars s t)) is
       ∙ sym (ap₂ (in_form place (membership_test o place)) (here_outcomes w place names vars s t trees) (here_forms w place names vars s t trees))
-      ∙ membership_value w place o names (kids w place names vars s t trees) (scope_at vars) s t h
+      ∙ membership_value w place o names (children w place names vars s t trees) (scope_at vars) s t h
       ∙ sym (value_is o is (membership_stays o h))
 
   pub binder_is : (o : Op) → (out-Expr e).op ≡ o → IsTrue (is_binder o) →
@@ -257,7 +257,7 @@ module _ (w : ℕ) (e : Expr) (vars : List (List ℕ × Value)) (s t : State) wh
   binder_is o is h =
       ap (λ (o : Op). bound_at w place o names trees vars s t) is
       ∙ bound_given w place names vars s t o trees
-      ∙ binder_value w place o names (kids w place names vars s t trees) (scope_at vars) s t h
+      ∙ binder_value w place o names (children w place names vars s t trees) (scope_at vars) s t h
       ∙ sym (value_is o is (binder_stays o h))
 
   pub except_is : (ns ms : List ℕ) → ms ≡ ns → (out-Expr e).op ≡ op.Except ns → except_at w place ms names trees vars s t ≡ value_at w e vars s t
@@ -273,7 +273,7 @@ module _ (w : ℕ) (e : Expr) (vars : List (List ℕ × Value)) (s t : State) wh
       strict (outcomes_at w trees vars s t) (table (Some w) place (out-Expr e).op) ≡ value_at w e vars s t
   strict_is h =
       sym (ap (λ (os : List Outcome). strict os (table (Some w) place (out-Expr e).op)) (here_outcomes w place names vars s t trees))
-      ∙ strict_value w place (out-Expr e).op names (kids w place names vars s t trees) (scope_at vars) s t h
+      ∙ strict_value w place (out-Expr e).op names (children w place names vars s t trees) (scope_at vars) s t h
       ∙ sym (value_is (out-Expr e).op refl (strict_stays (out-Expr e).op h))
 
 -- an operator that is none of those that are read in a way of their own

@@ -102,12 +102,12 @@ each_rising [] h = (tt, tt)
 each_rising (x ∷ xs) h =
     let up = each_sublist (λ y. value_cmp x y ≡ Less) xs (above_all x xs h.0) in
     let k = each_rising xs h.1 in
-    each_append Rising (sublists xs) (map (λ ys. x ∷ ys) (sublists xs)) k (both (sublists xs) up k)
+    each_append Rising (sublists xs) (map (λ ys. x ∷ ys) (sublists xs)) k (join_faults (sublists xs) up k)
   where
-    both : (yss : List (List Value)) → Each (λ ys. AllByRecursion (λ y. value_cmp x y ≡ Less) ys) yss → Each Rising yss →
+    join_faults : (yss : List (List Value)) → Each (λ ys. AllByRecursion (λ y. value_cmp x y ≡ Less) ys) yss → Each Rising yss →
         Each Rising (map (λ ys. x ∷ ys) yss)
-    both [] u k = tt
-    both (ys ∷ yss) u k = ((above_weaker x xs ys u.0, k.0), both yss u.1 k.1)
+    join_faults [] u k = tt
+    join_faults (ys ∷ yss) u k = ((above_weaker x xs ys u.0, k.0), join_faults yss u.1 k.1)
 
 pub normal_sublists : (xs : List Value) → Normal (Set xs) → All Normal (map (λ ys. Set ys) (sublists xs))
 normal_sublists xs h =
@@ -218,7 +218,7 @@ numbered-more n (y ∷ xs) x =
 
 pub normal_zip : (xs ys : List Value) → Normal (Set xs) → All Normal ys → Normal (Fun (zip xs ys))
 normal_zip xs ys h k =
-    fun_normal (zip xs ys) (rising_to _ (up xs ys (rising_from xs (set_order xs h)))) (both xs ys (set_members xs h) (recursion_from_All Normal ys k))
+    fun_normal (zip xs ys) (rising_to _ (up xs ys (rising_from xs (set_order xs h)))) (join_faults xs ys (set_members xs h) (recursion_from_All Normal ys k))
   where
     above : (x : Value) (xs ys : List Value) → Above x xs → Above x (arguments (zip xs ys))
     above x [] ys h = tt
@@ -230,19 +230,19 @@ normal_zip xs ys h k =
     up (x ∷ xs) [] h = tt
     up (x ∷ xs) (y ∷ ys) h = (above x xs ys h.0, up xs ys h.1)
 
-    both : (xs ys : List Value) → Normals xs → Normals ys → AllByRecursion IsNormalPair (zip xs ys)
-    both [] ys h k = tt
-    both (x ∷ xs) [] h k = tt
-    both (x ∷ xs) (y ∷ ys) h k = ((h.0, k.0), both xs ys h.1 k.1)
+    join_faults : (xs ys : List Value) → Normals xs → Normals ys → AllByRecursion IsNormalPair (zip xs ys)
+    join_faults [] ys h k = tt
+    join_faults (x ∷ xs) [] h k = tt
+    join_faults (x ∷ xs) (y ∷ ys) h k = ((h.0, k.0), join_faults xs ys h.1 k.1)
 
 pub normal_zipped : (xs ys : List Value) → All Normal xs → All Normal ys → All IsNormalPair (zip xs ys)
 normal_zipped xs ys h k =
-    All-from_recursion IsNormalPair (zip xs ys) (both xs ys (recursion_from_All Normal xs h) (recursion_from_All Normal ys k))
+    All-from_recursion IsNormalPair (zip xs ys) (join_faults xs ys (recursion_from_All Normal xs h) (recursion_from_All Normal ys k))
   where
-    both : (xs ys : List Value) → Normals xs → Normals ys → AllByRecursion IsNormalPair (zip xs ys)
-    both [] ys h k = tt
-    both (x ∷ xs) [] h k = tt
-    both (x ∷ xs) (y ∷ ys) h k = ((h.0, k.0), both xs ys h.1 k.1)
+    join_faults : (xs ys : List Value) → Normals xs → Normals ys → AllByRecursion IsNormalPair (zip xs ys)
+    join_faults [] ys h k = tt
+    join_faults (x ∷ xs) [] h k = tt
+    join_faults (x ∷ xs) (y ∷ ys) h k = ((h.0, k.0), join_faults xs ys h.1 k.1)
 
 -- ---- sets of functions, of records and of tuples
 

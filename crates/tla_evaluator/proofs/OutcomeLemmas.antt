@@ -4,7 +4,7 @@ use Rattle.tla_values.specs.declared.value.Value.{Value}
 use Rattle.tla_meaning.specs.declared.outcome.Fault.{Fault}
 use Rattle.tla_meaning.specs.declared.outcome.Outcome.{Outcome}
 use Rattle.tla_meaning.specs.declared.outcome.Outcome.TheVariants.{Val, Wrong, Big}
-use Rattle.tla_meaning.specs.Outcomes.{both, fault_of, joined, values}
+use Rattle.tla_meaning.specs.Outcomes.{join_faults, fault_of, joined, values}
 use Rattle.tla_meaning.proofs.Joins.{both_assoc}
 
 pub values_cons : (o : Outcome) (os : List Outcome) → values (o ∷ os) ≡ values (o ∷ []) ++ values os
@@ -13,9 +13,9 @@ values_cons (Wrong p) os = refl
 values_cons (Big p) os = refl
 
 -- the fault so far with that of the rest
-pub fault_step : (f g : Fault) (o : Outcome) (os all : List Outcome) → g ≡ both f (fault_of o) →
-    both f (joined (o ∷ os)) ≡ joined all → both g (joined os) ≡ joined all
-fault_step f g o os all e h = ap (λ x. both x (joined os)) e ∙ both_assoc f (fault_of o) (joined os) ∙ h
+pub fault_step : (f g : Fault) (o : Outcome) (os all : List Outcome) → g ≡ join_faults f (fault_of o) →
+    join_faults f (joined (o ∷ os)) ≡ joined all → join_faults g (joined os) ≡ joined all
+fault_step f g o os all e h = ap (λ x. join_faults x (joined os)) e ∙ both_assoc f (fault_of o) (joined os) ∙ h
 
 -- the values so far with those of the rest
 pub values_step : (vs ws : List Value) (o : Outcome) (os all : List Outcome) → ws ≡ vs ++ values (o ∷ []) →

@@ -16,33 +16,33 @@ use Rattle.tla_meaning.specs.declared.outcome.Outcome.{Outcome}
 use Rattle.tla_meaning.specs.declared.outcome.Outcome.TheVariants.{Val, Wrong, Big}
 use Rattle.tla_meaning.specs.Actions.{act, effect_of, effects_and, meaning, outcome_of, val}
 use Rattle.tla_meaning.specs.Executions.{IsYes, assume_effects, assumptions, constants, first_not_yes, in_cinit, in_init, is_yes, next, no_scope, scope_of, start}
-use Rattle.tla_meaning.specs.Scopes.{Marks, Sense}
-use Rattle.tla_meaning.specs.Scopes as scopes
+use Rattle.tla_meaning.specs.Scopes.{Denotation}
 use Rattle.tla_meaning.proofs.Joins.{both_unit}
 use Rattle.tla_meaning.proofs.Views.{and_left, and_right, false≢true}
-use Rattle.tla_evaluator.specs.declared.marks.Marks.TheVariants.{CInit, Init, Next}
+use Rattle.tla_meaning.specs.declared.actions.Assigned.{Assigned}
+use Rattle.tla_meaning.specs.declared.actions.Assigned.TheVariants.{Constants, PrimedVariables, Variables}
+use Rattle.tla_meaning.specs.declared.actions.Effect.{Effect}
 use Rattle.tla_evaluator.specs.Effects.{behind}
-use Rattle.tla_evaluator.specs.Marks.{marks_of}
 use Rattle.tla_evaluator.specs.Trees.{AreNormal, effect_at, is_expanded, stays, value_at}
 use Rattle.tla_evaluator.proofs.ActionNodes.{behind_twice, get_or-default}
 use Rattle.tla_evaluator.proofs.LoneLaws.{lone_is, value_normal}
-use Rattle.tla_meaning.proofs.NormalTable.{NormalOutcome}
+use Rattle.tla_meaning.proofs.NormalTable.{IsNormalOutcome as NormalOutcome}
 use Rattle.tla_evaluator.specs.Results.{IsNormalOutcome}
 
 -- ---- one tree
 
-pub act_is : (w : ℕ) (m : Marks) (e : Expr) (s t : State) → IsTrue (is_expanded e) →
+pub act_is : (w : ℕ) (m : Assigned) (e : Expr) (s t : State) → IsTrue (is_expanded e) →
     outcome_of (effect_at w m e [] s t) ≡ act (Some w) m e no_scope s t
-act_is w m e s t h = ap (λ (a : Sense). outcome_of (a.act m s t)) (lone_is (Some w) e h no_scope)
+act_is w m e s t h = ap (λ (a : Denotation). outcome_of (a.act m s t)) (lone_is (Some w) e h no_scope)
 
 pub val_is : (w : ℕ) (e : Expr) (s t : State) → IsTrue (is_expanded e) → value_at w e [] s t ≡ val (Some w) e no_scope s t
-val_is w e s t h = ap (λ (a : Sense). a.value s t) (lone_is (Some w) e h no_scope)
+val_is w e s t h = ap (λ (a : Denotation). a.value s t) (lone_is (Some w) e h no_scope)
 
 pub eval_is : (w : ℕ) (e : Expr) (env : Env) (vars : List (List ℕ × Value)) (s t u : State) → vars ≡ env.vals → u ≡ t → IsTrue (is_expanded e) →
     value_at w e vars s t ≡ val (Some w) e (scope_of env) s u
 eval_is w e env vars s t u same next h =
     ap (λ vs. value_at w e vs s t) same
-    ∙ ap (λ (a : Sense). a.value s t) (lone_is (Some w) e h (scope_of env))
+    ∙ ap (λ (a : Denotation). a.value s t) (lone_is (Some w) e h (scope_of env))
     ∙ ap (λ n. val (Some w) e (scope_of env) s n) (sym next)
 
 -- the outcome of an evaluation is normal
@@ -56,47 +56,47 @@ answer_normal (Ok o) w e vars s t ok h = as_clause o (subst NormalOutcome (sym h
     as_clause (Wrong p) k = tt
     as_clause (Big p) k = tt
 
-effect_is : (w : ℕ) (m n : Marks) (e : Expr) (s t : State) → IsTrue (is_expanded e) → m ≡ n →
+effect_is : (w : ℕ) (m n : Assigned) (e : Expr) (s t : State) → IsTrue (is_expanded e) → m ≡ n →
     (meaning (Some w) e no_scope).act n s t ≡ effect_at w m e [] s t
 effect_is w m n e s t h same =
-    sym (ap (λ (a : Sense). a.act m s t) (lone_is (Some w) e h no_scope) ∙ ap (λ k. (meaning (Some w) e no_scope).act k s t) same)
+    sym (ap (λ (a : Denotation). a.act m s t) (lone_is (Some w) e h no_scope) ∙ ap (λ k. (meaning (Some w) e no_scope).act k s t) same)
 
 pub next_is : (w : ℕ) (n : ℕ) (job : Job) (s t : State) → n ≡ constants job → IsTrue (is_expanded job.next) →
-    outcome_of (effect_at w (marks_of (Next n)) job.next [] s t) ≡ next (Some w) job s t
+    outcome_of (effect_at w (PrimedVariables n) job.next [] s t) ≡ next (Some w) job s t
 next_is w n job s t is h =
-    ap (λ k. outcome_of (effect_at w (marks_of (Next k)) job.next [] s t)) is ∙ act_is w (marks_of (Next (constants job))) job.next s t h
+    ap (λ k. outcome_of (effect_at w (PrimedVariables k) job.next [] s t)) is ∙ act_is w (PrimedVariables (constants job)) job.next s t h
 
 -- ---- the start
 
 -- one effect, and the next where it holds
-abbrev chain : scopes.Effect → scopes.Effect → scopes.Effect
+abbrev chain : Effect → Effect → Effect
 chain f g = elim f.holds [ true ↦ behind f.fault g | false ↦ f ]
 
-chain_on : (f g : scopes.Effect) → f.holds ≡ true → chain f g ≡ behind f.fault g
-chain_on f g h = ap (λ (b : Bool). elim b as (λ _. scopes.Effect) [ true ↦ behind f.fault g | false ↦ f ]) h
+chain_on : (f g : Effect) → f.holds ≡ true → chain f g ≡ behind f.fault g
+chain_on f g h = ap (λ (b : Bool). elim b as (λ _. Effect) [ true ↦ behind f.fault g | false ↦ f ]) h
 
-chain_off : (f g : scopes.Effect) → f.holds ≡ false → chain f g ≡ f
-chain_off f g h = ap (λ (b : Bool). elim b as (λ _. scopes.Effect) [ true ↦ behind f.fault g | false ↦ f ]) h
+chain_off : (f g : Effect) → f.holds ≡ false → chain f g ≡ f
+chain_off f g h = ap (λ (b : Bool). elim b as (λ _. Effect) [ true ↦ behind f.fault g | false ↦ f ]) h
 
-chain_behind : (h : Fault) (f g : scopes.Effect) → behind h (chain f g) ≡ chain (behind h f) g
+chain_behind : (h : Fault) (f g : Effect) → behind h (chain f g) ≡ chain (behind h f) g
 chain_behind h f g = go f.holds refl
   where
     go : (b : Bool) → f.holds ≡ b → behind h (chain f g) ≡ chain (behind h f) g
     go true e = ap (behind h) (chain_on f g e) ∙ sym (behind_twice h f.fault g) ∙ sym (chain_on (behind h f) g e)
     go false e = ap (behind h) (chain_off f g e) ∙ sym (chain_off (behind h f) g e)
 
-chain_twice : (f g h : scopes.Effect) → chain f (chain g h) ≡ chain (chain f g) h
+chain_twice : (f g h : Effect) → chain f (chain g h) ≡ chain (chain f g) h
 chain_twice f g h = go f.holds refl
   where
     go : (b : Bool) → f.holds ≡ b → chain f (chain g h) ≡ chain (chain f g) h
     go true e = chain_on f (chain g h) e ∙ chain_behind f.fault g h ∙ ap (λ x. chain x h) (sym (chain_on f g e))
     go false e = chain_off f (chain g h) e ∙ sym (chain_off f h e) ∙ ap (λ x. chain x h) (sym (chain_off f g e))
 
-and_append : (fs gs : List scopes.Effect) → effects_and (fs ++ gs) ≡ chain (effects_and fs) (effects_and gs)
+and_append : (fs gs : List Effect) → effects_and (fs ++ gs) ≡ chain (effects_and fs) (effects_and gs)
 and_append [] gs = refl
 and_append (f ∷ fs) gs = ap (chain f) (and_append fs gs) ∙ chain_twice f (effects_and fs) (effects_and gs)
 
-and_one : (f : scopes.Effect) → effects_and (f ∷ []) ≡ f
+and_one : (f : Effect) → effects_and (f ∷ []) ≡ f
 and_one f = go f.holds refl
   where
     go : (b : Bool) → f.holds ≡ b → effects_and (f ∷ []) ≡ f
@@ -104,7 +104,7 @@ and_one f = go f.holds refl
     go false e = chain_off f (effects_and []) e
 
 module _ (w : ℕ) (s : State) where
-  abbrev assumed : Expr → scopes.Effect
+  abbrev assumed : Expr → Effect
   assumed e = effect_of (value_at w e [] s s)
 
   assumed_is : (e : Expr) → IsTrue (is_expanded e) → effect_of (val (Some w) e no_scope s s) ≡ assumed e
@@ -115,7 +115,7 @@ module _ (w : ℕ) (s : State) where
   all_assumed [] h = refl
   all_assumed (e ∷ es) h =
       let rest : Bool = list_all (λ b. b) (map is_expanded es) in
-      ap₂ (λ (x : scopes.Effect) (xs : List scopes.Effect). x ∷ xs) (assumed_is e (and_left (is_expanded e) rest h)) (all_assumed es (and_right (is_expanded e) rest h))
+      ap₂ (λ (x : Effect) (xs : List Effect). x ∷ xs) (assumed_is e (and_left (is_expanded e) rest h)) (all_assumed es (and_right (is_expanded e) rest h))
 
   by_operator : (o : Op) (e : Expr) (es : List Expr) → IsTrue (is_expanded e) → IsTrue (list_all (λ b. b) (map is_expanded es)) →
       map (λ e. effect_of (val (Some w) e no_scope s s)) (assumptions o e es) ≡ map assumed (assumptions o e es)
@@ -137,20 +137,20 @@ module _ (w : ℕ) (s : State) where
   one_assumption o e es h = sym (and_one (assumed e))
 
   module _ (job : Job) (n : ℕ) where
-    abbrev pub first : scopes.Effect
-    first = effect_at w (marks_of (CInit n)) job.cinit [] s s
+    abbrev pub first : Effect
+    first = effect_at w (Constants n) job.cinit [] s s
 
-    abbrev pub second : scopes.Effect
+    abbrev pub second : Effect
     second = effects_and (map assumed (assumptions (out-Expr job.assume).op job.assume (out-Expr job.assume).args))
 
-    abbrev pub third : scopes.Effect
-    third = effect_at w (marks_of (Init n)) job.init [] s s
+    abbrev pub third : Effect
+    third = effect_at w (Variables n) job.init [] s s
 
     start_chain : n ≡ constants job → IsTrue (is_expanded job.cinit) → IsTrue (is_expanded job.assume) → IsTrue (is_expanded job.init) →
         start (Some w) job s ≡ outcome_of (chain (chain first second) third)
     start_chain is c a i =
-        let one = effect_is w (marks_of (CInit n)) (in_cinit job) job.cinit s s c (ap (λ k. marks_of (CInit k)) is) in
-        let last = effect_is w (marks_of (Init n)) (in_init job) job.init s s i (ap (λ k. marks_of (Init k)) is) in
+        let one = effect_is w (Constants n) (in_cinit job) job.cinit s s c (ap (λ k. (Constants k)) is) in
+        let last = effect_is w (Variables n) (in_init job) job.init s s i (ap (λ k. (Variables k)) is) in
         ap (λ f. outcome_of (effects_and ((f ∷ assume_effects (Some w) job s) ++ (meaning (Some w) job.init no_scope).act (in_init job) s s ∷ []))) one
         ∙ ap (λ fs. outcome_of (effects_and ((first ∷ fs) ++ (meaning (Some w) job.init no_scope).act (in_init job) s s ∷ []))) (assumptions_are job.assume a)
         ∙ ap (λ f. outcome_of (effects_and ((first ∷ map assumed (assumptions (out-Expr job.assume).op job.assume (out-Expr job.assume).args)) ++ f ∷ []))) last
@@ -159,25 +159,25 @@ module _ (w : ℕ) (s : State) where
 
     module _ (is : n ≡ constants job) (c : IsTrue (is_expanded job.cinit)) (a : IsTrue (is_expanded job.assume)) (i : IsTrue (is_expanded job.init)) where
       -- CInit does not hold
-      pub stops_first : (f : scopes.Effect) → f ≡ first → f.holds ≡ false → outcome_of f ≡ start (Some w) job s
+      pub stops_first : (f : Effect) → f ≡ first → f.holds ≡ false → outcome_of f ≡ start (Some w) job s
       stops_first f e h =
-          let off : first.holds ≡ false = sym (ap (λ (x : scopes.Effect). x.holds) e) ∙ h in
+          let off : first.holds ≡ false = sym (ap (λ (x : Effect). x.holds) e) ∙ h in
           ap outcome_of (e ∙ sym (chain_off first third off) ∙ ap (λ x. chain x third) (sym (chain_off first second off))) ∙ sym (start_chain is c a i)
 
       -- an assumption does not hold
-      pub stops_second : (f g : scopes.Effect) → f ≡ first → f.holds ≡ true → g ≡ behind f.fault second → g.holds ≡ false →
+      pub stops_second : (f g : Effect) → f ≡ first → f.holds ≡ true → g ≡ behind f.fault second → g.holds ≡ false →
           outcome_of g ≡ start (Some w) job s
       stops_second f g e h k off =
-          let on : first.holds ≡ true = sym (ap (λ (x : scopes.Effect). x.holds) e) ∙ h in
-          let so_far : g ≡ chain first second = k ∙ ap (λ (x : scopes.Effect). behind x.fault second) e ∙ sym (chain_on first second on) in
+          let on : first.holds ≡ true = sym (ap (λ (x : Effect). x.holds) e) ∙ h in
+          let so_far : g ≡ chain first second = k ∙ ap (λ (x : Effect). behind x.fault second) e ∙ sym (chain_on first second on) in
           ap outcome_of (sym (chain_off g third off) ∙ ap (λ x. chain x third) so_far) ∙ sym (start_chain is c a i)
 
       -- all goes on up to Init
-      pub goes_on : (f g r : scopes.Effect) → f ≡ first → f.holds ≡ true → g ≡ behind f.fault second → g.holds ≡ true →
+      pub goes_on : (f g r : Effect) → f ≡ first → f.holds ≡ true → g ≡ behind f.fault second → g.holds ≡ true →
           r ≡ behind g.fault third → outcome_of r ≡ start (Some w) job s
       goes_on f g r e h k on last =
-          let on_first : first.holds ≡ true = sym (ap (λ (x : scopes.Effect). x.holds) e) ∙ h in
-          let so_far : g ≡ chain first second = k ∙ ap (λ (x : scopes.Effect). behind x.fault second) e ∙ sym (chain_on first second on_first) in
+          let on_first : first.holds ≡ true = sym (ap (λ (x : Effect). x.holds) e) ∙ h in
+          let so_far : g ≡ chain first second = k ∙ ap (λ (x : Effect). behind x.fault second) e ∙ sym (chain_on first second on_first) in
           ap outcome_of (last ∙ sym (chain_on g third on) ∙ ap (λ x. chain x third) so_far) ∙ sym (start_chain is c a i)
 
 -- ---- invariants

@@ -9,11 +9,11 @@ use Rattle.tla_meaning.specs.declared.job.State.{State}
 use Rattle.tla_meaning.specs.declared.op.Op.{Op}
 use Rattle.tla_meaning.specs.declared.outcome.Outcome.{Outcome}
 use Rattle.tla_meaning.specs.declared.place.Place.{Place}
-use Rattle.tla_meaning.specs.Actions.{node, sense_of}
+use Rattle.tla_meaning.specs.Actions.{node, denotation_of}
 use Rattle.tla_meaning.specs.Forms.{Formed}
-use Rattle.tla_meaning.specs.Meaning.{Meaning, forms, inner, kid, outcomes, outer, role, senses, view}
+use Rattle.tla_meaning.specs.Meaning.{Meaning, forms, inner, child, outcomes, outer, role, denotations, view}
 use Rattle.tla_meaning.specs.Numbers.{Width}
-use Rattle.tla_meaning.specs.Scopes.{Scope, Sense, nonsense}
+use Rattle.tla_meaning.specs.Scopes.{Scope, Denotation, absent}
 use Rattle.tla_evaluator.specs.Trees.{first_at, forms_at, form_at, is_expanded, lone, lone_node, outcomes_at, scope_at, stays, value_at}
 
 pub lone-out : (w : Width) (e : Expr) → lone w e ≡ lone_node w (map-Expr Expr Meaning (lone w) (out-Expr e))
@@ -22,20 +22,20 @@ lone-out w e = fold_out-Expr Meaning (lone_node w) e
 
 -- the sense of a node that stays
 pub sense_at : (w : Width) (e : Expr) (sc : Scope) (o : Op) → (out-Expr e).op ≡ o → IsTrue (stays o) →
-    lone w e sc ≡ sense_of w (out-Expr e).place o (length (out-Expr e).binds)
+    lone w e sc ≡ denotation_of w (out-Expr e).place o (length (out-Expr e).binds)
     (view (out-Expr e).place (role o (length (out-Expr e).binds)) (out-Expr e).binds (map (lone w) (out-Expr e).args) sc)
 sense_at w e sc o is h =
     let x : Expr-F Meaning = map-Expr Expr Meaning (lone w) (out-Expr e) in
     ap (λ (m : Meaning). m sc) (lone-out w e)
-    ∙ ap (λ (b : Bool). elim b as (λ _. Sense) [ true ↦ node w x sc | false ↦ nonsense x.place ]) (ap stays is ∙ h)
-    ∙ ap (λ (o : Op). sense_of w x.place o (length x.binds) (view x.place (role o (length x.binds)) x.binds x.args sc)) is
+    ∙ ap (λ (b : Bool). elim b as (λ _. Denotation) [ true ↦ node w x sc | false ↦ absent x.place ]) (ap stays is ∙ h)
+    ∙ ap (λ (o : Op). denotation_of w x.place o (length x.binds) (view x.place (role o (length x.binds)) x.binds x.args sc)) is
 
 -- the sense of every other node
-pub sense_gone : (w : Width) (e : Expr) (sc : Scope) → stays (out-Expr e).op ≡ false → lone w e sc ≡ nonsense (out-Expr e).place
+pub sense_gone : (w : Width) (e : Expr) (sc : Scope) → stays (out-Expr e).op ≡ false → lone w e sc ≡ absent (out-Expr e).place
 sense_gone w e sc h =
     let x : Expr-F Meaning = map-Expr Expr Meaning (lone w) (out-Expr e) in
     ap (λ (m : Meaning). m sc) (lone-out w e)
-    ∙ ap (λ (b : Bool). elim b as (λ _. Sense) [ true ↦ node w x sc | false ↦ nonsense x.place ]) h
+    ∙ ap (λ (b : Bool). elim b as (λ _. Denotation) [ true ↦ node w x sc | false ↦ absent x.place ]) h
 
 -- ---- expanded trees
 
@@ -53,16 +53,16 @@ expanded_then e es same h =
 
 -- ---- the children of a node
 
-pub outer_all : (p : Place) (ks : List Meaning) (sc : Scope) → outer p [] ks sc ≡ senses ks sc
+pub outer_all : (p : Place) (ks : List Meaning) (sc : Scope) → outer p [] ks sc ≡ denotations ks sc
 outer_all p [] sc = refl
-outer_all p (k ∷ ks) sc = ap (λ (as' : List Sense). k sc ∷ as') (outer_all p ks sc)
+outer_all p (k ∷ ks) sc = ap (λ (as' : List Denotation). k sc ∷ as') (outer_all p ks sc)
 
 -- those before a marked one
 pub outer_front : (p : Place) (n : ℕ) (ms : List Bool) (ks : List Meaning) (sc : Scope) →
-    take n (outer p (replicate n false ++ true ∷ ms) ks sc) ≡ senses (take n ks) sc
+    take n (outer p (replicate n false ++ true ∷ ms) ks sc) ≡ denotations (take n ks) sc
 outer_front p zero ms ks sc = refl
 outer_front p (suc n) ms [] sc = refl
-outer_front p (suc n) ms (k ∷ ks) sc = ap (λ (as' : List Sense). k sc ∷ as') (outer_front p n ms ks sc)
+outer_front p (suc n) ms (k ∷ ks) sc = ap (λ (as' : List Denotation). k sc ∷ as') (outer_front p n ms ks sc)
 
 -- those behind it
 pub outer_back : (p : Place) (n : ℕ) (ms : List Bool) (ks : List Meaning) (sc : Scope) →
@@ -80,12 +80,12 @@ inner_back p (suc n) ms [] sc = refl
 inner_back p (suc n) ms (k ∷ ks) sc = inner_back p n ms ks sc
 
 -- the marked one
-pub inner_kid : (p : Place) (n : ℕ) (ms : List Bool) (ks : List Meaning) (sc : Scope) →
-    kid p n (inner p (replicate n false ++ true ∷ ms) ks sc) ≡ kid p 0 (senses (drop n ks) sc)
-inner_kid p zero ms [] sc = refl
-inner_kid p zero ms (k ∷ ks) sc = refl
-inner_kid p (suc n) ms [] sc = refl
-inner_kid p (suc n) ms (k ∷ ks) sc = inner_kid p n ms ks sc
+pub inner_child : (p : Place) (n : ℕ) (ms : List Bool) (ks : List Meaning) (sc : Scope) →
+    child p n (inner p (replicate n false ++ true ∷ ms) ks sc) ≡ child p 0 (denotations (drop n ks) sc)
+inner_child p zero ms [] sc = refl
+inner_child p zero ms (k ∷ ks) sc = refl
+inner_child p (suc n) ms [] sc = refl
+inner_child p (suc n) ms (k ∷ ks) sc = inner_child p n ms ks sc
 
 pub take_map : {X Y : Type 0} (f : X → Y) (n : ℕ) (xs : List X) → take n (map f xs) ≡ map f (take n xs)
 take_map f zero xs = refl
@@ -98,8 +98,8 @@ drop_map f (suc n) [] = refl
 drop_map f (suc n) (x ∷ xs) = drop_map f n xs
 
 module _ (w : ℕ) (vars : List (List ℕ × Value)) (s t : State) where
-  abbrev pub given : List Expr → List Sense
-  given es = senses (map (lone (Some w)) es) (scope_at vars)
+  abbrev pub given : List Expr → List Denotation
+  given es = denotations (map (lone (Some w)) es) (scope_at vars)
 
   pub outcomes_given : (es : List Expr) → outcomes (given es) s t ≡ outcomes_at w es vars s t
   outcomes_given [] = refl
@@ -109,7 +109,7 @@ module _ (w : ℕ) (vars : List (List ℕ × Value)) (s t : State) where
   forms_given [] = refl
   forms_given (e ∷ es) = ap (λ (fs : List Formed). form_at w e vars s t ∷ fs) (forms_given es)
 
-  pub first_given : (p : Place) (es : List Expr) → (kid p 0 (given es)).value s t ≡ first_at w p es vars s t
+  pub first_given : (p : Place) (es : List Expr) → (child p 0 (given es)).value s t ≡ first_at w p es vars s t
   first_given p [] = refl
   first_given p (e ∷ es) = refl
 

@@ -1,40 +1,37 @@
 -- What the evaluation of an action answers, by the operator at the node.
 use Rattle.std.specs.Prelude.{ℕ, ◌||◌, List, [], ◌∷◌, ◌++◌, drop, length, take}
 use Rattle.tla_values.specs.declared.value.Value.{Value}
+use Rattle.tla_meaning.specs.declared.actions.Assigned.{Assigned}
+use Rattle.tla_meaning.specs.declared.actions.Effect.{Effect}
 use Rattle.tla_meaning.specs.declared.expr.Expr.{Expr}
 use Rattle.tla_meaning.specs.declared.job.State.{State}
 use Rattle.tla_meaning.specs.declared.outcome.Fault.{Fault}
 use Rattle.tla_meaning.specs.declared.outcome.Fault.TheVariants.{IsWrong}
 use Rattle.tla_meaning.specs.declared.place.Place.{Place}
 use Rattle.tla_meaning.specs.Actions.{exists_effect, fails_by}
-use Rattle.tla_meaning.specs.Outcomes.{both}
-use Rattle.tla_meaning.specs.Scopes.{Marks, bound_to}
-use Rattle.tla_meaning.specs.Scopes as scopes
-use Rattle.tla_evaluator.specs.declared.actions.Effect.{Effect}
+use Rattle.tla_meaning.specs.Outcomes.{join_faults}
+use Rattle.tla_meaning.specs.Scopes.{bound_to}
 use Rattle.tla_evaluator.specs.Trees.{effect_at, outcomes_at}
 
-abbrev pub as_effect : Effect → scopes.Effect
-as_effect f = record { holds = f.holds; fault = f.fault }
-
 -- an effect behind a fault that came before
-abbrev pub behind : Fault → scopes.Effect → scopes.Effect
-behind g f = record { holds = f.holds; fault = both g f.fault }
+abbrev pub behind : Fault → Effect → Effect
+behind g f = record { holds = f.holds; fault = join_faults g f.fault }
 
 -- one of two effects
-abbrev pub either : scopes.Effect → scopes.Effect → scopes.Effect
-either f g = record { holds = f.holds || g.holds; fault = both f.fault g.fault }
+abbrev pub either : Effect → Effect → Effect
+either f g = record { holds = f.holds || g.holds; fault = join_faults f.fault g.fault }
 
 -- the first of these trees, or Wrong where there is none
-abbrev pub first_effect : ℕ → Marks → Place → List Expr → List (List ℕ × Value) → State → State → scopes.Effect
+abbrev pub first_effect : ℕ → Assigned → Place → List Expr → List (List ℕ × Value) → State → State → Effect
 first_effect w m p [] vars s t = fails_by (IsWrong p)
 first_effect w m p (e ∷ es) vars s t = effect_at w m e vars s t
 
 -- the body where the names have these values
-abbrev pub body_effect : ℕ → Marks → Expr → List (List ℕ) → List (List ℕ × Value) → State → State → List Value → scopes.Effect
+abbrev pub body_effect : ℕ → Assigned → Expr → List (List ℕ) → List (List ℕ × Value) → State → State → List Value → Effect
 body_effect w m e xs vars s t c = effect_at w m e (vars ++ bound_to xs c) s t
 
 -- \E: the domains come first, and then the body over all members
-abbrev pub exists_at : ℕ → Marks → Place → List (List ℕ) → List Expr → List (List ℕ × Value) → State → State → scopes.Effect
+abbrev pub exists_at : ℕ → Assigned → Place → List (List ℕ) → List Expr → List (List ℕ × Value) → State → State → Effect
 exists_at w m p xs es vars s t =
     exists_effect p (outcomes_at w (take (length xs) es) vars s t)
     (λ c. first_effect w m p (drop (length xs) es) (vars ++ bound_to xs c) s t)

@@ -8,7 +8,8 @@ use Rattle.tla_meaning.specs.declared.op.Op.TheVariants as op
 use Rattle.tla_meaning.specs.declared.outcome.Outcome.{Outcome}
 use Rattle.tla_meaning.specs.declared.outcome.Outcome.TheVariants.{Wrong}
 use Rattle.tla_meaning.specs.declared.place.Place.{Place}
-use Rattle.tla_meaning.specs.Forms.{SetForm, belongs}
+use Rattle.tla_meaning.specs.declared.forms.SetForm.{SetForm}
+use Rattle.tla_meaning.specs.Forms.{belongs}
 use Rattle.tla_meaning.specs.Meaning.{Update, all_in, bound_table, conjoined, disjoined, first_updated, fold_over}
 use Rattle.tla_meaning.specs.Operators.{on_all_sets, yes_no}
 use Rattle.tla_meaning.specs.Outcomes.{strict, values}

@@ -4,29 +4,20 @@ ghost use Rattle.std.specs.Prelude.{◌≡◌, ◌≤◌, IfOk, drop, length, ma
 ghost use Rattle.tla_values.specs.Sets.{Normal};
 ghost use Rattle.tla_values.specs.declared.value.Value.{out-Value};
 ghost use Rattle.tla_meaning.specs.Actions.{case_effect, effect_of, effects_and, effects_or, fails_by, if_effect, is_true};
-ghost use Rattle.tla_evaluator.specs.Effects.{as_effect, body_effect, either, exists_at};
-ghost use Rattle.tla_evaluator.specs.Marks.{marks_of};
+ghost use Rattle.tla_evaluator.specs.Effects.{body_effect, either, exists_at};
 ghost use Rattle.tla_evaluator.specs.Trees.{AreNormal, effect_at, effects_at, outcomes_at, value_at};
 
 use crate::expressions::{operands, value};
-use crate::marks::{Marks, any_marked};
 use crate::names::with_bound;
-use crate::outcomes::{both, is_fault, truth};
+use crate::outcomes::{is_fault, join_faults, truth};
 use crate::sets::choices_of;
-use crate::trees::{after, front};
+use crate::trees::{after, any_mentions, front};
 use std::alloc::{AllocError, Global};
-use tla_meaning::{Expr, Fault, Op, Outcome, Place, State};
+use tla_meaning::{Assigned, Effect, Expr, Fault, Op, Outcome, Place, State};
 use tla_values::{List, Text, Value};
 
-/// Whether an action holds, and its fault.
-#[derive(Clone, Copy, Debug, Drop)]
-pub(crate) struct Effect {
-    pub(crate) holds: bool,
-    pub(crate) fault: Fault,
-}
-
 fn fails_by(fault: Fault) -> Effect
-    ensures { as_effect result ≡ fails_by fault }
+    ensures { result ≡ fails_by fault }
 {
     Effect {
         holds: false,
@@ -36,7 +27,7 @@ fn fails_by(fault: Fault) -> Effect
 
 // An action holds where its value is TRUE.
 pub(crate) fn effect_of(outcome: &Outcome) -> Effect
-    ensures { as_effect result ≡ effect_of outcome.now }
+    ensures { result ≡ effect_of outcome.now }
 {
     match outcome {
         Outcome::Val(v) => Effect {
@@ -58,11 +49,11 @@ fn is_true(v: &Value) -> bool
 }
 
 fn either(f: Effect, g: Effect) -> Effect
-    ensures { as_effect result ≡ either (as_effect f) (as_effect g) }
+    ensures { result ≡ either f g }
 {
     Effect {
         holds: f.holds || g.holds,
-        fault: both(f.fault, g.fault),
+        fault: join_faults(f.fault, g.fault),
     }
 }
 
@@ -78,7 +69,7 @@ pub(crate) fn by_value(
     requires narrow { width ≤ 64 }
     requires wide { 4 ≤ width }
     requires normal { AreNormal env.now s.now t.now }
-    ensures { IfOk result (λ f. as_effect f ≡ effect_of (value_at width e.now env.now s.now t.now)) }
+    ensures { IfOk result (λ f. f ≡ effect_of (value_at width e.now env.now s.now t.now)) }
 {
     let outcome = value(alloc, e, env, s, t, width)?;
     Ok(effect_of(&outcome))
@@ -86,7 +77,7 @@ pub(crate) fn by_value(
 
 // Nothing where there is no choice, and else a place that is Wrong.
 fn at_no_body(choices: &[List<Value>], place: Place) -> Effect
-    ensures { as_effect result ≡ effects_or (map (λ _. fails_by (Fault.IsWrong place)) choices.now) }
+    ensures { result ≡ effects_or (map (λ _. fails_by (Fault.IsWrong place)) choices.now) }
 {
     if choices.is_empty() {
         fails_by(Fault::NoFault)
@@ -100,7 +91,7 @@ fn at_no_body(choices: &[List<Value>], place: Place) -> Effect
 pub(crate) fn action(
     alloc: Global,
     e: &Expr,
-    marks: Marks,
+    assigned: Assigned,
     env: &[(Text, Value)],
     s: &State,
     t: &State,
@@ -109,25 +100,27 @@ pub(crate) fn action(
     requires narrow { width ≤ 64 }
     requires wide { 4 ≤ width }
     requires normal { AreNormal env.now s.now t.now }
-    ensures { IfOk result (λ f. as_effect f ≡ effect_at width (marks_of marks) e.now env.now s.now t.now) }
+    ensures { IfOk result (λ f. f ≡ effect_at width assigned e.now env.now s.now t.now) }
 {
     let args = e.args.as_slice();
     match &e.op {
-        Op::And => all_effects(alloc, args, marks, env, s, t, width),
+        Op::And => all_effects(alloc, args, assigned, env, s, t, width),
         Op::Exists => {
             let names = e.binds.as_slice();
-            exists_effect(alloc, args, names, e.place, marks, env, s, t, width)
+            exists_effect(alloc, args, names, e.place, assigned, env, s, t, width)
         }
         Op::Noted(_) => match args {
-            [child, ..] => action(alloc, child, marks, env, s, t, width),
+            [child, ..] => action(alloc, child, assigned, env, s, t, width),
             [] => Ok(fails_by(Fault::IsWrong(e.place))),
         },
-        Op::Or if any_marked(args, marks) => some_effect(alloc, args, marks, env, s, t, width),
-        Op::If if any_marked(args, marks) => {
-            if_effect(alloc, args, e.place, marks, env, s, t, width)
+        Op::Or if any_mentions(args, assigned) => some_effect(
+            alloc, args, assigned, env, s, t, width,
+        ),
+        Op::If if any_mentions(args, assigned) => {
+            if_effect(alloc, args, e.place, assigned, env, s, t, width)
         }
-        Op::Case(_) if any_marked(args, marks) => {
-            case_effect(alloc, args, e.place, marks, env, s, t, width)
+        Op::Case(_) if any_mentions(args, assigned) => {
+            case_effect(alloc, args, e.place, assigned, env, s, t, width)
         }
         _ => by_value(alloc, e, env, s, t, width),
     }
@@ -138,7 +131,7 @@ pub(crate) fn action(
 fn all_effects(
     alloc: Global,
     args: &[Expr],
-    marks: Marks,
+    assigned: Assigned,
     env: &[(Text, Value)],
     s: &State,
     t: &State,
@@ -147,12 +140,12 @@ fn all_effects(
     requires narrow { width ≤ 64 }
     requires wide { 4 ≤ width }
     requires normal { AreNormal env.now s.now t.now }
-    ensures { IfOk result (λ f. as_effect f ≡ effects_and (effects_at width (marks_of marks) args.now env.now s.now t.now)) }
+    ensures { IfOk result (λ f. f ≡ effects_and (effects_at width assigned args.now env.now s.now t.now)) }
 {
     let mut fault = Fault::NoFault;
     for e in args {
-        let one = action(alloc, e, marks, env, s, t, width)?;
-        fault = both(fault, one.fault);
+        let one = action(alloc, e, assigned, env, s, t, width)?;
+        fault = join_faults(fault, one.fault);
         if !one.holds {
             return Ok(fails_by(fault));
         }
@@ -165,7 +158,7 @@ fn all_effects(
 fn some_effect(
     alloc: Global,
     args: &[Expr],
-    marks: Marks,
+    assigned: Assigned,
     env: &[(Text, Value)],
     s: &State,
     t: &State,
@@ -174,11 +167,11 @@ fn some_effect(
     requires narrow { width ≤ 64 }
     requires wide { 4 ≤ width }
     requires normal { AreNormal env.now s.now t.now }
-    ensures { IfOk result (λ f. as_effect f ≡ effects_or (effects_at width (marks_of marks) args.now env.now s.now t.now)) }
+    ensures { IfOk result (λ f. f ≡ effects_or (effects_at width assigned args.now env.now s.now t.now)) }
 {
     let mut all = fails_by(Fault::NoFault);
     for e in args {
-        let one = action(alloc, e, marks, env, s, t, width)?;
+        let one = action(alloc, e, assigned, env, s, t, width)?;
         all = either(all, one);
     }
     Ok(all)
@@ -189,7 +182,7 @@ fn if_effect(
     alloc: Global,
     args: &[Expr],
     place: Place,
-    marks: Marks,
+    assigned: Assigned,
     env: &[(Text, Value)],
     s: &State,
     t: &State,
@@ -198,14 +191,14 @@ fn if_effect(
     requires narrow { width ≤ 64 }
     requires wide { 4 ≤ width }
     requires normal { AreNormal env.now s.now t.now }
-    ensures { IfOk result (λ f. as_effect f ≡ if_effect place (outcomes_at width args.now env.now s.now t.now) (effects_at width (marks_of marks) args.now env.now s.now t.now)) }
+    ensures { IfOk result (λ f. f ≡ if_effect place (outcomes_at width args.now env.now s.now t.now) (effects_at width assigned args.now env.now s.now t.now)) }
 {
     match args {
         [guard, yes, no] => {
             let outcome = value(alloc, guard, env, s, t, width)?;
             match truth(outcome, place) {
-                Ok(true) => action(alloc, yes, marks, env, s, t, width),
-                Ok(false) => action(alloc, no, marks, env, s, t, width),
+                Ok(true) => action(alloc, yes, assigned, env, s, t, width),
+                Ok(false) => action(alloc, no, assigned, env, s, t, width),
                 Err(fault) => Ok(effect_of(&fault)),
             }
         }
@@ -219,7 +212,7 @@ fn case_effect(
     alloc: Global,
     args: &[Expr],
     place: Place,
-    marks: Marks,
+    assigned: Assigned,
     env: &[(Text, Value)],
     s: &State,
     t: &State,
@@ -228,19 +221,19 @@ fn case_effect(
     requires narrow { width ≤ 64 }
     requires wide { 4 ≤ width }
     requires normal { AreNormal env.now s.now t.now }
-    ensures { IfOk result (λ f. as_effect f ≡ case_effect place (outcomes_at width args.now env.now s.now t.now) (effects_at width (marks_of marks) args.now env.now s.now t.now)) }
+    ensures { IfOk result (λ f. f ≡ case_effect place (outcomes_at width args.now env.now s.now t.now) (effects_at width assigned args.now env.now s.now t.now)) }
 {
     let mut i = 0;
     while i + 1 < args.len() {
         let outcome = value(alloc, &args[i], env, s, t, width)?;
         match truth(outcome, place) {
-            Ok(true) => return action(alloc, &args[i + 1], marks, env, s, t, width),
+            Ok(true) => return action(alloc, &args[i + 1], assigned, env, s, t, width),
             Ok(false) => i += 2,
             Err(fault) => return Ok(effect_of(&fault)),
         }
     }
     match args.get(i) {
-        Some(other) => action(alloc, other, marks, env, s, t, width),
+        Some(other) => action(alloc, other, assigned, env, s, t, width),
         None => Ok(fails_by(Fault::IsWrong(place))),
     }
 }
@@ -252,7 +245,7 @@ fn exists_effect(
     args: &[Expr],
     names: &[Text],
     place: Place,
-    marks: Marks,
+    assigned: Assigned,
     env: &[(Text, Value)],
     s: &State,
     t: &State,
@@ -261,7 +254,7 @@ fn exists_effect(
     requires narrow { width ≤ 64 }
     requires wide { 4 ≤ width }
     requires normal { AreNormal env.now s.now t.now }
-    ensures { IfOk result (λ f. as_effect f ≡ exists_at width (marks_of marks) place names.now args.now env.now s.now t.now) }
+    ensures { IfOk result (λ f. f ≡ exists_at width assigned place names.now args.now env.now s.now t.now) }
 {
     let domains = operands(alloc, front(args, names.len()), env, s, t, width)?;
     if is_fault(domains.fault) {
@@ -271,7 +264,7 @@ fn exists_effect(
         Some(choices) => match after(args, names.len()) {
             [body, ..] => {
                 let choices = choices.as_slice();
-                body_effects(alloc, body, names, choices, marks, env, s, t, width)
+                body_effects(alloc, body, names, choices, assigned, env, s, t, width)
             }
             [] => Ok(at_no_body(choices.as_slice(), place)),
         },
@@ -286,7 +279,7 @@ fn body_effects(
     body: &Expr,
     names: &[Text],
     choices: &[List<Value>],
-    marks: Marks,
+    assigned: Assigned,
     env: &[(Text, Value)],
     s: &State,
     t: &State,
@@ -296,12 +289,12 @@ fn body_effects(
     requires wide { 4 ≤ width }
     requires normal { AreNormal env.now s.now t.now }
     requires choices { All (λ c. All Normal c) choices.now }
-    ensures { IfOk result (λ f. as_effect f ≡ effects_or (map (body_effect width (marks_of marks) body.now names.now env.now s.now t.now) choices.now)) }
+    ensures { IfOk result (λ f. f ≡ effects_or (map (body_effect width assigned body.now names.now env.now s.now t.now) choices.now)) }
 {
     let mut all = fails_by(Fault::NoFault);
     for choice in choices {
         let bound = with_bound(alloc, env, names, choice.as_slice())?;
-        let one = action(alloc, body, marks, bound.as_slice(), s, t, width)?;
+        let one = action(alloc, body, assigned, bound.as_slice(), s, t, width)?;
         all = either(all, one);
     }
     Ok(all)

@@ -5,28 +5,28 @@ ghost use denote.Param.Weighed.{most};
 ghost use Rattle.std.specs.List.{All};
 ghost use Rattle.tla_values.specs.Sets.{Normal};
 ghost use Rattle.tla_meaning.specs.declared.expr.Expr.{Expr as Tree, out-Expr};
-ghost use Rattle.tla_meaning.specs.Forms.{Sequences, Subsets, form_faults, results};
+ghost use Rattle.tla_meaning.specs.Forms.{form_faults, made, results};
+ghost use Rattle.tla_meaning.specs.declared.forms.SetForm.TheVariants.{Sequences, Subsets};
 ghost use Rattle.tla_meaning.specs.Meaning.{Update, case_chosen, choose, folded, form_of_one, function_form, if_chosen, implied, in_form, updated};
 ghost use Rattle.tla_meaning.specs.Operators.{table, yes_no};
 ghost use Rattle.tla_meaning.specs.Outcomes.{joined, strict, values};
 ghost use Rattle.tla_meaning.specs.Scopes.{bound_to};
-ghost use Rattle.tla_evaluator.specs.SetRules.{form_of, formed_of, forms_in};
+ghost use Rattle.tla_evaluator.specs.SetRules.{formed_of};
 ghost use Rattle.tla_evaluator.specs.Nodes.{bodies_at, bound_at, except_at, fold_at, index_trees, junction, membership_test, paths_at, update_at, updates_at};
 ghost use Rattle.tla_evaluator.specs.Trees.{AreNormal, first_at, form_at, forms_at, outcomes_at, value_at};
 
 use crate::binders::{bound_table, choices_of};
 use crate::excepts::{Reached, at_path, set_path};
-use crate::forms::SetRule;
 use crate::logic::yes_no;
 use crate::memberships::{self, FormOutcome, JoinedForms, join_form};
 use crate::names::{copy_names, read_bound, read_name, with_bound};
 use crate::numbers::number;
 use crate::operands::value_and_items;
 use crate::operators::table;
-use crate::outcomes::{Joined, both, fault_of, is_fault, join, nothing, truth, unless};
+use crate::outcomes::{Joined, fault_of, fault_or, is_fault, join, join_faults, nothing, truth};
 use crate::trees::{after, front, stays};
 use std::alloc::{AllocError, Global};
-use tla_meaning::{Expr, Fault, Op, Outcome, Place, State};
+use tla_meaning::{Expr, Fault, Op, Outcome, Place, SetForm, State};
 use tla_values::{List, Text, Value, copy_text, copy_value};
 
 // The outcome of a tree, where bound names have values.
@@ -171,7 +171,7 @@ fn joined_operands(
 {
     let all = operands(alloc, e.args.as_slice(), env, s, t, width)?;
     if is_fault(all.fault) {
-        return Ok(unless(all.fault, Outcome::Wrong(e.place)));
+        return Ok(fault_or(all.fault, Outcome::Wrong(e.place)));
     }
     table(alloc, &e.op, e.place, all.values, width)
 }
@@ -344,7 +344,7 @@ fn binder(
     let args = e.args.as_slice();
     let domains = operands(alloc, front(args, names.len()), env, s, t, width)?;
     if is_fault(domains.fault) {
-        return Ok(unless(domains.fault, Outcome::Wrong(e.place)));
+        return Ok(fault_or(domains.fault, Outcome::Wrong(e.place)));
     }
     match choices_of(alloc, domains.values.as_slice())? {
         Some(choices) => {
@@ -360,7 +360,7 @@ fn binder(
                 width,
             )?;
             let outcome = bound_table(alloc, &e.op, e.place, choices.as_slice(), all.values)?;
-            Ok(unless(all.fault, outcome))
+            Ok(fault_or(all.fault, outcome))
         }
         None => Ok(Outcome::Wrong(e.place)),
     }
@@ -424,9 +424,9 @@ fn except(
         [function, rest @ ..] => {
             let outcome = value(alloc, function, env, s, t, width)?;
             let found = indexes(alloc, rest, counts, env, s, t, width)?;
-            let fault = both(fault_of(&outcome), found.fault);
+            let fault = join_faults(fault_of(&outcome), found.fault);
             if is_fault(fault) {
-                return Ok(unless(fault, Outcome::Wrong(e.place)));
+                return Ok(fault_or(fault, Outcome::Wrong(e.place)));
             }
             match outcome {
                 Outcome::Val(v) => updated(alloc, e, found.paths.as_slice(), v, env, s, t, width),
@@ -466,7 +466,7 @@ fn indexes(
     let mut rest = trees;
     for n in counts {
         let part = operands(alloc, front(rest, *n), env, s, t, width)?;
-        fault = both(fault, part.fault);
+        fault = join_faults(fault, part.fault);
         paths.push((*n, List::from_vec(part.values)))?;
         rest = after(after(rest, *n), 1);
     }
@@ -576,7 +576,7 @@ fn fold(
 {
     let all = operands(alloc, after(e.args.as_slice(), 1), env, s, t, width)?;
     if is_fault(all.fault) {
-        return Ok(unless(all.fault, Outcome::Wrong(e.place)));
+        return Ok(fault_or(all.fault, Outcome::Wrong(e.place)));
     }
     match value_and_items(all.values) {
         Some((start, items)) => folded(alloc, e, start, items.as_slice(), env, s, t, width),
@@ -658,9 +658,9 @@ fn form(
     ensures { IfOk result (λ f. formed_of f ≡ form_at width e.now env.now s.now t.now) }
 {
     match &e.op {
-        Op::IntSet => Ok(FormOutcome::Made(SetRule::AllInts)),
-        Op::NatSet => Ok(FormOutcome::Made(SetRule::AllNats)),
-        Op::StringSet => Ok(FormOutcome::Made(SetRule::AllTexts)),
+        Op::IntSet => Ok(FormOutcome::Made(SetForm::AllInts)),
+        Op::NatSet => Ok(FormOutcome::Made(SetForm::AllNats)),
+        Op::StringSet => Ok(FormOutcome::Made(SetForm::AllTexts)),
         Op::SeqSet => one_form(alloc, e, env, s, t, width),
         Op::Powerset => one_form(alloc, e, env, s, t, width),
         Op::FunSet => function_set(alloc, e, env, s, t, width),
@@ -753,7 +753,7 @@ fn forms(
     requires wide { 4 ≤ width }
     requires normal { AreNormal env.now s.now t.now }
     ensures fault { IfOk result (λ j. j.fault ≡ form_faults (forms_at width trees.now env.now s.now t.now)) }
-    ensures forms { IfOk result (λ j. map form_of j.forms.items ≡ forms_in (forms_at width trees.now env.now s.now t.now)) }
+    ensures forms { IfOk result (λ j. j.forms.items ≡ made (forms_at width trees.now env.now s.now t.now)) }
 {
     let mut all = memberships::nothing(alloc);
     for e in trees {

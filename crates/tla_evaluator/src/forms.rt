@@ -6,135 +6,83 @@ ghost use Rattle.tla_values.specs.Sets.{apply, arguments, member};
 ghost use Rattle.tla_values.specs.declared.value.Value.{out-Value};
 ghost use Rattle.tla_meaning.specs.Forms.{all_belong, belongs, fields_at, has_fields, is_natural, is_number, is_set, is_set_form, is_text, passes, results, same_set};
 ghost use Rattle.tla_meaning.specs.Shapes.{items_of};
-ghost use Rattle.tla_evaluator.specs.SetRules.{form_of, forms_of};
 
 use crate::operands::is_sequence;
+use tla_meaning::SetForm;
 use tla_values::{List, Text, Value, same_value};
-
-/// A set form: a set, or one of those that are described by what belongs to them (Specifying Systems, section 16.1).
-#[derive(Drop)]
-pub enum SetRule {
-    /// A value, which is to be a set.
-    Plain(Value),
-    /// `Int`.
-    AllInts,
-    /// `Nat`.
-    AllNats,
-    /// `STRING`.
-    AllTexts,
-    /// `Seq(F)`.
-    Sequences(Box<SetRule>),
-    /// `[S -> F]`.
-    Functions(List<Value>, Box<SetRule>),
-    /// `SUBSET F`.
-    Subsets(Box<SetRule>),
-    /// `[a: F, b: G]`.
-    Records(List<Text>, List<SetRule>),
-    /// `F \X G`.
-    Tuples(List<SetRule>),
-}
 
 /// Whether the value belongs to the form. Takes no memory.
 #[cycle(belongs)]
-pub fn belongs(form: &SetRule, v: &Value) -> bool
-    ensures { result ≡ belongs (form_of form.now) v.now }
+pub fn belongs(form: &SetForm, v: &Value) -> bool
+    ensures { result ≡ belongs form.now v.now }
 {
     match form {
-        SetRule::Plain(s) => match s {
-            Value::Set(members) => is_member(v, members),
+        SetForm::Plain(s) => match s {
+            Value::Set(members) => is_among(v, members.as_slice()),
             _ => false,
         },
-        SetRule::AllInts => is_number(v),
-        SetRule::AllNats => is_natural(v),
-        SetRule::AllTexts => is_text(v),
-        SetRule::Sequences(items) => match v {
-            Value::Fun(pairs) => sequence_belongs(items, pairs),
+        SetForm::AllInts => is_number(v),
+        SetForm::AllNats => is_natural(v),
+        SetForm::AllTexts => is_text(v),
+        SetForm::Sequences(items) => match v {
+            Value::Fun(pairs) => sequence_belongs(items.get(), pairs),
             _ => false,
         },
-        SetRule::Functions(arguments, items) => match v {
-            Value::Fun(pairs) => function_belongs(items, arguments, pairs),
+        SetForm::Functions(arguments, items) => match v {
+            Value::Fun(pairs) => function_belongs(items.get(), arguments, pairs),
             _ => false,
         },
-        SetRule::Subsets(items) => match v {
-            Value::Set(members) => subset_belongs(items, members),
+        SetForm::Subsets(items) => match v {
+            Value::Set(members) => all_belong(items.get(), members.as_slice()),
             _ => false,
         },
-        SetRule::Records(names, forms) => match v {
+        SetForm::Records(names, forms) => match v {
             Value::Fun(pairs) => record_belongs(forms, names, pairs),
             _ => false,
         },
-        SetRule::Tuples(forms) => match v {
+        SetForm::Tuples(forms) => match v {
             Value::Fun(pairs) => tuple_belongs(forms, pairs),
             _ => false,
         },
     }
 }
 
-fn is_member(v: &Value, members: &List<Value>) -> bool
-    ensures { result ≡ member v.now members.now }
-{
-    is_among(v, members.as_slice())
-}
-
 #[cycle(belongs)]
-fn sequence_belongs(form: &SetRule, pairs: &List<(Value, Value)>) -> bool
-    ensures { result ≡ passes (list_all (belongs (form_of form.now))) (items_of pairs.now) }
+fn sequence_belongs(form: &SetForm, pairs: &List<(Value, Value)>) -> bool
+    ensures { result ≡ passes (list_all (belongs form.now)) (items_of pairs.now) }
 {
     is_sequence(pairs.as_slice()) && all_results_belong(form, pairs.as_slice())
 }
 
 #[cycle(belongs)]
-fn function_belongs(form: &SetRule, items: &List<Value>, pairs: &List<(Value, Value)>) -> bool
-    ensures { result ≡ (same_set items.now (arguments pairs.now) && list_all (belongs (form_of form.now)) (results pairs.now)) }
+fn function_belongs(form: &SetForm, items: &List<Value>, pairs: &List<(Value, Value)>) -> bool
+    ensures { result ≡ (same_set items.now (arguments pairs.now) && list_all (belongs form.now) (results pairs.now)) }
 {
     same_arguments(items.as_slice(), pairs.as_slice()) && all_results_belong(form, pairs.as_slice())
 }
 
 #[cycle(belongs)]
-fn subset_belongs(form: &SetRule, members: &List<Value>) -> bool
-    ensures { result ≡ list_all (belongs (form_of form.now)) members.now }
-{
-    all_belong(form, members.as_slice())
-}
-
-#[cycle(belongs)]
-fn record_belongs(forms: &List<SetRule>, names: &List<Text>, pairs: &List<(Value, Value)>) -> bool
-    ensures { result ≡ (has_fields names.now pairs.now && all_belong (forms_of (map form_of forms.now)) (fields_at names.now pairs.now)) }
+fn record_belongs(forms: &List<SetForm>, names: &List<Text>, pairs: &List<(Value, Value)>) -> bool
+    ensures { result ≡ (has_fields names.now pairs.now && all_belong forms.now (fields_at names.now pairs.now)) }
 {
     same_fields(names.as_slice(), pairs.as_slice())
         && fields_belong(forms.as_slice(), names.as_slice(), pairs.as_slice())
 }
 
 #[cycle(belongs)]
-fn tuple_belongs(forms: &List<SetRule>, pairs: &List<(Value, Value)>) -> bool
-    ensures { result ≡ passes (all_belong (forms_of (map form_of forms.now))) (items_of pairs.now) }
+fn tuple_belongs(forms: &List<SetForm>, pairs: &List<(Value, Value)>) -> bool
+    ensures { result ≡ passes (all_belong forms.now) (items_of pairs.now) }
 {
     is_sequence(pairs.as_slice()) && items_belong(forms.as_slice(), pairs.as_slice())
 }
 
 /// Whether the form is a set or described by what belongs to it. Takes no memory.
-pub fn is_set_form(form: &SetRule) -> bool
-    ensures { result ≡ is_set_form (form_of form.now) }
+pub fn is_set_form(form: &SetForm) -> bool
+    ensures { result ≡ is_set_form form.now }
 {
     match form {
-        SetRule::Plain(v) => is_set(v),
-        SetRule::AllInts => true,
-        SetRule::AllNats => true,
-        SetRule::AllTexts => true,
-        SetRule::Sequences(_) => true,
-        SetRule::Functions(_, _) => true,
-        SetRule::Subsets(_) => true,
-        SetRule::Records(_, _) => true,
-        SetRule::Tuples(_) => true,
-    }
-}
-
-fn is_set(v: &Value) -> bool
-    ensures { result ≡ is_set (out-Value v.now) }
-{
-    match v {
-        Value::Set(_) => true,
-        _ => false,
+        SetForm::Plain(v) => matches!(v, Value::Set(_)),
+        _ => true,
     }
 }
 
@@ -198,12 +146,7 @@ fn same_arguments(items: &[Value], pairs: &[(Value, Value)]) -> bool
 fn all_are_arguments(items: &[Value], pairs: &[(Value, Value)]) -> bool
     ensures { result ≡ list_all (λ x. member x (arguments pairs.now)) items.now }
 {
-    for item in items {
-        if !is_argument(item, pairs) {
-            return false;
-        }
-    }
-    true
+    items.iter().all(|item| is_argument(item, pairs))
 }
 
 fn all_arguments_among(pairs: &[(Value, Value)], items: &[Value]) -> bool
@@ -219,8 +162,8 @@ fn all_arguments_among(pairs: &[(Value, Value)], items: &[Value]) -> bool
 
 /// Whether each of the values belongs to the form. Takes no memory.
 #[cycle(belongs)]
-pub fn all_belong(form: &SetRule, values: &[Value]) -> bool
-    ensures { result ≡ list_all (belongs (form_of form.now)) values.now }
+pub fn all_belong(form: &SetForm, values: &[Value]) -> bool
+    ensures { result ≡ list_all (belongs form.now) values.now }
 {
     for v in values {
         if !belongs(form, v) {
@@ -231,8 +174,8 @@ pub fn all_belong(form: &SetRule, values: &[Value]) -> bool
 }
 
 #[cycle(belongs)]
-fn all_results_belong(form: &SetRule, pairs: &[(Value, Value)]) -> bool
-    ensures { result ≡ list_all (belongs (form_of form.now)) (results pairs.now) }
+fn all_results_belong(form: &SetForm, pairs: &[(Value, Value)]) -> bool
+    ensures { result ≡ list_all (belongs form.now) (results pairs.now) }
 {
     for (_, v) in pairs {
         if !belongs(form, v) {
@@ -316,8 +259,8 @@ fn field_of<'a>(name: &Text, pairs: &'a [(Value, Value)]) -> Option<&'a Value>
 }
 
 #[cycle(belongs)]
-fn fields_belong(forms: &[SetRule], names: &[Text], pairs: &[(Value, Value)]) -> bool
-    ensures { result ≡ all_belong (forms_of (map form_of forms.now)) (fields_at names.now pairs.now) }
+fn fields_belong(forms: &[SetForm], names: &[Text], pairs: &[(Value, Value)]) -> bool
+    ensures { result ≡ all_belong forms.now (fields_at names.now pairs.now) }
 {
     let mut place = 0;
     for name in names {
@@ -332,8 +275,8 @@ fn fields_belong(forms: &[SetRule], names: &[Text], pairs: &[(Value, Value)]) ->
 }
 
 #[cycle(belongs)]
-fn items_belong(forms: &[SetRule], pairs: &[(Value, Value)]) -> bool
-    ensures { result ≡ all_belong (forms_of (map form_of forms.now)) (results pairs.now) }
+fn items_belong(forms: &[SetForm], pairs: &[(Value, Value)]) -> bool
+    ensures { result ≡ all_belong forms.now (results pairs.now) }
 {
     if forms.len() != pairs.len() {
         return false;

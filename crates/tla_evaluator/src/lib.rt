@@ -8,7 +8,6 @@ mod expressions;
 mod forms;
 mod functions;
 mod logic;
-mod marks;
 mod memberships;
 mod names;
 mod numbers;
@@ -23,7 +22,7 @@ mod tests;
 mod tops;
 mod trees;
 
-pub use forms::{SetRule, all_belong, belongs, is_set_form};
+pub use forms::{all_belong, belongs, is_set_form};
 pub use operators::table;
 pub use tops::{act, eval, invariant, next, start};
 pub use trees::is_expanded;

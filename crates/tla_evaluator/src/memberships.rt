@@ -1,24 +1,25 @@
 // Set forms that may have a fault, and what stands on both sides of a membership.
 ghost use Rattle.std.specs.Prelude.{◌≡◌, ◌∷◌, ◌++◌, [], IfOk, List as Items, MatchResult, OnOk, length, map, not, option_and_then};
 ghost use Rattle.tla_values.specs.declared.value.Value.{Value as Member};
-ghost use Rattle.tla_meaning.specs.Forms.{Broken, Formed, Made, Functions, Records, Sequences, SetForm, SetForms, Subsets, Tuples, all_set_forms, belongs, form_fault, form_faults};
+ghost use Rattle.tla_meaning.specs.Forms.{Broken, Formed, Made, all_set_forms, belongs, form_fault, form_faults, made};
+ghost use Rattle.tla_meaning.specs.declared.forms.SetForm.TheVariants.{Functions, Records, Sequences, Subsets, Tuples};
 ghost use Rattle.tla_meaning.specs.Meaning.{all_in, form_of_all, form_of_one, function_form, in_form, layer_of, plain};
-ghost use Rattle.tla_meaning.specs.Outcomes.{both, fault_of};
+ghost use Rattle.tla_meaning.specs.Outcomes.{fault_of, join_faults};
 ghost use Rattle.tla_meaning.specs.Shapes.{set_items};
 ghost use Rattle.tla_evaluator.specs.Nodes.{membership_test};
-ghost use Rattle.tla_evaluator.specs.SetRules.{fault_or_wrong, form_of, formed_of, forms_in, forms_of};
+ghost use Rattle.tla_evaluator.specs.SetRules.{fault_or_wrong, formed_of};
 
-use crate::forms::{SetRule, all_belong, belongs, is_set_form};
+use crate::forms::{all_belong, belongs, is_set_form};
 use crate::logic::yes_no;
-use crate::outcomes::{both, fault_of};
+use crate::outcomes::{fault_of, join_faults};
 use std::alloc::{AllocError, Global};
-use tla_meaning::{Fault, Op, Outcome, Place};
-use tla_values::{List, Text, Value};
+use tla_meaning::{Fault, Op, Outcome, Place, SetForm};
+use tla_values::{Boxed, List, Text, Value};
 
 // A set form, or a fault on the way to it.
 #[derive(Drop)]
 pub(crate) enum FormOutcome {
-    Made(SetRule),
+    Made(SetForm),
     Broken(Fault),
 }
 
@@ -26,7 +27,7 @@ pub(crate) enum FormOutcome {
 #[derive(Drop)]
 pub(crate) struct JoinedForms {
     pub(crate) fault: Fault,
-    pub(crate) forms: Vec<SetRule>,
+    pub(crate) forms: Vec<SetForm>,
 }
 
 pub(crate) fn nothing(alloc: Global) -> JoinedForms
@@ -41,9 +42,9 @@ pub(crate) fn nothing(alloc: Global) -> JoinedForms
 
 // One more form.
 pub(crate) fn join_form(joined: &mut JoinedForms, form: FormOutcome) -> Result<(), AllocError>
-    ensures fault { OnOk result (joined.new.fault ≡ both joined.old.fault (form_fault (formed_of form))) }
+    ensures fault { OnOk result (joined.new.fault ≡ join_faults joined.old.fault (form_fault (formed_of form))) }
     ensures forms { OnOk result
-        (map form_of joined.new.forms.items ≡ map form_of joined.old.forms.items ++ forms_in (formed_of form ∷ [])) }
+        (joined.new.forms.items ≡ joined.old.forms.items ++ made (formed_of form ∷ [])) }
 {
     match form {
         FormOutcome::Made(rule) => {
@@ -51,7 +52,7 @@ pub(crate) fn join_form(joined: &mut JoinedForms, form: FormOutcome) -> Result<(
             Ok(())
         }
         FormOutcome::Broken(fault) => {
-            joined.fault = both(joined.fault, fault);
+            joined.fault = join_faults(joined.fault, fault);
             Ok(())
         }
     }
@@ -62,7 +63,7 @@ pub(crate) fn plain(outcome: Outcome) -> FormOutcome
     ensures { formed_of result ≡ plain outcome }
 {
     match outcome {
-        Outcome::Val(v) => FormOutcome::Made(SetRule::Plain(v)),
+        Outcome::Val(v) => FormOutcome::Made(SetForm::Plain(v)),
         Outcome::Wrong(p) => FormOutcome::Broken(Fault::IsWrong(p)),
         Outcome::Big(p) => FormOutcome::Broken(Fault::IsBig(p)),
     }
@@ -95,14 +96,14 @@ pub(crate) fn sides(
     outcome: Outcome,
     form: FormOutcome,
     place: Place,
-) -> Result<(Value, SetRule), Outcome>
+) -> Result<(Value, SetForm), Outcome>
     ensures { MatchResult result
         (λ s. (test : Member → SetForm → Outcome) (os : Items Outcome) (d : Formed) →
-        in_form place test (outcome ∷ os) (d ∷ formed_of form ∷ []) ≡ test s.0 (form_of s.1))
+        in_form place test (outcome ∷ os) (d ∷ formed_of form ∷ []) ≡ test s.0 s.1)
         (λ o. (test : Member → SetForm → Outcome) (os : Items Outcome) (d : Formed) →
         in_form place test (outcome ∷ os) (d ∷ formed_of form ∷ []) ≡ o) }
 {
-    let fault = both(fault_of(&outcome), form_fault(&form));
+    let fault = join_faults(fault_of(&outcome), form_fault(&form));
     match outcome {
         Outcome::Val(v) => match form {
             FormOutcome::Made(rule) => {
@@ -129,8 +130,8 @@ pub(crate) fn tested(op: &Op, outcome: Outcome, form: FormOutcome, place: Place)
     }
 }
 
-fn test(op: &Op, v: &Value, rule: &SetRule, place: Place) -> Outcome
-    ensures { result ≡ membership_test op.now place v.now (form_of rule.now) }
+fn test(op: &Op, v: &Value, rule: &SetForm, place: Place) -> Outcome
+    ensures { result ≡ membership_test op.now place v.now rule.now }
 {
     match op {
         Op::In => yes_no(belongs(rule, v)),
@@ -141,8 +142,8 @@ fn test(op: &Op, v: &Value, rule: &SetRule, place: Place) -> Outcome
 }
 
 // Whether each member of a set belongs to the form.
-fn all_in(v: &Value, rule: &SetRule, place: Place) -> Outcome
-    ensures { result ≡ all_in place v.now (form_of rule.now) }
+fn all_in(v: &Value, rule: &SetForm, place: Place) -> Outcome
+    ensures { result ≡ all_in place v.now rule.now }
 {
     match v {
         Value::Set(members) => yes_no(all_belong(rule, members.as_slice())),
@@ -153,9 +154,9 @@ fn all_in(v: &Value, rule: &SetRule, place: Place) -> Outcome
 // ---- forms of forms
 
 // A form that is a set form, or the fault that stands in its place.
-fn set_rule(form: FormOutcome, place: Place) -> Result<SetRule, Fault>
+fn set_rule(form: FormOutcome, place: Place) -> Result<SetForm, Fault>
     ensures { MatchResult result
-        (λ r. (make : SetForm → SetForm) → form_of_one place make (formed_of form ∷ []) ≡ Made (make (form_of r)))
+        (λ r. (make : SetForm → SetForm) → form_of_one place make (formed_of form ∷ []) ≡ Made (make r))
         (λ g. (make : SetForm → SetForm) → form_of_one place make (formed_of form ∷ []) ≡ Broken g) }
 {
     match form {
@@ -180,8 +181,8 @@ pub(crate) fn sequences_of(
 {
     match set_rule(form, place) {
         Ok(rule) => {
-            let items = Box::new(alloc, rule)?;
-            Ok(FormOutcome::Made(SetRule::Sequences(items)))
+            let items = Boxed::new(alloc, rule)?;
+            Ok(FormOutcome::Made(SetForm::Sequences(items)))
         }
         Err(fault) => Ok(FormOutcome::Broken(fault)),
     }
@@ -197,8 +198,8 @@ pub(crate) fn subsets_of(
 {
     match set_rule(form, place) {
         Ok(rule) => {
-            let items = Box::new(alloc, rule)?;
-            Ok(FormOutcome::Made(SetRule::Subsets(items)))
+            let items = Boxed::new(alloc, rule)?;
+            Ok(FormOutcome::Made(SetForm::Subsets(items)))
         }
         Err(fault) => Ok(FormOutcome::Broken(fault)),
     }
@@ -215,15 +216,15 @@ pub(crate) fn functions_of(
 {
     match set_rule(form, place) {
         Ok(rule) => {
-            let results = Box::new(alloc, rule)?;
-            Ok(FormOutcome::Made(SetRule::Functions(items, results)))
+            let results = Boxed::new(alloc, rule)?;
+            Ok(FormOutcome::Made(SetForm::Functions(items, results)))
         }
         Err(fault) => Ok(FormOutcome::Broken(fault)),
     }
 }
 
-fn all_set_rules(rules: &[SetRule]) -> bool
-    ensures { result ≡ all_set_forms (forms_of (map form_of rules.now)) }
+fn all_set_rules(rules: &[SetForm]) -> bool
+    ensures { result ≡ all_set_forms rules.now }
 {
     for rule in rules {
         if !is_set_form(rule) {
@@ -234,13 +235,13 @@ fn all_set_rules(rules: &[SetRule]) -> bool
 }
 
 // The forms, where each is a set form, or the fault that stands in their place.
-fn set_rules(joined: JoinedForms, place: Place) -> Result<Vec<SetRule>, Fault>
+fn set_rules(joined: JoinedForms, place: Place) -> Result<Vec<SetForm>, Fault>
     ensures { MatchResult result
-        (λ rs. (fs : Items Formed) (make : SetForms → SetForm) →
-        joined.fault ≡ form_faults fs → map form_of joined.forms.items ≡ forms_in fs →
-        form_of_all place make fs ≡ Made (make (forms_of (map form_of rs.items))))
-        (λ g. (fs : Items Formed) (make : SetForms → SetForm) →
-        joined.fault ≡ form_faults fs → map form_of joined.forms.items ≡ forms_in fs →
+        (λ rs. (fs : Items Formed) (make : Items SetForm → SetForm) →
+        joined.fault ≡ form_faults fs → joined.forms.items ≡ made fs →
+        form_of_all place make fs ≡ Made (make rs.items))
+        (λ g. (fs : Items Formed) (make : Items SetForm → SetForm) →
+        joined.fault ≡ form_faults fs → joined.forms.items ≡ made fs →
         form_of_all place make fs ≡ Broken g) }
 {
     match joined.fault {
@@ -257,22 +258,22 @@ fn set_rules(joined: JoinedForms, place: Place) -> Result<Vec<SetRule>, Fault>
 
 // `[a: F, b: G]`.
 pub(crate) fn records_of(names: List<Text>, joined: JoinedForms, place: Place) -> FormOutcome
-    ensures { (fs : Items Formed) → joined.fault ≡ form_faults fs → map form_of joined.forms.items ≡ forms_in fs →
+    ensures { (fs : Items Formed) → joined.fault ≡ form_faults fs → joined.forms.items ≡ made fs →
         formed_of result ≡ form_of_all place (Records names) fs }
 {
     match set_rules(joined, place) {
-        Ok(rules) => FormOutcome::Made(SetRule::Records(names, List::from_vec(rules))),
+        Ok(rules) => FormOutcome::Made(SetForm::Records(names, List::from_vec(rules))),
         Err(fault) => FormOutcome::Broken(fault),
     }
 }
 
 // `F \X G`.
 pub(crate) fn tuples_of(joined: JoinedForms, place: Place) -> FormOutcome
-    ensures { (fs : Items Formed) → joined.fault ≡ form_faults fs → map form_of joined.forms.items ≡ forms_in fs →
+    ensures { (fs : Items Formed) → joined.fault ≡ form_faults fs → joined.forms.items ≡ made fs →
         formed_of result ≡ form_of_all place Tuples fs }
 {
     match set_rules(joined, place) {
-        Ok(rules) => FormOutcome::Made(SetRule::Tuples(List::from_vec(rules))),
+        Ok(rules) => FormOutcome::Made(SetForm::Tuples(List::from_vec(rules))),
         Err(fault) => FormOutcome::Broken(fault),
     }
 }
@@ -286,10 +287,10 @@ pub(crate) fn function_form(
     count: usize,
 ) -> Result<FormOutcome, AllocError>
     ensures { IfOk result (λ f. (os : Items Outcome) (d : Formed) (fs : Items Formed) →
-        rest.fault ≡ form_faults fs → map form_of rest.forms.items ≡ forms_in fs → count ≡ length fs →
+        rest.fault ≡ form_faults fs → rest.forms.items ≡ made fs → count ≡ length fs →
         formed_of f ≡ function_form place (domain ∷ os) (d ∷ fs)) }
 {
-    match both(fault_of(&domain), rest.fault) {
+    match join_faults(fault_of(&domain), rest.fault) {
         Fault::NoFault => match set_items(domain) {
             Some(items) => functions_from(alloc, items, rest, count, place),
             None => Ok(FormOutcome::Broken(Fault::IsWrong(place))),
@@ -317,7 +318,7 @@ fn functions_from(
     place: Place,
 ) -> Result<FormOutcome, AllocError>
     ensures { IfOk result (λ f. (fs : Items Formed) →
-        joined.fault ≡ form_faults fs → map form_of joined.forms.items ≡ forms_in fs → count ≡ length fs →
+        joined.fault ≡ form_faults fs → joined.forms.items ≡ made fs → count ≡ length fs →
         formed_of f ≡ form_of_one place (Functions items) fs) }
 {
     if count == 1 {
@@ -329,7 +330,7 @@ fn functions_from(
 
 // The form of which alone this is the join.
 fn only_form(joined: JoinedForms) -> FormOutcome
-    ensures { (f : Formed) → joined.fault ≡ form_faults (f ∷ []) → map form_of joined.forms.items ≡ forms_in (f ∷ []) →
+    ensures { (f : Formed) → joined.fault ≡ form_faults (f ∷ []) → joined.forms.items ≡ made (f ∷ []) →
         formed_of result ≡ f }
 {
     let JoinedForms { fault, mut forms } = joined;

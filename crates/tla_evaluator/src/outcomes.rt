@@ -2,7 +2,7 @@
 ghost use Rattle.std.specs.Prelude.{◌≡◌, ◌++◌, ◌∷◌, [], IsTrue, MatchResult, OnOk, false};
 ghost use Rattle.tla_meaning.specs.Meaning.{choose};
 ghost use Rattle.tla_meaning.specs.Operators.{yes_no};
-ghost use Rattle.tla_meaning.specs.Outcomes.{before, both, fault_of, least, unless, values};
+ghost use Rattle.tla_meaning.specs.Outcomes.{before, join_faults, fault_of, least, fault_or, values};
 
 use std::alloc::{AllocError, Global};
 use std::cmp::Ordering;
@@ -25,8 +25,8 @@ pub(crate) fn least(p: Place, q: Place) -> Place
 }
 
 // Wrong at the least place at which one is Wrong, else Big at the least place at which one is Big.
-pub(crate) fn both(f: Fault, g: Fault) -> Fault
-    ensures { result ≡ both f g }
+pub(crate) fn join_faults(f: Fault, g: Fault) -> Fault
+    ensures { result ≡ join_faults f g }
 {
     match f {
         Fault::NoFault => g,
@@ -44,8 +44,8 @@ pub(crate) fn both(f: Fault, g: Fault) -> Fault
 }
 
 // The fault, or else the outcome.
-pub(crate) fn unless(fault: Fault, outcome: Outcome) -> Outcome
-    ensures { result ≡ unless fault outcome }
+pub(crate) fn fault_or(fault: Fault, outcome: Outcome) -> Outcome
+    ensures { result ≡ fault_or fault outcome }
 {
     match fault {
         Fault::NoFault => outcome,
@@ -73,7 +73,7 @@ pub(crate) fn nothing(alloc: Global) -> Joined
 
 // One more outcome.
 pub(crate) fn join(joined: &mut Joined, outcome: Outcome) -> Result<(), AllocError>
-    ensures fault { OnOk result (joined.new.fault ≡ both joined.old.fault (fault_of outcome)) }
+    ensures fault { OnOk result (joined.new.fault ≡ join_faults joined.old.fault (fault_of outcome)) }
     ensures values { OnOk result (joined.new.values.items ≡ joined.old.values.items ++ values (outcome ∷ [])) }
 {
     match outcome {
@@ -82,11 +82,11 @@ pub(crate) fn join(joined: &mut Joined, outcome: Outcome) -> Result<(), AllocErr
             Ok(())
         }
         Outcome::Wrong(p) => {
-            joined.fault = both(joined.fault, Fault::IsWrong(p));
+            joined.fault = join_faults(joined.fault, Fault::IsWrong(p));
             Ok(())
         }
         Outcome::Big(p) => {
-            joined.fault = both(joined.fault, Fault::IsBig(p));
+            joined.fault = join_faults(joined.fault, Fault::IsBig(p));
             Ok(())
         }
     }
@@ -116,7 +116,7 @@ pub(crate) fn fault_of(outcome: &Outcome) -> Fault
 }
 
 pub(crate) fn is_fault(fault: Fault) -> bool
-    ensures yes { IsTrue result → (o q : Outcome) → unless fault o ≡ unless fault q }
+    ensures yes { IsTrue result → (o q : Outcome) → fault_or fault o ≡ fault_or fault q }
     ensures no { result ≡ false → fault ≡ Fault.NoFault }
 {
     match fault {

@@ -6,24 +6,22 @@ ghost use Rattle.tla_meaning.specs.declared.expr.Decl.{Decl};
 ghost use Rattle.tla_meaning.specs.declared.expr.Expr.{Expr, out-Expr};
 ghost use Rattle.tla_meaning.specs.Actions.{act, effect_of, effects_and, outcome_of, val};
 ghost use Rattle.tla_meaning.specs.Executions.{IsYes, assumptions, invariant, is_yes, next, no_scope, scope_of, start};
-ghost use Rattle.tla_evaluator.specs.Effects.{as_effect, behind};
-ghost use Rattle.tla_evaluator.specs.Marks.{primed_names};
+ghost use Rattle.tla_evaluator.specs.Effects.{behind};
 ghost use Rattle.tla_evaluator.specs.Results.{IsNormalOutcome};
 ghost use Rattle.tla_evaluator.specs.Trees.{AreNormal, is_expanded, value_at};
 
-use crate::actions::{Effect, action, by_value};
+use crate::actions::{action, by_value};
 use crate::expressions::value;
-use crate::marks::Marks;
-use crate::outcomes::{both, unless};
+use crate::outcomes::{fault_or, join_faults};
 use std::alloc::{AllocError, Global};
-use tla_meaning::{Decl, Env, Expr, Fault, Job, Op, Outcome, State};
+use tla_meaning::{Assigned, Decl, Effect, Env, Expr, Fault, Job, Op, Outcome, State};
 use tla_values::{Text, Value};
 
 // The fault where there is one, else whether the action holds.
 fn outcome_of(f: Effect) -> Outcome
-    ensures { result ≡ outcome_of (as_effect f) }
+    ensures { result ≡ outcome_of f }
 {
-    unless(f.fault, Outcome::Val(Value::Bool(f.holds)))
+    fault_or(f.fault, Outcome::Val(Value::Bool(f.holds)))
 }
 
 /// What an expression gives in a state, with a next state for its primed names (Specifying Systems, chapter 16): its
@@ -66,9 +64,9 @@ pub fn act(alloc: Global, a: &Expr, s: &State, t: &State, width: u32) -> Result<
     requires expanded { IsTrue (is_expanded a.now) }
     requires now { All Normal s.now.vals }
     requires next { All Normal t.now.vals }
-    ensures { IfOk result (λ o. o ≡ act (Some width) primed_names a.now no_scope s.now t.now) }
+    ensures { IfOk result (λ o. o ≡ act (Some width) Assigned.Primed a.now no_scope s.now t.now) }
 {
-    let effect = action(alloc, a, Marks::Primed, &[], s, t, width)?;
+    let effect = action(alloc, a, Assigned::Primed, &[], s, t, width)?;
     Ok(outcome_of(effect))
 }
 
@@ -93,7 +91,15 @@ pub fn start(alloc: Global, job: &Job, s: &State, width: u32) -> Result<Outcome,
     ensures { IfOk result (λ o. o ≡ start (Some width) job.now s.now) }
 {
     let count = constants(job.names.as_slice());
-    let cinit = action(alloc, &job.cinit, Marks::CInit(count), &[], s, s, width)?;
+    let cinit = action(
+        alloc,
+        &job.cinit,
+        Assigned::Constants(count),
+        &[],
+        s,
+        s,
+        width,
+    )?;
     if !cinit.holds {
         return Ok(outcome_of(cinit));
     }
@@ -101,17 +107,25 @@ pub fn start(alloc: Global, job: &Job, s: &State, width: u32) -> Result<Outcome,
     if !assumed.holds {
         return Ok(outcome_of(assumed));
     }
-    let init = action(alloc, &job.init, Marks::Init(count), &[], s, s, width)?;
+    let init = action(
+        alloc,
+        &job.init,
+        Assigned::Variables(count),
+        &[],
+        s,
+        s,
+        width,
+    )?;
     Ok(outcome_of(behind(assumed, init)))
 }
 
 // The second effect, with the fault of the first.
 fn behind(first: Effect, second: Effect) -> Effect
-    ensures { as_effect result ≡ behind first.fault (as_effect second) }
+    ensures { result ≡ behind first.fault second }
 {
     Effect {
         holds: second.holds,
-        fault: both(first.fault, second.fault),
+        fault: join_faults(first.fault, second.fault),
     }
 }
 
@@ -120,7 +134,7 @@ fn assumptions(alloc: Global, assume: &Expr, s: &State, width: u32) -> Result<Ef
     requires narrow { width ≤ 64 }
     requires wide { 4 ≤ width }
     requires normal { All Normal s.now.vals }
-    ensures { IfOk result (λ f. as_effect f ≡ effects_and
+    ensures { IfOk result (λ f. f ≡ effects_and
         (map (λ e. effect_of (value_at width e [] s.now s.now)) (assumptions (out-Expr assume.now).op assume.now (out-Expr assume.now).args))) }
 {
     match &assume.op {
@@ -133,7 +147,7 @@ fn all_values(alloc: Global, es: &[Expr], s: &State, width: u32) -> Result<Effec
     requires narrow { width ≤ 64 }
     requires wide { 4 ≤ width }
     requires normal { All Normal s.now.vals }
-    ensures { IfOk result (λ f. as_effect f ≡ effects_and (map (λ e. effect_of (value_at width e [] s.now s.now)) es.now)) }
+    ensures { IfOk result (λ f. f ≡ effects_and (map (λ e. effect_of (value_at width e [] s.now s.now)) es.now)) }
 {
     let mut all = Effect {
         holds: true,
@@ -166,7 +180,15 @@ pub fn next(
     ensures { IfOk result (λ o. o ≡ next (Some width) job.now s.now t.now) }
 {
     let count = constants(job.names.as_slice());
-    let effect = action(alloc, &job.next, Marks::Next(count), &[], s, t, width)?;
+    let effect = action(
+        alloc,
+        &job.next,
+        Assigned::PrimedVariables(count),
+        &[],
+        s,
+        t,
+        width,
+    )?;
     Ok(outcome_of(effect))
 }
 

@@ -1,24 +1,20 @@
-// Trees after expansion, and parts of lists of trees.
+// Trees after expansion, parts of lists of trees, and the names that count as assigned in them.
 ghost use Rattle.std.specs.Prelude.{◌≡◌, drop, take};
-ghost use Rattle.std.specs.List.{list_all};
+ghost use Rattle.std.specs.List.{list_all, list_any};
+ghost use Rattle.tla_meaning.specs.Actions.{counts};
 ghost use Rattle.tla_evaluator.specs.Trees.{is_expanded, stays};
+ghost use Rattle.tla_evaluator.specs.Mentions.{mentions};
 
-use tla_meaning::{Expr, Op};
+use tla_meaning::{Assigned, Expr, Op};
 
 // Whether the operator is left after expansion.
 pub(crate) fn stays(op: &Op) -> bool
     ensures { result ≡ stays op.now }
 {
-    match op {
-        Op::Use(_) => false,
-        Op::Param(_) => false,
-        Op::Let(_) => false,
-        Op::Prime => false,
-        Op::Unchanged => false,
-        Op::Boxed => false,
-        Op::Angled => false,
-        _ => true,
-    }
+    !matches!(
+        op,
+        Op::Use(_) | Op::Param(_) | Op::Let(_) | Op::Prime | Op::Unchanged | Op::Boxed | Op::Angled
+    )
 }
 
 /// Whether the tree is expanded: no use of a definition, parameter, LET, prime of an expression, UNCHANGED, `[A]_v` or
@@ -40,6 +36,41 @@ fn all_expanded(trees: &[Expr]) -> bool
         }
     }
     true
+}
+
+fn counts(assigned: Assigned, i: usize, primed: bool) -> bool
+    ensures { result ≡ counts assigned i primed }
+{
+    match assigned {
+        Assigned::Every => true,
+        Assigned::Primed => primed,
+        Assigned::Constants(constants) => i < constants,
+        Assigned::Variables(constants) => constants <= i,
+        Assigned::PrimedVariables(constants) => primed && constants <= i,
+    }
+}
+
+// Whether the tree holds a name that counts as assigned.
+#[cycle(mentions)]
+fn mentions(e: &Expr, assigned: Assigned) -> bool
+    ensures { result ≡ mentions assigned e.now }
+{
+    match &e.op {
+        Op::Name(i, primed) => counts(assigned, *i, *primed),
+        op => stays(op) && any_mentions(e.args.as_slice(), assigned),
+    }
+}
+
+#[cycle(mentions)]
+pub(crate) fn any_mentions(trees: &[Expr], assigned: Assigned) -> bool
+    ensures { result ≡ list_any (mentions assigned) trees.now }
+{
+    for e in trees {
+        if mentions(e, assigned) {
+            return true;
+        }
+    }
+    false
 }
 
 // The first n trees, or all where there are fewer.

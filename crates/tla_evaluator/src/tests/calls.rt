@@ -1,8 +1,8 @@
 // The calls on values, asked directly.
 use super::{place, shown};
-use crate::{SetRule, all_belong, belongs, is_set_form, table};
+use crate::{all_belong, belongs, is_set_form, table};
 use std::test::Fail;
-use tla_meaning::Op;
+use tla_meaning::{Op, SetForm};
 use tla_values::Value;
 
 #[test]
@@ -10,9 +10,9 @@ fn operators_and_set_forms_answer_of_values(rt: HostRuntime) -> Result<(), Fail>
     let alloc = rt.alloc();
     let truths = table(alloc, &Op::BooleanSet, place(1), Vec::new(alloc), 8)?;
     assert_eq!(rt; shown(alloc, truths, 0)?.as_str(), "{FALSE, TRUE}");
-    let naturals = SetRule::AllNats;
+    let naturals = SetForm::AllNats;
     assert!(rt; is_set_form(&naturals));
-    assert!(rt; !is_set_form(&SetRule::Plain(Value::Int(1))));
+    assert!(rt; !is_set_form(&SetForm::Plain(Value::Int(1))));
     assert!(rt; belongs(&naturals, &Value::Int(0)));
     assert!(rt; !belongs(&naturals, &Value::Int(-1)));
     assert!(rt; !all_belong(&naturals, &[Value::Int(1), Value::Int(-1)]));

@@ -7,27 +7,27 @@ use Rattle.tla_meaning.specs.declared.outcome.Fault.TheVariants.{NoFault}
 use denote.Param.Weighed.{most}
 use Rattle.tla_meaning.specs.declared.expr.Expr.{Expr, out-Expr, size-Expr}
 use Rattle.tla_meaning.specs.Actions.{case_effect, effects_and, effects_or, if_effect}
-use Rattle.tla_meaning.specs.Scopes.{Marks}
-use Rattle.tla_evaluator.specs.Effects.{as_effect, exists_at, first_effect}
-use Rattle.tla_evaluator.specs.Marks.{marked, marks_of}
+use Rattle.tla_meaning.specs.declared.actions.Assigned.{Assigned}
+use Rattle.tla_evaluator.specs.Effects.{exists_at, first_effect}
+use Rattle.tla_evaluator.specs.Mentions.{mentions}
 use Rattle.tla_evaluator.specs.Trees.{AreNormal, effects_at, outcomes_at}
 use Rattle.tla_evaluator.proofs.ActionNodes.{is_now, at_value, at_and, at_or, at_or_value, at_if, at_if_value, at_case, at_case_value, at_exists, at_noted, and_next, or_next, bodies_next, case_false, case_fault, if_fault, exists_body, exists_fault, first_some, first_none, no_deeper}
 use Rattle.tla_evaluator.proofs.NormalBinds.{longer_normal, choices_are_normal}
 use Rattle.tla_evaluator.proofs.actions.+action.Goals as goal
-use Rattle.tla_evaluator.proofs.actions.+action.Goals.{action-in_default-via-in-Or+else-any_marked, action-in_default-via-in-If+else-any_marked-2, action-in_default-via-in-Case+else-any_marked-3, action-in_default-via-in_default}
+use Rattle.tla_evaluator.proofs.actions.+action.Goals.{action-in_default-via-in-Or+else-any_mentions, action-in_default-via-in-If+else-any_mentions-2, action-in_default-via-in-Case+else-any_mentions-3, action-in_default-via-in_default}
 
 -- whether a child is marked, as the call says
-here : (m : Marks) (es args : List Expr) (b : Bool) → es ≡ args → b ≡ list_any (marked m false) es → list_any (marked m false) args ≡ b
-here m es args b same is = ap (list_any (marked m false)) (sym same) ∙ sym is
+here : (m : Assigned) (es args : List Expr) (b : Bool) → es ≡ args → b ≡ list_any (mentions m) es → list_any (mentions m) args ≡ b
+here m es args b same is = ap (list_any (mentions m)) (sym same) ∙ sym is
 
 pub all_effects-loop-e-preserved : goal.all_effects-loop-e-preserved
 all_effects-loop-e-preserved t c =
-    and_next _ _ _ _ _ c.args.args.now _ _ (as_effect c.in_ok-one.one) _ _ _ c.loop-e-test.true c.e-item.is c.in_ok-one.ensures
-    c.if-not-one.false c.both-fault.ensures c.loop-e.invariant
+    and_next _ _ _ _ _ c.args.args.now _ _ c.in_ok-one.one _ _ _ c.loop-e-test.true c.e-item.is c.in_ok-one.ensures
+    c.if-not-one.false c.join_faults-fault.ensures c.loop-e.invariant
 
 pub some_effect-loop-e-preserved : goal.some_effect-loop-e-preserved
 some_effect-loop-e-preserved t c =
-    or_next _ _ _ _ _ c.args.args.now _ _ (as_effect c.in_ok-one.one) _ _ _ c.loop-e-test.true c.e-item.is c.in_ok-one.ensures
+    or_next _ _ _ _ _ c.args.args.now _ _ c.in_ok-one.one _ _ _ c.loop-e-test.true c.e-item.is c.in_ok-one.ensures
     c.either-all.ensures c.loop-e.invariant
 
 pub case_effect-loop-i-preserved : goal.case_effect-loop-i-preserved
@@ -76,7 +76,7 @@ exists_effect-returns-in-len1-up t c =
 
 pub body_effects-loop-choice-preserved : goal.body_effects-loop-choice-preserved
 body_effects-loop-choice-preserved t c =
-    bodies_next _ _ _ _ _ _ _ c.args.choices.now _ _ c.as_slice.result.now c.as_slice-in-loop-choice.result.now (as_effect c.in_ok-one.one) _ _ _
+    bodies_next _ _ _ _ _ _ _ c.args.choices.now _ _ c.as_slice.result.now c.as_slice-in-loop-choice.result.now c.in_ok-one.one _ _ _
     c.loop-choice-test.true c.choice-item.is c.as_slice.ensures (c.as_slice-in-loop-choice.ensures.value ∙ c.in_ok-bound.ensures) c.in_ok-one.ensures
     c.either-all.ensures c.loop-choice.invariant
 
@@ -93,62 +93,62 @@ body_effects-action-requires t c =
 pub action-returns-in-And : goal.action-returns-in-And
 action-returns-in-And t c =
     is_now c.all_effects.result _ _
-    (ap (λ es. effects_and (effects_at c.args.width (marks_of c.args.marks) es c.args.env.now c.args.s.now c.args.t.now)) c.as_slice-args.ensures
+    (ap (λ es. effects_and (effects_at c.args.width c.args.assigned es c.args.env.now c.args.s.now c.args.t.now)) c.as_slice-args.ensures
     ∙ sym (at_and _ _ _ _ _ _ c.in-And.is))
     c.all_effects.ensures
 
 pub action-returns-in-Exists : goal.action-returns-in-Exists
 action-returns-in-Exists t c =
     is_now c.exists_effect.result _ _
-    (ap₂ (λ xs es. exists_at c.args.width (marks_of c.args.marks) (out-Expr c.args.e.now).place xs es c.args.env.now c.args.s.now c.args.t.now) c.as_slice-names.ensures c.as_slice-args.ensures
+    (ap₂ (λ xs es. exists_at c.args.width c.args.assigned (out-Expr c.args.e.now).place xs es c.args.env.now c.args.s.now c.args.t.now) c.as_slice-names.ensures c.as_slice-args.ensures
     ∙ sym (at_exists _ _ _ _ _ _ c.in-Exists.is))
     c.exists_effect.ensures
 
 pub action-returns-in-empty : goal.action-returns-in-empty
 action-returns-in-empty t c =
-    c.fails_by.ensures ∙ first_none c.args.width (marks_of c.args.marks) _ c.as_slice-args.result.now c.args.env.now c.args.s.now c.args.t.now c.in-empty.len_below
-    ∙ ap (λ es. first_effect c.args.width (marks_of c.args.marks) (out-Expr c.args.e.now).place es c.args.env.now c.args.s.now c.args.t.now) c.as_slice-args.ensures
+    c.fails_by.ensures ∙ first_none c.args.width c.args.assigned _ c.as_slice-args.result.now c.args.env.now c.args.s.now c.args.t.now c.in-empty.len_below
+    ∙ ap (λ es. first_effect c.args.width c.args.assigned (out-Expr c.args.e.now).place es c.args.env.now c.args.s.now c.args.t.now) c.as_slice-args.ensures
     ∙ sym (at_noted _ _ _ _ _ _ _ c.in-Noted.is)
 
 pub action-returns-in-len1-up : goal.action-returns-in-len1-up
 action-returns-in-len1-up t c =
     is_now c.action.result _ _
-    (first_some c.args.width (marks_of c.args.marks) _ c.as_slice-args.result.now _ c.args.env.now c.args.s.now c.args.t.now c.in-len1-up.len_at_least c.child-item.is
-    ∙ ap (λ es. first_effect c.args.width (marks_of c.args.marks) (out-Expr c.args.e.now).place es c.args.env.now c.args.s.now c.args.t.now) c.as_slice-args.ensures
+    (first_some c.args.width c.args.assigned _ c.as_slice-args.result.now _ c.args.env.now c.args.s.now c.args.t.now c.in-len1-up.len_at_least c.child-item.is
+    ∙ ap (λ es. first_effect c.args.width c.args.assigned (out-Expr c.args.e.now).place es c.args.env.now c.args.s.now c.args.t.now) c.as_slice-args.ensures
     ∙ sym (at_noted _ _ _ _ _ _ _ c.in-Noted.is))
     c.action.ensures
 
 pub action-returns-in-Or : goal.action-returns-in-Or
 action-returns-in-Or t c =
     is_now c.some_effect.result _ _
-    (ap (λ es. effects_or (effects_at c.args.width (marks_of c.args.marks) es c.args.env.now c.args.s.now c.args.t.now)) c.as_slice-args.ensures
-    ∙ sym (at_or _ _ _ _ _ _ c.in-Or.is (here (marks_of c.args.marks) _ _ _ c.as_slice-args.ensures c.if-any_marked.ensures)))
+    (ap (λ es. effects_or (effects_at c.args.width c.args.assigned es c.args.env.now c.args.s.now c.args.t.now)) c.as_slice-args.ensures
+    ∙ sym (at_or _ _ _ _ _ _ c.in-Or.is (here c.args.assigned _ _ _ c.as_slice-args.ensures c.if-any_mentions.ensures)))
     c.some_effect.ensures
 
 pub action-returns-in-If : goal.action-returns-in-If
 action-returns-in-If t c =
     is_now c.if_effect.result _ _
-    (ap (λ es. if_effect (out-Expr c.args.e.now).place (outcomes_at c.args.width es c.args.env.now c.args.s.now c.args.t.now) (effects_at c.args.width (marks_of c.args.marks) es c.args.env.now c.args.s.now c.args.t.now)) c.as_slice-args.ensures
-    ∙ sym (at_if _ _ _ _ _ _ c.in-If.is (here (marks_of c.args.marks) _ _ _ c.as_slice-args.ensures c.if-any_marked-2.ensures)))
+    (ap (λ es. if_effect (out-Expr c.args.e.now).place (outcomes_at c.args.width es c.args.env.now c.args.s.now c.args.t.now) (effects_at c.args.width c.args.assigned es c.args.env.now c.args.s.now c.args.t.now)) c.as_slice-args.ensures
+    ∙ sym (at_if _ _ _ _ _ _ c.in-If.is (here c.args.assigned _ _ _ c.as_slice-args.ensures c.if-any_mentions-2.ensures)))
     c.if_effect.ensures
 
 pub action-returns-in-Case : goal.action-returns-in-Case
 action-returns-in-Case t c =
     is_now c.case_effect.result _ _
-    (ap (λ es. case_effect (out-Expr c.args.e.now).place (outcomes_at c.args.width es c.args.env.now c.args.s.now c.args.t.now) (effects_at c.args.width (marks_of c.args.marks) es c.args.env.now c.args.s.now c.args.t.now)) c.as_slice-args.ensures
-    ∙ sym (at_case _ _ _ _ _ _ _ c.in-Case.is (here (marks_of c.args.marks) _ _ _ c.as_slice-args.ensures c.if-any_marked-3.ensures)))
+    (ap (λ es. case_effect (out-Expr c.args.e.now).place (outcomes_at c.args.width es c.args.env.now c.args.s.now c.args.t.now) (effects_at c.args.width c.args.assigned es c.args.env.now c.args.s.now c.args.t.now)) c.as_slice-args.ensures
+    ∙ sym (at_case _ _ _ _ _ _ _ c.in-Case.is (here c.args.assigned _ _ _ c.as_slice-args.ensures c.if-any_mentions-3.ensures)))
     c.case_effect.ensures
 
 pub action-returns-in_default : goal.action-returns-in_default
 action-returns-in_default t c =
     is_now c.by_value.result _ _
     (sym (elim c.in_default.branch [
-      | action-in_default-via-in-Or+else-any_marked w ↦
-          at_or_value _ _ _ _ _ _ w.in-Or.is (here (marks_of c.args.marks) _ _ _ c.as_slice-args.ensures w.if-any_marked.ensures)
-      | action-in_default-via-in-If+else-any_marked-2 w ↦
-          at_if_value _ _ _ _ _ _ w.in-If.is (here (marks_of c.args.marks) _ _ _ c.as_slice-args.ensures w.if-any_marked-2.ensures)
-      | action-in_default-via-in-Case+else-any_marked-3 w ↦
-          at_case_value _ _ _ _ _ _ _ w.in-Case.is (here (marks_of c.args.marks) _ _ _ c.as_slice-args.ensures w.if-any_marked-3.ensures)
+      | action-in_default-via-in-Or+else-any_mentions w ↦
+          at_or_value _ _ _ _ _ _ w.in-Or.is (here c.args.assigned _ _ _ c.as_slice-args.ensures w.if-any_mentions.ensures)
+      | action-in_default-via-in-If+else-any_mentions-2 w ↦
+          at_if_value _ _ _ _ _ _ w.in-If.is (here c.args.assigned _ _ _ c.as_slice-args.ensures w.if-any_mentions-2.ensures)
+      | action-in_default-via-in-Case+else-any_mentions-3 w ↦
+          at_case_value _ _ _ _ _ _ _ w.in-Case.is (here c.args.assigned _ _ _ c.as_slice-args.ensures w.if-any_mentions-3.ensures)
       | action-in_default-via-in_default w ↦ at_value _ _ _ _ _ _ (record {
         not_and = w.in_default.not-And;
         not_or = w.in_default.not-Or;

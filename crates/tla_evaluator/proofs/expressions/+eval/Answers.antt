@@ -9,15 +9,14 @@ use Rattle.tla_meaning.specs.Numbers.{number}
 use Rattle.std.proofs.Common.{◌≡◌, ℕ, ◌+◌, ◌≤◌, ◌∙◌, ◌++◌, ◌∷◌, [], ap, arith, cond, drop, get_or, refl, rules, subst, sym, Some}
 use Rattle.tla_meaning.specs.declared.op.Op.TheVariants as op
 use Rattle.tla_meaning.specs.declared.expr.Expr.{Expr, out-Expr, size-Expr}
-use Rattle.tla_meaning.specs.Forms.{Made, Records, form_faults, results}
+use Rattle.tla_meaning.specs.Forms.{form_faults, made, results}
+use Rattle.tla_meaning.specs.declared.forms.SetForm.TheVariants.{Records}
 use Rattle.tla_meaning.specs.Meaning.{fold_over, folded, form_of_all, function_form, plain, updated}
 use Rattle.tla_meaning.specs.Operators.{table, yes_no}
-use Rattle.tla_meaning.specs.Outcomes.{both, joined, values}
+use Rattle.tla_meaning.specs.Outcomes.{join_faults, joined, values}
 use Rattle.tla_meaning.specs.Scopes.{bound_to}
-use Rattle.tla_evaluator.specs.SetRules.{forms_in}
 use Rattle.tla_evaluator.specs.Nodes.{index_trees, paths_at, update_at}
 use Rattle.tla_evaluator.specs.Trees.{first_at, form_at, forms_at, outcomes_at, value_at}
-use Rattle.tla_evaluator.proofs.FormLemmas.{at_ints, at_nats, at_texts}
 use Rattle.tla_evaluator.proofs.FormLoops.{form_fault_next, form_via, forms_count, forms_next, function_ok, function_parts, if_case, no_first_form, one_first_form}
 use Rattle.tla_evaluator.proofs.ListSteps.{behind_no_deeper, first_normal, folded_next, further_no_deeper, index_fault_next, item_normal, members_normal, one_normal, operands_normal, paths_next, reached_normal, results_normal, two_are_normal, under_same, one_is_normal, updated_at, updated_next}
 use Rattle.tla_evaluator.proofs.EvalSteps.{case_fault, case_goes, fault_next, values_next, same_item, strict_done, strict_fault, values_done, via}
@@ -151,15 +150,15 @@ value-returns-else-stays t c =
 
 pub form-returns-in-IntSet : goal.form-returns-in-IntSet
 form-returns-in-IntSet t c =
-    ap Made (at_ints _ refl) ∙ ints_is c.args.width c.args.e.now c.args.env.now c.args.s.now c.args.t.now c.in-IntSet.is
+    ints_is c.args.width c.args.e.now c.args.env.now c.args.s.now c.args.t.now c.in-IntSet.is
 
 pub form-returns-in-NatSet : goal.form-returns-in-NatSet
 form-returns-in-NatSet t c =
-    ap Made (at_nats _ refl) ∙ nats_is c.args.width c.args.e.now c.args.env.now c.args.s.now c.args.t.now c.in-NatSet.is
+    nats_is c.args.width c.args.e.now c.args.env.now c.args.s.now c.args.t.now c.in-NatSet.is
 
 pub form-returns-in-StringSet : goal.form-returns-in-StringSet
 form-returns-in-StringSet t c =
-    ap Made (at_texts _ refl) ∙ texts_is c.args.width c.args.e.now c.args.env.now c.args.s.now c.args.t.now c.in-StringSet.is
+    texts_is c.args.width c.args.e.now c.args.env.now c.args.s.now c.args.t.now c.in-StringSet.is
 
 pub form-returns-in-SeqSet : goal.form-returns-in-SeqSet
 form-returns-in-SeqSet t c =
@@ -177,14 +176,14 @@ pub form-returns-in_ok-fields-in-RecSet : goal.form-returns-in_ok-fields-in-RecS
 form-returns-in_ok-fields-in-RecSet t c =
     let names = c.in_ok-fields-in-RecSet.ensures in
     c.records_of.ensures (forms_at c.args.width (out-Expr c.args.e.now).args c.args.env.now c.args.s.now c.args.t.now) (c.in_ok-all-in-RecSet.ensures.fault ∙ ap (λ z. form_faults (forms_at c.args.width z c.args.env.now c.args.s.now c.args.t.now)) c.as_slice.ensures)
-    (c.in_ok-all-in-RecSet.ensures.forms ∙ ap (λ z. forms_in (forms_at c.args.width z c.args.env.now c.args.s.now c.args.t.now)) c.as_slice.ensures)
+    (c.in_ok-all-in-RecSet.ensures.forms ∙ ap (λ z. made (forms_at c.args.width z c.args.env.now c.args.s.now c.args.t.now)) c.as_slice.ensures)
     ∙ ap (λ z. form_of_all (out-Expr c.args.e.now).place (Records z) (forms_at c.args.width (out-Expr c.args.e.now).args c.args.env.now c.args.s.now c.args.t.now)) names
     ∙ records_is c.args.width c.args.e.now c.args.env.now c.args.s.now c.args.t.now _ c.in-RecSet.is
 
 pub form-returns-in_ok-all-in-Product : goal.form-returns-in_ok-all-in-Product
 form-returns-in_ok-all-in-Product t c =
     c.tuples_of.ensures (forms_at c.args.width (out-Expr c.args.e.now).args c.args.env.now c.args.s.now c.args.t.now) (c.in_ok-all-in-Product.ensures.fault ∙ ap (λ z. form_faults (forms_at c.args.width z c.args.env.now c.args.s.now c.args.t.now)) c.as_slice-in-Product.ensures)
-    (c.in_ok-all-in-Product.ensures.forms ∙ ap (λ z. forms_in (forms_at c.args.width z c.args.env.now c.args.s.now c.args.t.now)) c.as_slice-in-Product.ensures)
+    (c.in_ok-all-in-Product.ensures.forms ∙ ap (λ z. made (forms_at c.args.width z c.args.env.now c.args.s.now c.args.t.now)) c.as_slice-in-Product.ensures)
     ∙ tuples_is c.args.width c.args.e.now c.args.env.now c.args.s.now c.args.t.now c.in-Product.is
 
 pub form-returns-in_ok-outcome-in_default : goal.form-returns-in_ok-outcome-in_default
@@ -215,7 +214,7 @@ binder-bodies-requires t c =
 
 pub joined_operands-returns-then-is_fault : goal.joined_operands-returns-then-is_fault
 joined_operands-returns-then-is_fault t c =
-    c.unless.ensures
+    c.fault_or.ensures
     ∙ strict_fault _ (outcomes_at c.args.width (out-Expr c.args.e.now).args c.args.env.now c.args.s.now c.args.t.now) (table (Some c.args.width) (out-Expr c.args.e.now).place (out-Expr c.args.e.now).op) _ (c.is_fault.ensures.yes c.if-is_fault.true)
     (c.in_ok-all.ensures.fault ∙ ap (λ z. joined (outcomes_at c.args.width z c.args.env.now c.args.s.now c.args.t.now)) c.as_slice.ensures)
 
@@ -323,9 +322,9 @@ indexes-loop-n-preserved t c =
     let is : n ≡ get_or c.args.counts.now c.loop-n.n-index n = same_item c.args.counts.now c.loop-n.n-index 0 lt in
     let back : c.after-rest.result.now ≡ drop 1 (drop n c.loop-n.rest.now) = c.after-rest.ensures ∙ ap (drop 1) c.after.ensures in
     record {
-      fault = subst (λ b. both c.both-fault.result (joined (outcomes_at c.args.width (index_trees (drop (c.loop-n.n-index + 1) c.args.counts.now) b) c.args.env.now c.args.s.now c.args.t.now)) ≡ joined (outcomes_at c.args.width (index_trees c.args.counts.now c.args.trees.now) c.args.env.now c.args.s.now c.args.t.now)) (sym back)
+      fault = subst (λ b. join_faults c.join_faults-fault.result (joined (outcomes_at c.args.width (index_trees (drop (c.loop-n.n-index + 1) c.args.counts.now) b) c.args.env.now c.args.s.now c.args.t.now)) ≡ joined (outcomes_at c.args.width (index_trees c.args.counts.now c.args.trees.now) c.args.env.now c.args.s.now c.args.t.now)) (sym back)
           (index_fault_next c.args.width c.args.env.now c.args.s.now c.args.t.now c.args.counts.now c.loop-n.n-index n c.loop-n.rest.now _ _ _ _ lt is
-          (c.in_ok-part.ensures.fault ∙ ap (λ z. joined (outcomes_at c.args.width z c.args.env.now c.args.s.now c.args.t.now)) c.front.ensures) c.both-fault.ensures c.loop-n.invariant.fault);
+          (c.in_ok-part.ensures.fault ∙ ap (λ z. joined (outcomes_at c.args.width z c.args.env.now c.args.s.now c.args.t.now)) c.front.ensures) c.join_faults-fault.ensures c.loop-n.invariant.fault);
       paths = subst (λ b. c.push.new.self.items ++ paths_at c.args.width (drop (c.loop-n.n-index + 1) c.args.counts.now) b c.args.env.now c.args.s.now c.args.t.now ≡ paths_at c.args.width c.args.counts.now c.args.trees.now c.args.env.now c.args.s.now c.args.t.now) (sym back)
           (paths_next c.args.width c.args.env.now c.args.s.now c.args.t.now c.args.counts.now c.loop-n.n-index n c.loop-n.rest.now _ _ _ _ lt is
           (c.from_vec.ensures ∙ c.in_ok-part.ensures.values ∙ ap (λ z. values (outcomes_at c.args.width z c.args.env.now c.args.s.now c.args.t.now)) c.front.ensures) c.in_ok-push.ensures.items c.loop-n.invariant.paths);

@@ -2,18 +2,17 @@ use Rattle.std.proofs.Common.{◌≡◌, ℕ, ◌++◌, ◌∷◌, [], ◌*◌, 
 use denote.Param.Weighed.{most}
 use Rattle.tla_values.specs.Sets.{Normal}
 use Rattle.tla_meaning.specs.declared.expr.Expr.{Expr, out-Expr}
-use Rattle.tla_meaning.specs.Forms.{form_faults, results}
+use Rattle.tla_meaning.specs.Forms.{form_faults, made, results}
 use Rattle.tla_meaning.specs.Meaning.{case_chosen, folded, updated}
-use Rattle.tla_meaning.specs.Outcomes.{both, joined, values}
+use Rattle.tla_meaning.specs.Outcomes.{join_faults, joined, values}
 use Rattle.tla_meaning.specs.Scopes.{bound_to}
-use Rattle.tla_evaluator.specs.SetRules.{form_of, forms_in}
 use Rattle.tla_evaluator.specs.Nodes.{bodies_at, index_trees, junction, paths_at, updates_at}
 use Rattle.tla_evaluator.specs.Trees.{first_at, forms_at, outcomes_at}
 use Rattle.tla_evaluator.proofs.expressions.+eval.Given as goal
 
 abbrev pub invariant-operands-loop-e : goal.invariant-operands-loop-e
 invariant-operands-loop-e l = record {
-  fault : both l.all.fault (joined (outcomes_at l.width (drop l.e-index l.trees) l.env l.s l.t)) ≡ joined (outcomes_at l.width l.trees l.env l.s l.t);
+  fault : join_faults l.all.fault (joined (outcomes_at l.width (drop l.e-index l.trees) l.env l.s l.t)) ≡ joined (outcomes_at l.width l.trees l.env l.s l.t);
   values : l.all.values.items ++ values (outcomes_at l.width (drop l.e-index l.trees) l.env l.s l.t) ≡ values (outcomes_at l.width l.trees l.env l.s l.t);
 }
 
@@ -29,7 +28,7 @@ invariant-cases-loop-i l =
 
 abbrev pub invariant-bodies-loop-choice : goal.invariant-bodies-loop-choice
 invariant-bodies-loop-choice l = record {
-  fault : both l.all.fault (joined (bodies_at l.width l.place l.names l.trees l.env l.s l.t (drop l.choice-index l.choices)))
+  fault : join_faults l.all.fault (joined (bodies_at l.width l.place l.names l.trees l.env l.s l.t (drop l.choice-index l.choices)))
       ≡ joined (bodies_at l.width l.place l.names l.trees l.env l.s l.t l.choices);
   values : l.all.values.items ++ values (bodies_at l.width l.place l.names l.trees l.env l.s l.t (drop l.choice-index l.choices))
       ≡ values (bodies_at l.width l.place l.names l.trees l.env l.s l.t l.choices);
@@ -37,7 +36,7 @@ invariant-bodies-loop-choice l = record {
 
 abbrev pub invariant-indexes-loop-n : goal.invariant-indexes-loop-n
 invariant-indexes-loop-n l = record {
-  fault : both l.fault (joined (outcomes_at l.width (index_trees (drop l.n-index l.counts) l.rest) l.env l.s l.t))
+  fault : join_faults l.fault (joined (outcomes_at l.width (index_trees (drop l.n-index l.counts) l.rest) l.env l.s l.t))
       ≡ joined (outcomes_at l.width (index_trees l.counts l.trees) l.env l.s l.t);
   paths : l.paths.items ++ paths_at l.width (drop l.n-index l.counts) l.rest l.env l.s l.t
       ≡ paths_at l.width l.counts l.trees l.env l.s l.t;
@@ -67,7 +66,7 @@ invariant-folded-loop-item l = record {
 
 abbrev pub invariant-forms-loop-e : goal.invariant-forms-loop-e
 invariant-forms-loop-e l = record {
-  fault : both l.all.fault (form_faults (forms_at l.width (drop l.e-index l.trees) l.env l.s l.t)) ≡ form_faults (forms_at l.width l.trees l.env l.s l.t);
-  forms : map form_of l.all.forms.items ++ forms_in (forms_at l.width (drop l.e-index l.trees) l.env l.s l.t)
-      ≡ forms_in (forms_at l.width l.trees l.env l.s l.t);
+  fault : join_faults l.all.fault (form_faults (forms_at l.width (drop l.e-index l.trees) l.env l.s l.t)) ≡ form_faults (forms_at l.width l.trees l.env l.s l.t);
+  forms : l.all.forms.items ++ made (forms_at l.width (drop l.e-index l.trees) l.env l.s l.t)
+      ≡ made (forms_at l.width l.trees l.env l.s l.t);
 }

@@ -1,11 +1,10 @@
-use Rattle.std.proofs.Common.{refl, sym}
-use Rattle.tla_meaning.specs.Forms.{Records}
-use Rattle.tla_evaluator.proofs.FormSteps.{records_made}
+use Rattle.std.proofs.Common.{◌∙◌, ap, sym}
+use Rattle.tla_meaning.specs.declared.forms.SetForm.TheVariants.{Records}
+use Rattle.tla_meaning.specs.Forms.{Made}
 use Rattle.tla_evaluator.proofs.memberships.records_of.Goals as goal
 
 pub returns-in-Ok : goal.returns-in-Ok
-returns-in-Ok c =
-    λ fs e m. records_made c.args.place fs c.in-Ok.rules.items _ _ c.args.names refl c.from_vec.ensures (c.in-Ok.ensures fs (Records c.args.names) e m)
+returns-in-Ok c = λ fs e m. ap (λ gs. Made (Records c.args.names gs)) c.from_vec.ensures ∙ sym (c.in-Ok.ensures fs (Records c.args.names) e m)
 
 pub returns-in-Err : goal.returns-in-Err
 returns-in-Err c = λ fs e m. sym (c.in-Err.ensures fs (Records c.args.names) e m)

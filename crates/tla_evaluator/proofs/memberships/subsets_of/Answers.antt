@@ -1,9 +1,7 @@
-use Rattle.std.proofs.Common.{refl}
-use Rattle.tla_meaning.specs.Forms.{Subsets}
-use Rattle.tla_evaluator.specs.SetRules.{formed_of}
-use Rattle.tla_evaluator.proofs.FormSteps.{subsets_made}
+use Rattle.std.proofs.Common.{◌∙◌, ap, sym}
+use Rattle.tla_meaning.specs.declared.forms.SetForm.TheVariants.{Subsets}
+use Rattle.tla_meaning.specs.Forms.{Made}
 use Rattle.tla_evaluator.proofs.memberships.subsets_of.Goals as goal
 
 pub returns-in_ok-items-in-Ok : goal.returns-in_ok-items-in-Ok
-returns-in_ok-items-in-Ok c =
-    subsets_made c.args.place (formed_of c.args.form) c.in-Ok.rule _ c.in_ok-items-in-Ok.items refl c.in_ok-items-in-Ok.ensures.ok (c.in-Ok.ensures Subsets)
+returns-in_ok-items-in-Ok c = ap (λ f. Made (Subsets f)) c.in_ok-items-in-Ok.ensures ∙ sym (c.in-Ok.ensures Subsets)

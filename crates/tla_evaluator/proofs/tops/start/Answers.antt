@@ -1,7 +1,7 @@
 use Rattle.std.proofs.Common.{◌≡◌, ap, filter, length, ◌∙◌}
 use Rattle.tla_meaning.specs.declared.expr.Decl.{Decl}
 use Rattle.tla_meaning.specs.Executions.{constants}
-use Rattle.tla_evaluator.specs.Effects.{as_effect, behind}
+use Rattle.tla_evaluator.specs.Effects.{behind}
 use Rattle.tla_evaluator.proofs.TopLemmas.{stops_first, stops_second, goes_on}
 use Rattle.tla_evaluator.proofs.tops.start.Goals as goal
 
@@ -10,14 +10,14 @@ returns-then-not-cinit c =
     let count : c.constants-count.result ≡ constants c.args.job.now =
     c.constants-count.ensures ∙ ap (λ ds. length (filter (λ (d : Decl). d.constant) ds)) c.as_slice.ensures in
     c.outcome_of.ensures
-    ∙ stops_first _ _ c.args.job.now _ count c.requires.cinit c.requires.assume c.requires.init (as_effect c.in_ok-cinit.cinit) c.in_ok-cinit.ensures c.if-not-cinit.true
+    ∙ stops_first _ _ c.args.job.now _ count c.requires.cinit c.requires.assume c.requires.init c.in_ok-cinit.cinit c.in_ok-cinit.ensures c.if-not-cinit.true
 
 pub returns-then-not-assumed : goal.returns-then-not-assumed
 returns-then-not-assumed c =
     let count : c.constants-count.result ≡ constants c.args.job.now =
     c.constants-count.ensures ∙ ap (λ ds. length (filter (λ (d : Decl). d.constant) ds)) c.as_slice.ensures in
     c.outcome_of-then-not-assumed.ensures
-    ∙ stops_second _ _ c.args.job.now _ count c.requires.cinit c.requires.assume c.requires.init (as_effect c.in_ok-cinit.cinit) (as_effect c.behind-assumed.result)
+    ∙ stops_second _ _ c.args.job.now _ count c.requires.cinit c.requires.assume c.requires.init c.in_ok-cinit.cinit c.behind-assumed.result
     c.in_ok-cinit.ensures c.if-not-cinit.false (c.behind-assumed.ensures ∙ ap (behind c.in_ok-cinit.cinit.fault) c.in_ok-assumptions.ensures) c.if-not-assumed.true
 
 pub returns : goal.returns
@@ -25,6 +25,6 @@ returns c =
     let count : c.constants-count.result ≡ constants c.args.job.now =
     c.constants-count.ensures ∙ ap (λ ds. length (filter (λ (d : Decl). d.constant) ds)) c.as_slice.ensures in
     c.outcome_of-2.ensures
-    ∙ goes_on _ _ c.args.job.now _ count c.requires.cinit c.requires.assume c.requires.init (as_effect c.in_ok-cinit.cinit) (as_effect c.behind-assumed.result) _
+    ∙ goes_on _ _ c.args.job.now _ count c.requires.cinit c.requires.assume c.requires.init c.in_ok-cinit.cinit c.behind-assumed.result _
     c.in_ok-cinit.ensures c.if-not-cinit.false (c.behind-assumed.ensures ∙ ap (behind c.in_ok-cinit.cinit.fault) c.in_ok-assumptions.ensures) c.if-not-assumed.false
     (c.behind.ensures ∙ ap (behind c.behind-assumed.result.fault) c.in_ok-init.ensures)
