@@ -9,9 +9,9 @@ use Rattle.refutation_checker.specs.declared.section.Section.{Section}
 use Rattle.refutation_checker.specs.Certificate.{section_lines, section_text, text_of_lines, first_line, certificate_lines, certificate_text, IsInGrammar, IsCertificate, IsFirstBadLine}
 use Rattle.refutation_checker.specs.declared.faults.CertFault.{CertFault}
 use Rattle.refutation_checker.specs.Faults.{AtLine}
-use Rattle.refutation_checker.specs.Reading.{Lacks}
+use Rattle.refutation_checker.specs.inner.Reading.{Lacks}
 use Rattle.refutation_checker.specs.Place.{Place}
-use Rattle.refutation_checker.specs.Sections.{Takes, StopsAtOnce, StopsInSection}
+use Rattle.refutation_checker.specs.inner.Sections.{Takes, StopsAtOnce, StopsInSection}
 use Rattle.refutation_checker.proofs.Splits.{cut_same, lines_front, lines_same}
 use Rattle.refutation_checker.proofs.Stops.{AtLine-weaker, takes_more, text-append}
 use Rattle.refutation_checker.proofs.SectionTexts.{section_prefix}

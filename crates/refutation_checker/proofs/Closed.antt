@@ -4,7 +4,7 @@ use Rattle.std.specs.Prelude.{All, IsTrue}
 use Rattle.std.proofs.lemmas.Bool.{false≢true}
 use Rattle.std.proofs.lemmas.List.Elements.{recursion_from_All}
 use Rattle.std.specs.List.{AllByRecursion}
-use Rattle.refutation_checker.specs.Reading.{Lacks, behind_text, closed_text, SpellsNone, ClosesNone}
+use Rattle.refutation_checker.specs.inner.Reading.{Lacks, behind_text, closed_text, SpellsNone, ClosesNone}
 use Rattle.std.proofs.lemmas.List.{append-nil}
 use Rattle.refutation_checker.proofs.Splits.{cut_same, cut_none}
 

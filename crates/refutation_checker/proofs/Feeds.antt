@@ -11,8 +11,8 @@ use Rattle.refutation_checker.specs.declared.section.Section.{Section}
 use Rattle.refutation_checker.specs.declared.section.QueryName.{QueryName}
 use Rattle.refutation_checker.specs.declared.section.QueryName.TheVariants.{StepWrong, StepBig, InvNotTrue, InvBig, AssumeBig}
 use Rattle.refutation_checker.specs.Certificate.{lit_text, clause_text, step_text, end_text, kind_text, level_text, section_lines, first_line, certificate_lines, IsHint, IsStep, IsInGrammar}
-use Rattle.refutation_checker.specs.Reading.{Lacks, behind_text, closed_text}
-use Rattle.refutation_checker.specs.Lines.{question_line, header_line}
+use Rattle.refutation_checker.specs.inner.Reading.{Lacks, behind_text, closed_text}
+use Rattle.refutation_checker.specs.inner.Lines.{question_line, header_line}
 use Rattle.refutation_checker.proofs.Splits.{Lacks-append}
 use Rattle.refutation_checker.proofs.Closed.{closed_cons}
 use Rattle.refutation_checker.proofs.Numbers.{Lacks-decimal}

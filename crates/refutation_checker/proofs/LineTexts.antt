@@ -11,8 +11,8 @@ use Rattle.refutation_checker.specs.declared.section.QueryName.TheVariants.{Step
 use Rattle.refutation_checker.specs.declared.lines.Question.{Question}
 use Rattle.refutation_checker.specs.declared.lines.Header.{Header}
 use Rattle.refutation_checker.specs.Certificate.{lit_text, clause_text, step_text, level_text, kind_text, question_text, header_text, IsStep, IsHint}
-use Rattle.refutation_checker.specs.Reading.{Lacks, Spells, SpellsNone, Closes, ClosesNone, closed_text}
-use Rattle.refutation_checker.specs.Lines.{IsLevel, IsQuestion, IsHeader, level_word, question_line, header_line}
+use Rattle.refutation_checker.specs.inner.Reading.{Lacks, Spells, SpellsNone, Closes, ClosesNone, closed_text}
+use Rattle.refutation_checker.specs.inner.Lines.{IsLevel, IsQuestion, IsHeader, level_word, question_line, header_line}
 use Rattle.refutation_checker.proofs.Splits.{cut_same, cut_none}
 use Rattle.refutation_checker.proofs.Closed.{closed_same}
 use Rattle.refutation_checker.proofs.Numbers.{Lacks-decimal, Lacks-letter, decimal_same}

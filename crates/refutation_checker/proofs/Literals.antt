@@ -4,7 +4,7 @@ use Rattle.std.specs.Prelude.{decimal, codes, if◌then◌else◌}
 use Rattle.sat_formula.specs.declared.lit.Lit.{Lit}
 use Rattle.sat_formula.specs.Lit.{IsBelow}
 use Rattle.refutation_checker.specs.Certificate.{IsHint, lit_text}
-use Rattle.refutation_checker.specs.Reading.{Lacks, SpellsNone}
+use Rattle.refutation_checker.specs.inner.Reading.{Lacks, SpellsNone}
 use Rattle.refutation_checker.proofs.Splits.{cut_none}
 use Rattle.refutation_checker.proofs.Closed.{AreWords}
 use Rattle.refutation_checker.proofs.Numbers.{Lacks-decimal, decimal_same, decimal_zero}

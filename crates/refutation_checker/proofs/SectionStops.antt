@@ -13,9 +13,9 @@ use Rattle.refutation_checker.specs.declared.lines.Question.{Question}
 use Rattle.refutation_checker.specs.declared.lines.Header.{Header}
 use Rattle.refutation_checker.specs.Follows.{ends_empty, is_empty_step}
 use Rattle.refutation_checker.specs.Certificate.{clause_text, step_text, end_text, section_lines, text_of_lines, IsHint, IsStep, EndsRightly, IsInGrammar}
-use Rattle.refutation_checker.specs.Lines.{IsQuestion, IsHeader, question_line, header_line}
+use Rattle.refutation_checker.specs.inner.Lines.{IsQuestion, IsHeader, question_line, header_line}
 use Rattle.refutation_checker.specs.Place.{Place}
-use Rattle.refutation_checker.specs.Sections.{IsLineOf, Takes, Reaches, StopsAtOnce, StopsInClauses, StopsInSteps, StopsInSection}
+use Rattle.refutation_checker.specs.inner.Sections.{IsLineOf, Takes, Reaches, StopsAtOnce, StopsInClauses, StopsInSteps, StopsInSection}
 use Rattle.refutation_checker.proofs.Splits.{same_fronts, next_of_map}
 use Rattle.refutation_checker.proofs.Stops.{reaches, takes_none, takes_more, text-append}
 use Rattle.refutation_checker.proofs.SectionTexts.{question_of, header_of, question_fits, header_fits, log_lines, section_alone, section_head, steps_next, steps_unended}

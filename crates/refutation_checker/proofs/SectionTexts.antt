@@ -12,8 +12,8 @@ use Rattle.refutation_checker.specs.declared.section.QueryName.{QueryName}
 use Rattle.refutation_checker.specs.declared.lines.Question.{Question}
 use Rattle.refutation_checker.specs.declared.lines.Header.{Header}
 use Rattle.refutation_checker.specs.Certificate.{clause_text, step_text, end_text, section_lines, IsStep, IsInGrammar}
-use Rattle.refutation_checker.specs.Reading.{Lacks}
-use Rattle.refutation_checker.specs.Lines.{IsQuestion, IsHeader, question_line, header_line}
+use Rattle.refutation_checker.specs.inner.Reading.{Lacks}
+use Rattle.refutation_checker.specs.inner.Lines.{IsQuestion, IsHeader, question_line, header_line}
 use Rattle.refutation_checker.proofs.Splits.{cut_none, same_fronts}
 use Rattle.refutation_checker.proofs.LineTexts.{step_words, question_same, header_same, clause_same, step_same}
 

@@ -3,7 +3,7 @@ use Rattle.std.proofs.Common.{◌≡◌, ℕ, zero, suc, get_or, take, drop, ◌
 use Rattle.std.proofs.lemmas.List.{take-append-drop, drop_more}
 use Rattle.std.specs.List.{AllByRecursion}
 use Rattle.refutation_checker.specs.Certificate.{text_of_lines}
-use Rattle.refutation_checker.specs.Reading.{Lacks}
+use Rattle.refutation_checker.specs.inner.Reading.{Lacks}
 
 -- a text is cut at its first separator in one way
 pub cut_same : (b : ℕ) (xs ys ss ts : List ℕ) → Lacks b xs → Lacks b ys → xs ++ b ∷ ss ≡ ys ++ b ∷ ts → (xs ≡ ys) × (ss ≡ ts)

@@ -1,6 +1,6 @@
 -- Where the readers of lines stop.
 use Rattle.std.proofs.Common.{◌≡◌, ℕ, ◌+◌, ◌<◌, List, [], ◌∷◌, ◌++◌, length, map, refl, sym, subst, ◌∙◌, ap, arith, append_assoc}
-use Rattle.refutation_checker.specs.Reading.{Lacks, SpellsNone}
+use Rattle.refutation_checker.specs.inner.Reading.{Lacks, SpellsNone}
 use Rattle.std.specs.Prelude.{All}
 use Rattle.std.proofs.lemmas.Grind.{flat_map-append}
 use Rattle.std.proofs.lemmas.List.{length-append, map_push}
@@ -12,7 +12,7 @@ use Rattle.refutation_checker.specs.declared.faults.CertFault.TheVariants.{BadLi
 use Rattle.refutation_checker.specs.Certificate.{text_of_lines, clause_text, step_text, end_text, IsStep, EndsRightly}
 use Rattle.refutation_checker.specs.Faults.{AtLine}
 use Rattle.refutation_checker.specs.Place.{Place}
-use Rattle.refutation_checker.specs.Sections.{BeginsWithNo, IsLineOf, Takes, Reaches, StopsAtOnce, StopsInClauses, StopsInSteps}
+use Rattle.refutation_checker.specs.inner.Sections.{BeginsWithNo, IsLineOf, Takes, Reaches, StopsAtOnce, StopsInClauses, StopsInSteps}
 use Rattle.refutation_checker.proofs.Splits.{cut_same, cut_none}
 
 -- without a line feed there is no line

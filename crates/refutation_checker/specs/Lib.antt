@@ -1,10 +1,7 @@
 pub mod Follows
 pub mod Marks
-pub mod Status
 pub mod Certificate
-pub mod Reading
-pub mod Lines
 pub mod Place
-pub mod Sections
 pub mod Faults
 pub mod Rechecking
+pub mod inner

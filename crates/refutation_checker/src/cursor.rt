@@ -2,7 +2,7 @@
 
 ghost use Rattle.std.specs.Prelude.{◌≡◌, ◌+◌, ◌∷◌, ◌++◌, [], ◌↔◌, IsTrue, MatchResult};
 ghost use Rattle.refutation_checker.specs.declared.faults.CertFault.TheVariants.{BadLine as bad_line};
-ghost use Rattle.refutation_checker.specs.Reading.{Lacks};
+ghost use Rattle.refutation_checker.specs.inner.Reading.{Lacks};
 
 use crate::faults::CertFault;
 use crate::words::cut;

@@ -3,7 +3,7 @@
 ghost use Rattle.std.specs.Prelude.{◌≡◌, ◌↔◌, ◌<◌, All, IsTrue, MatchOption, length};
 ghost use Rattle.refutation_checker.specs.Certificate.{EndsRightly, end_text};
 ghost use Rattle.refutation_checker.specs.Follows.{ends_empty};
-ghost use Rattle.refutation_checker.specs.Reading.{SpellsNone};
+ghost use Rattle.refutation_checker.specs.inner.Reading.{SpellsNone};
 
 use crate::log::Step;
 use crate::words::is;

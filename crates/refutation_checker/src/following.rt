@@ -2,7 +2,7 @@
 
 ghost use Rattle.std.specs.Prelude.{◌≡◌, ◌↔◌, [], IsTrue, IfOk, map, MatchBool};
 ghost use Rattle.refutation_checker.specs.Follows.{negation, HasNoOpposites, Propagates, known, Follows};
-ghost use Rattle.refutation_checker.specs.Status.{IsStatus, IsClauseAt};
+ghost use Rattle.refutation_checker.specs.inner.Status.{IsStatus, IsClauseAt};
 
 use crate::log::Step;
 use crate::trail::Trail;

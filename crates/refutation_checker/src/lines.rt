@@ -3,8 +3,8 @@
 ghost use Rattle.std.specs.Prelude.{◌≡◌, ◌<◌, ◌^◌, MatchOption, IfOk, All};
 ghost use Rattle.sat_formula.specs.Lit.{IsBelow};
 ghost use Rattle.refutation_checker.specs.Certificate.{IsStep, clause_text, kind_text, step_text};
-ghost use Rattle.refutation_checker.specs.Reading.{Spells, SpellsNone};
-ghost use Rattle.refutation_checker.specs.Lines.{IsHeader, IsLevel, IsQuestion, header_line, level_word, question_line};
+ghost use Rattle.refutation_checker.specs.inner.Reading.{Spells, SpellsNone};
+ghost use Rattle.refutation_checker.specs.inner.Lines.{IsHeader, IsLevel, IsQuestion, header_line, level_word, question_line};
 
 use crate::log::Step;
 use crate::printing::kind_name;

@@ -5,8 +5,8 @@ ghost use Rattle.sat_formula.specs.Lit.{IsBelow};
 ghost use Rattle.refutation_checker.specs.Certificate.{EndsRightly, IsCertificate, IsFirstBadLine, IsInGrammar, IsStep, certificate_text, clause_text, end_text, section_lines, step_text};
 ghost use Rattle.refutation_checker.specs.Faults.{AtLine, IsLineUnlessMemory, IsOkUnlessMemory};
 ghost use Rattle.refutation_checker.specs.declared.section.Section.{Section as SectionValue};
-ghost use Rattle.refutation_checker.specs.Lines.{IsHeader, IsQuestion, header_line, question_line};
-ghost use Rattle.refutation_checker.specs.Sections.{IsLineOf, StopsAtOnce, StopsInClauses, StopsInSection, StopsInSteps, Takes};
+ghost use Rattle.refutation_checker.specs.inner.Lines.{IsHeader, IsQuestion, header_line, question_line};
+ghost use Rattle.refutation_checker.specs.inner.Sections.{IsLineOf, StopsAtOnce, StopsInClauses, StopsInSection, StopsInSteps, Takes};
 
 use crate::cursor::Cursor;
 use crate::endings::ending;

@@ -4,7 +4,7 @@ ghost use Rattle.std.specs.Prelude.{◌≡◌, ◌↔◌, ℕ, IsTrue, List, ◌
 ghost use Rattle.std.specs.Str.Parse.{AllDigits, digits_value};
 ghost use Rattle.sat_formula.specs.Lit.{IsBelow};
 ghost use Rattle.refutation_checker.specs.Certificate.{IsHint, lit_text};
-ghost use Rattle.refutation_checker.specs.Reading.{Lacks, Spells, SpellsNone, Closes, ClosesNone};
+ghost use Rattle.refutation_checker.specs.inner.Reading.{Lacks, Spells, SpellsNone, Closes, ClosesNone};
 
 use sat_formula::Lit;
 use std::alloc::{AllocError, Global};

@@ -8,7 +8,7 @@ use Rattle.std.proofs.Math.Seq.{take-set-lt, drop-cons}
 use Rattle.sat_formula.specs.declared.lit.Lit.{Lit}
 use Rattle.sat_formula.specs.Lit.{lit_value, IsBelow}
 use Rattle.sat_formula.specs.Clause.{clause_true, AllTrue, NamesBelow}
-use Rattle.symbolic_mc.specs.Search.{is_false, has_false, IsTurn}
+use Rattle.symbolic_mc.specs.inner.Search.{is_false, has_false, IsTurn}
 
 -- where all have values, a clause that is not false is true
 clause_decided : (values : List Bool) (clause : List Lit) → All (IsBelow (length values)) clause → is_false values clause ≡ false → clause_true values clause ≡ true

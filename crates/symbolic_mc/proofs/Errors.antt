@@ -26,7 +26,7 @@ use Rattle.tla_meaning.specs.Actions.{val}
 use Rattle.tla_meaning.specs.Executions.{no_scope, start, next, invariant, is_yes, IsYes, IsWrongOutcome, IsState, AreSteps, IsExecution, last_of, Reaches, Errs, StartIsWrong, StepIsWrong, InvariantIsNotTrue}
 use Rattle.tla_meaning.specs.BooleanLayout.{leaf, tree, operator, operand, job_of, gives_each, is_guard, is_branch, IsBooleanModule}
 use Rattle.tla_meaning.proofs.MeaningLemmas.{belongs-out, val-roll, denotation-roll}
-use Rattle.symbolic_mc.specs.Boolean.{state_of, inv_holds, SpeakOf, RunsOn, IsRun}
+use Rattle.symbolic_mc.specs.inner.Boolean.{state_of, inv_holds, SpeakOf, RunsOn, IsRun}
 use Rattle.symbolic_mc.proofs.Meaning.{Says, AllSay, start_says, next_says, start_is, next_is, invariant_is, is_yes_as, yes_or_no, length-declarations, last_is}
 use Rattle.symbolic_mc.proofs.Shapes.{init_below, next_below, inv_below}
 

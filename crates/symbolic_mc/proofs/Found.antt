@@ -15,8 +15,8 @@ use Rattle.tla_meaning.specs.BooleanLayout.{IsBooleanModule, job_of}
 use Rattle.tla_meaning.specs.Operators.{yes_no}
 use Rattle.std.proofs.lemmas.Bool.{cases_lt}
 use Rattle.std.proofs.lemmas.List.{length-map, get_or-map}
-use Rattle.symbolic_mc.specs.Boolean.{state_of, all_hold, inv_holds}
-use Rattle.symbolic_mc.specs.Levels.{values_of, IsLevel}
+use Rattle.symbolic_mc.specs.inner.Boolean.{state_of, all_hold, inv_holds}
+use Rattle.symbolic_mc.specs.inner.Levels.{values_of, IsLevel}
 use Rattle.symbolic_mc.specs.Verdicts.{Breaks, NoError}
 use Rattle.symbolic_mc.proofs.Errors.{errs_run}
 use Rattle.symbolic_mc.proofs.Literals.{one_more_clause}

@@ -10,8 +10,8 @@ use Rattle.std.proofs.lemmas.List.Folds.{Any-from_list_any, list_any-from_Any}
 use Rattle.sat_formula.specs.declared.lit.Lit.{Lit}
 use Rattle.sat_formula.specs.Lit.{lit_value}
 use Rattle.sat_formula.proofs.Extension.{lit_value-append}
-use Rattle.symbolic_mc.specs.Index.{IsGreatest, IsIndex}
-use Rattle.symbolic_mc.specs.Search.{is_false, has_false, IsTurn, WasCalm}
+use Rattle.symbolic_mc.specs.inner.Index.{IsGreatest, IsIndex}
+use Rattle.symbolic_mc.specs.inner.Search.{is_false, has_false, IsTurn, WasCalm}
 
 -- ---- a false clause stays false
 

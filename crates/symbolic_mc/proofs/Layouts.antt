@@ -13,8 +13,8 @@ use Rattle.tla_meaning.specs.BooleanLayout.{module_text, keyword_text, variable_
 use Rattle.tla_values.specs.Names.{is_letter, is_name}
 use Rattle.symbolic_mc.specs.declared.reader.Definitions.{Definitions}
 use Rattle.symbolic_mc.specs.declared.reader.Head.{Head}
-use Rattle.symbolic_mc.specs.Layout.{prime_text, choice_text, head_text, definitions_text, AreLetters, IsHead, EndsName, IsNamed, IsOfNames, EndsConjunction, AreDefinitions}
-use Rattle.symbolic_mc.specs.Reading.{BeginsNot, no_letter_first, Anything, IsOnly, IsNone, EndsList}
+use Rattle.symbolic_mc.specs.inner.Layout.{prime_text, choice_text, head_text, definitions_text, AreLetters, IsHead, EndsName, IsNamed, IsOfNames, EndsConjunction, AreDefinitions}
+use Rattle.symbolic_mc.specs.inner.Reading.{BeginsNot, no_letter_first, Anything, IsOnly, IsNone, EndsList}
 use Rattle.symbolic_mc.proofs.Readings.{begins_not, word_only}
 use Rattle.symbolic_mc.proofs.Shapes.{init_below, next_below, inv_below}
 

@@ -7,7 +7,7 @@ use Rattle.sat_formula.specs.declared.lit.Lit.{Lit}
 use Rattle.sat_formula.specs.Lit.{lit_value}
 use Rattle.sat_formula.specs.Clause.{clause_true, AllTrue}
 use Rattle.sat_formula.proofs.Extension.{lit_value-append}
-use Rattle.symbolic_mc.specs.Search.{is_false, has_false, is_before, IsTurn}
+use Rattle.symbolic_mc.specs.inner.Search.{is_false, has_false, is_before, IsTurn}
 
 -- ---- a false clause stays false
 

@@ -14,8 +14,8 @@ use Rattle.sat_formula.specs.Formula.{Satisfies, Extends, Grows, EitherExtends, 
 use Rattle.sat_formula.proofs.Extension.{lit_value-append}
 use Rattle.tla_meaning.specs.declared.boolean.BooleanModule.{BooleanModule}
 use Rattle.tla_meaning.specs.declared.boolean.Conjunct.{Conjunct}
-use Rattle.symbolic_mc.specs.Boolean.{IsRun, RunsOn, all_hold, some_holds, init_holds, next_holds}
-use Rattle.symbolic_mc.specs.Levels.{values_of, IsCode, IsReached, AreReached}
+use Rattle.symbolic_mc.specs.inner.Boolean.{IsRun, RunsOn, all_hold, some_holds, init_holds, next_holds}
+use Rattle.symbolic_mc.specs.inner.Levels.{values_of, IsCode, IsReached, AreReached}
 
 -- ---- longer assignments
 

@@ -6,7 +6,7 @@ use Rattle.std.proofs.lemmas.Bool.{and_parts, eq-eqb}
 use Rattle.std.proofs.lemmas.List.{append-nil, append_cancel_left}
 use Rattle.std.proofs.lemmas.List.Elements.{All-head, All-tail}
 use Rattle.tla_values.specs.Names.{is_letter}
-use Rattle.symbolic_mc.specs.Reading.{BeginsNot, no_letter_first, IsOnly, IsNone, SomeFit, EndsList}
+use Rattle.symbolic_mc.specs.inner.Reading.{BeginsNot, no_letter_first, IsOnly, IsNone, SomeFit, EndsList}
 
 -- ---- beginnings that differ
 

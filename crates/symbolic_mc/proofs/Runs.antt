@@ -10,8 +10,8 @@ use Rattle.sat_formula.specs.Lit.{lit_value, IsBelow}
 use Rattle.sat_formula.specs.Formula.{Satisfies}
 use Rattle.tla_meaning.specs.declared.boolean.BooleanModule.{BooleanModule}
 use Rattle.tla_meaning.specs.declared.boolean.Conjunct.{Conjunct}
-use Rattle.symbolic_mc.specs.Boolean.{IsRun, RunsOn, all_hold, some_holds, init_holds, next_holds}
-use Rattle.symbolic_mc.specs.Levels.{values_of, IsCode, IsLevel, IsReached, AreReached}
+use Rattle.symbolic_mc.specs.inner.Boolean.{IsRun, RunsOn, all_hold, some_holds, init_holds, next_holds}
+use Rattle.symbolic_mc.specs.inner.Levels.{values_of, IsCode, IsLevel, IsReached, AreReached}
 use Rattle.symbolic_mc.proofs.Reaching.{reached_next}
 
 -- ---- equal lists

@@ -7,7 +7,7 @@ use Rattle.std.proofs.lemmas.List.Elements.{All-nil, All-cons}
 use Rattle.tla_meaning.specs.declared.boolean.BooleanModule.{BooleanModule}
 use Rattle.tla_meaning.specs.declared.boolean.Conjunct.{Conjunct}
 use Rattle.tla_meaning.specs.BooleanLayout.{gives_each, is_guard, is_branch, IsBooleanModule}
-use Rattle.symbolic_mc.specs.Boolean.{SpeakOf}
+use Rattle.symbolic_mc.specs.inner.Boolean.{SpeakOf}
 
 abbrev Below : ℕ → Conjunct → Type 0
 Below n c = c.var < n

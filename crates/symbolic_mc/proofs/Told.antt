@@ -11,7 +11,7 @@ use Rattle.symbolic_mc.specs.declared.answer.Answer.{Answer}
 use Rattle.symbolic_mc.specs.declared.answer.Answer.TheVariants.{Usage, ReadFault, TooLong, Missing, NotBuilt, Checked}
 use Rattle.symbolic_mc.specs.declared.checking.Verdict.TheVariants.{Clean, Error}
 use Rattle.symbolic_mc.specs.Report.{status_of, report_of, memory_line}
-use Rattle.symbolic_mc.specs.Told.{IsTold}
+use Rattle.symbolic_mc.specs.inner.Told.{IsTold}
 use Rattle.symbolic_mc.specs.Top.{IsRefusal, NoFile, NoForm, IsReadFault, Failed, Longer, IsAnswer, AsksForBooleanLayout, WritesError, WritesClean, WritesPart, module_limit}
 use Rattle.symbolic_mc.specs.Words.{request_of}
 

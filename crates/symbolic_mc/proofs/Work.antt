@@ -1,7 +1,7 @@
 -- How much of a search is left.
 use Rattle.std.proofs.Common.{◌≡◌, ℕ, zero, suc, ◌+◌, ◌<◌, ◌≤◌, Bool, true, false, List, [], ◌∷◌, ◌++◌, length, All, sym, ap, subst, arith, length-append}
 use Rattle.std.proofs.lemmas.List.Elements.{All-tail}
-use Rattle.symbolic_mc.specs.Search.{IsTurn}
+use Rattle.symbolic_mc.specs.inner.Search.{IsTurn}
 
 -- the nodes of a tree of this depth
 abbrev size : ℕ → ℕ

@@ -1,12 +1,6 @@
-pub mod Boolean
-pub mod Index
-pub mod Layout
-pub mod Levels
 pub mod Naming
-pub mod Reading
 pub mod Report
-pub mod Search
-pub mod Told
 pub mod Top
 pub mod Verdicts
 pub mod Words
+pub mod inner

@@ -2,8 +2,8 @@
 ghost use Rattle.std.specs.Prelude.{◌≡◌, ◌<◌, All, map, length, IfOk, IfSome, IfNone};
 ghost use Rattle.sat_formula.specs.Lit.{IsBelow};
 ghost use Rattle.tla_meaning.specs.BooleanLayout.{IsBooleanModule};
-ghost use Rattle.symbolic_mc.specs.Boolean.{state_of};
-ghost use Rattle.symbolic_mc.specs.Levels.{values_of};
+ghost use Rattle.symbolic_mc.specs.inner.Boolean.{state_of};
+ghost use Rattle.symbolic_mc.specs.inner.Levels.{values_of};
 ghost use Rattle.symbolic_mc.specs.Verdicts.{Breaks, IsVerdict, NoError};
 
 use crate::encoding::{Level, conjunction, encode};

@@ -4,8 +4,8 @@ ghost use Rattle.std.specs.List.{list_all, list_any};
 ghost use Rattle.sat_formula.specs.Formula.{Grows, HasValue, Satisfies};
 ghost use Rattle.sat_formula.specs.Lit.{lit_value, IsBelow};
 ghost use Rattle.tla_meaning.specs.BooleanLayout.{IsBooleanModule};
-ghost use Rattle.symbolic_mc.specs.Boolean.{allows, holds_at, all_hold, some_holds, init_holds, next_holds, SpeakOf};
-ghost use Rattle.symbolic_mc.specs.Levels.{values_of, IsCode, IsLevel, IsReached};
+ghost use Rattle.symbolic_mc.specs.inner.Boolean.{allows, holds_at, all_hold, some_holds, init_holds, next_holds, SpeakOf};
+ghost use Rattle.symbolic_mc.specs.inner.Levels.{values_of, IsCode, IsLevel, IsReached};
 
 use sat_formula::{Formula, Lit};
 use std::alloc::{AllocError, Global};

@@ -1,6 +1,6 @@
 // The clauses of a formula by the greatest of their variables.
 ghost use Rattle.std.specs.Prelude.{◌≡◌, ◌<◌, ◌≤◌, All, ℕ, length, replicate, [], IfOk, OnOk};
-ghost use Rattle.symbolic_mc.specs.Index.{IsGreatest, IsIndex};
+ghost use Rattle.symbolic_mc.specs.inner.Index.{IsGreatest, IsIndex};
 
 use sat_formula::{Clause, Cnf};
 use std::alloc::{AllocError, Global};

@@ -2,7 +2,7 @@
 ghost use Rattle.std.specs.Prelude.{◌≡◌, ◌≢◌, ◌++◌, ◌<◌, ℕ, List, true, length, alloc_error, IfErr, IfOk, IfSome, IfNone, OnErr, IsErrOf};
 ghost use Rattle.std.specs.List.{join_by, list_all};
 ghost use Rattle.tla_values.specs.Names.{is_letter};
-ghost use Rattle.symbolic_mc.specs.Reading.{BeginsNot, no_letter_first, IsOnly, IsNone, SomeFit, EndsList};
+ghost use Rattle.symbolic_mc.specs.inner.Reading.{BeginsNot, no_letter_first, IsOnly, IsNone, SomeFit, EndsList};
 ghost use Rattle.symbolic_mc.specs.declared.pieces.Early.TheVariants.{FormNotBuilt as not_built, Memory as early_memory};
 
 use std::alloc::{AllocError, AllocFailed, Global};

@@ -3,8 +3,8 @@ ghost use Rattle.std.specs.Prelude.{◌≡◌, ◌≢◌, ◌++◌, ◌<◌, ℕ
 ghost use Rattle.std.specs.List.{join_by};
 ghost use Rattle.tla_meaning.specs.declared.boolean.BooleanModule.{BooleanModule as Source};
 ghost use Rattle.tla_meaning.specs.BooleanLayout.{module_text, keyword_text, variable_text, conjunct_text, branch_text, name_at, IsBooleanModule};
-ghost use Rattle.symbolic_mc.specs.Layout.{prime_text, choice_text, head_text, definitions_text, AreLetters, IsHead, EndsName, IsOfNames, EndsConjunction, AreDefinitions};
-ghost use Rattle.symbolic_mc.specs.Reading.{Anything, IsOnly, IsNone, SomeFit, EndsList};
+ghost use Rattle.symbolic_mc.specs.inner.Layout.{prime_text, choice_text, head_text, definitions_text, AreLetters, IsHead, EndsName, IsOfNames, EndsConjunction, AreDefinitions};
+ghost use Rattle.symbolic_mc.specs.inner.Reading.{Anything, IsOnly, IsNone, SomeFit, EndsList};
 ghost use Rattle.symbolic_mc.specs.declared.pieces.Early.TheVariants.{FormNotBuilt as not_built};
 
 use crate::pieces::{Early, Spelling, after, copied, expect, read_separated, word};

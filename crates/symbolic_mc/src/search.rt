@@ -3,8 +3,8 @@ ghost use Rattle.std.specs.Prelude.{◌≡◌, ◌<◌, ◌≤◌, ℕ, [], All,
 ghost use Rattle.std.specs.Bool.{OnTrue, OnFalse};
 ghost use Rattle.std.specs.List.{list_any};
 ghost use Rattle.sat_formula.specs.Clause.{AllTrue, NamesBelow};
-ghost use Rattle.symbolic_mc.specs.Index.{IsIndex};
-ghost use Rattle.symbolic_mc.specs.Search.{is_false, has_false, IsTurn, WasCalm};
+ghost use Rattle.symbolic_mc.specs.inner.Index.{IsIndex};
+ghost use Rattle.symbolic_mc.specs.inner.Search.{is_false, has_false, IsTurn, WasCalm};
 
 use crate::index::by_greatest;
 use sat_formula::{Assignment, Clause, Cnf};

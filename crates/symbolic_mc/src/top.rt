@@ -5,7 +5,7 @@ ghost use Rattle.tool_outside.specs.Causes.{Stayed, WritesPrefix};
 ghost use Rattle.tool_outside.specs.Outside.{Rose};
 ghost use Rattle.symbolic_mc.specs.declared.answer.Answer.TheVariants.{Usage};
 ghost use Rattle.symbolic_mc.specs.Report.{report_of, status_of, memory_line};
-ghost use Rattle.symbolic_mc.specs.Told.{IsTold};
+ghost use Rattle.symbolic_mc.specs.inner.Told.{IsTold};
 ghost use Rattle.symbolic_mc.specs.Top.{WritesError, WritesClean, WritesRefusal, WritesReadFault, WritesPart, IsAnswer, IsFileAnswer, AsksForBooleanLayout, IsStatus, IsCutStatus};
 ghost use Rattle.symbolic_mc.specs.Words.{request_of};
 

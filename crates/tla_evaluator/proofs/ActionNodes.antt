@@ -25,7 +25,7 @@ use Rattle.tla_meaning.specs.Outcomes.{join_faults, joined, fault_or, values}
 use Rattle.tla_meaning.specs.Scopes.{Denotation, bound_to, absent}
 use Rattle.tla_meaning.specs.Shapes.{all_set_items, choices}
 use Rattle.tla_meaning.proofs.Joins.{both_assoc, both_same}
-use Rattle.tla_meaning.specs.declared.actions.Assigned.{Assigned}
+use Rattle.tla_meaning.specs.declared.actions.Assignable.{Assignable}
 use Rattle.tla_meaning.specs.declared.actions.Effect.{Effect}
 use Rattle.tla_evaluator.specs.Effects.{behind, body_effect, either, exists_at, first_effect}
 use Rattle.tla_evaluator.specs.Mentions.{mentions}
@@ -51,7 +51,7 @@ sense-out w e vars o h =
 
 -- ---- the children
 
-module _ (w : ℕ) (m : Assigned) (p : Place) (vars : List (List ℕ × Value)) (s t : State) where
+module _ (w : ℕ) (m : Assignable) (p : Place) (vars : List (List ℕ × Value)) (s t : State) where
   effects_here : (es : List Expr) → effects m (outer p [] (map (lone (Some w)) es) (scope_at vars)) s t ≡ effects_at w m es vars s t
   effects_here [] = refl
   effects_here (e ∷ es) = ap (λ fs. effect_at w m e vars s t ∷ fs) (effects_here es)
@@ -93,7 +93,7 @@ pub record ByValue (o : Op) : Type 0 where
   pub not_exists : o ≡ op.Exists → ⊥
   pub not_noted : (x : List ℕ) → o ≡ op.Noted x → ⊥
 
-module _ (w : ℕ) (m : Assigned) (e : Expr) (vars : List (List ℕ × Value)) (s t : State) where
+module _ (w : ℕ) (m : Assignable) (e : Expr) (vars : List (List ℕ × Value)) (s t : State) where
   by_value : (o : Op) → ByValue o → (sense_at w e vars o).act m s t ≡ effect_of ((sense_at w e vars o).value s t)
   by_value op.And h = absurd (h.not_and refl)
   by_value op.Or h = absurd (h.not_or refl)
@@ -182,12 +182,12 @@ module _ (w : ℕ) (m : Assigned) (e : Expr) (vars : List (List ℕ × Value)) (
 pub is_now : {E : Type 0} (r : Result Effect E) (a b : Effect) → a ≡ b → IfOk r (λ f. f ≡ a) → IfOk r (λ f. f ≡ b)
 is_now r a b e h = subst (λ c. IfOk r (λ f. f ≡ c)) e h
 
-pub first_some : (w : ℕ) (m : Assigned) (q : Place) (es : List Expr) (e : Expr) (vars : List (List ℕ × Value)) (s t : State) →
+pub first_some : (w : ℕ) (m : Assignable) (q : Place) (es : List Expr) (e : Expr) (vars : List (List ℕ × Value)) (s t : State) →
     0 < length es → e ≡ get_or es 0 e → effect_at w m e vars s t ≡ first_effect w m q es vars s t
 first_some w m q [] e vars s t some is = absurd (omega arith)
 first_some w m q (x ∷ es) e vars s t some is = ap (λ y. effect_at w m y vars s t) is
 
-pub first_none : (w : ℕ) (m : Assigned) (q : Place) (es : List Expr) (vars : List (List ℕ × Value)) (s t : State) →
+pub first_none : (w : ℕ) (m : Assignable) (q : Place) (es : List Expr) (vars : List (List ℕ × Value)) (s t : State) →
     length es < 1 → fails_by (IsWrong q) ≡ first_effect w m q es vars s t
 first_none w m q [] vars s t none = refl
 first_none w m q (e ∷ es) vars s t none = absurd (omega arith)
@@ -213,7 +213,7 @@ or_or false b c = refl
 either_twice : (f g h : Effect) → either (either f g) h ≡ either f (either g h)
 either_twice f g h = λ i. record { holds = or_or f.holds g.holds h.holds i; fault = both_assoc f.fault g.fault h.fault i }
 
-module _ (w : ℕ) (m : Assigned) (vars : List (List ℕ × Value)) (s t : State) (args : List Expr) where
+module _ (w : ℕ) (m : Assignable) (vars : List (List ℕ × Value)) (s t : State) (args : List Expr) where
   effects_from : (i : ℕ) (e : Expr) (one : Effect) → i < length args → e ≡ get_or args i e → one ≡ effect_at w m e vars s t →
       effects_at w m (drop i args) vars s t ≡ one ∷ effects_at w m (drop (i + 1) args) vars s t
   effects_from i e one lt is h =
@@ -240,7 +240,7 @@ module _ (w : ℕ) (m : Assigned) (vars : List (List ℕ × Value)) (s t : State
       ap (λ x. either x (effects_or more)) new ∙ either_twice f one (effects_or more)
       ∙ sym (ap (λ fs. either f (effects_or fs)) (effects_from i e one lt is h)) ∙ old
 
-module _ (w : ℕ) (m : Assigned) (body : Expr) (names : List (List ℕ)) (vars : List (List ℕ × Value)) (s t : State) (cs : List (List Value)) where
+module _ (w : ℕ) (m : Assignable) (body : Expr) (names : List (List ℕ)) (vars : List (List ℕ × Value)) (s t : State) (cs : List (List Value)) where
   abbrev at : List Value → Effect
   at = body_effect w m body names vars s t
 
@@ -305,7 +305,7 @@ guard_fault q (Val v) f a b h = go (out-Value v) h
 guard_fault q (Wrong r) f a b h = ap effect_of (sym (h (Wrong r) (Wrong r)))
 guard_fault q (Big r) f a b h = ap effect_of (sym (h (Wrong r) (Wrong r)))
 
-pub if_fault : (w : ℕ) (m : Assigned) (q : Place) (vars : List (List ℕ × Value)) (s t : State) (args : List Expr) (e : Expr) (o f : Outcome) →
+pub if_fault : (w : ℕ) (m : Assignable) (q : Place) (vars : List (List ℕ × Value)) (s t : State) (args : List Expr) (e : Expr) (o f : Outcome) →
     3 ≤ length args → length args < 4 → e ≡ get_or args 0 e → o ≡ value_at w e vars s t → ((x y : Outcome) → choose q o x y ≡ f) →
     effect_of f ≡ if_effect q (outcomes_at w args vars s t) (effects_at w m args vars s t)
 if_fault w m q vars s t [] e o f low high is h k = absurd (omega arith)
@@ -317,7 +317,7 @@ if_fault w m q vars s t (a ∷ b ∷ c ∷ []) e o f low high is h k =
     guard_fault q o f yes no k ∙ ap (λ x. guarded q x yes no) (h ∙ ap (λ x. value_at w x vars s t) is)
 if_fault w m q vars s t (a ∷ b ∷ c ∷ d ∷ es) e o f low high is h k = absurd (omega arith)
 
-module _ (w : ℕ) (m : Assigned) (q : Place) (vars : List (List ℕ × Value)) (s t : State) (args : List Expr) where
+module _ (w : ℕ) (m : Assignable) (q : Place) (vars : List (List ℕ × Value)) (s t : State) (args : List Expr) where
   -- the cases from the i-th tree on
   abbrev cases : List Expr → Effect
   cases es = case_effect q (outcomes_at w es vars s t) (effects_at w m es vars s t)
@@ -398,7 +398,7 @@ module _ (q : Place) (at_choice : List Value → Effect) where
   at_choices None cs e = absurd (cc)
   at_choices (Some xss) cs e = let same : choices xss ≡ cs = cc in ap (λ yss. effects_or (map at_choice yss)) same
 
-module _ (w : ℕ) (m : Assigned) (q : Place) (names : List (List ℕ)) (args : List Expr) (vars : List (List ℕ × Value)) (s t : State) where
+module _ (w : ℕ) (m : Assignable) (q : Place) (names : List (List ℕ)) (args : List Expr) (vars : List (List ℕ × Value)) (s t : State) where
   pub exists_fault : (sets : List Expr) (f : Fault) → sets ≡ take (length names) args → f ≡ joined (outcomes_at w sets vars s t) →
       ((a b : Outcome) → fault_or f a ≡ fault_or f b) → fails_by f ≡ exists_at w m q names args vars s t
   exists_fault sets f front fault is =

@@ -2,7 +2,7 @@
 use Rattle.std.proofs.Common.{◌≡◌, ℕ, Bool, true, false, ◌||◌, List, [], ◌∷◌, ◌++◌, map, length, replicate, refl, ap, ap₂, ◌∙◌, sym, subst}
 use Rattle.std.specs.List.{list_any}
 use Rattle.tla_values.specs.declared.value.Value.{Value}
-use Rattle.tla_meaning.specs.declared.actions.Assigned.{Assigned}
+use Rattle.tla_meaning.specs.declared.actions.Assignable.{Assignable}
 use Rattle.tla_meaning.specs.declared.expr.Expr.{Expr, out-Expr, roll-Expr}
 use Rattle.tla_meaning.specs.declared.expr.Expr.TheOpen.{Expr-F}
 use Rattle.tla_meaning.specs.declared.expr.Expr.TheFolds.{fold-roll-Expr, fold_out-Expr, map-Expr, ind-Expr}
@@ -31,10 +31,10 @@ none_after : (b : Bool) → (b || false) ≡ b
 none_after true = refl
 none_after false = refl
 
-abbrev Holding : Width → Assigned → Expr → Type 0
+abbrev Holding : Width → Assignable → Expr → Type 0
 Holding w m e = (vars : List (List ℕ × Value)) → (lone w e (scope_at vars)).mentions m ≡ mentions m e
 
-module _ (w : Width) (m : Assigned) where
+module _ (w : Width) (m : Assignable) where
   abbrev Held_trees : Type 0
   Held_trees = List ((e : Expr) × Holding w m e)
 
@@ -99,7 +99,7 @@ module _ (w : Width) (m : Assigned) where
   layer_holds o p xs ys vars = plain_holds p [] xs ys vars
 
 -- the meaning of a tree says the same, whatever its bound names stand for
-pub holds_as : (w : Width) (m : Assigned) (e : Expr) (vars : List (List ℕ × Value)) → (lone w e (scope_at vars)).mentions m ≡ mentions m e
+pub holds_as : (w : Width) (m : Assignable) (e : Expr) (vars : List (List ℕ × Value)) → (lone w e (scope_at vars)).mentions m ≡ mentions m e
 unfolding lone
 holds_as w m = ind-Expr (Holding w m) (λ x y is.
     subst (λ (z : Expr-F Expr). Holding w m (roll-Expr z)) is (λ vars.

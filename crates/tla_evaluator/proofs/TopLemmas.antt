@@ -15,12 +15,12 @@ use Rattle.tla_meaning.specs.declared.outcome.Fault.{Fault}
 use Rattle.tla_meaning.specs.declared.outcome.Outcome.{Outcome}
 use Rattle.tla_meaning.specs.declared.outcome.Outcome.TheVariants.{Val, Wrong, Big}
 use Rattle.tla_meaning.specs.Actions.{act, effect_of, effects_and, meaning, outcome_of, val}
-use Rattle.tla_meaning.specs.Executions.{IsYes, assume_effects, assumptions, constants, first_not_yes, in_cinit, in_init, is_yes, next, no_scope, scope_of, start}
+use Rattle.tla_meaning.specs.Executions.{IsYes, constants, first_not_yes, in_cinit, in_init, is_yes, next, no_scope, scope_of, start}
 use Rattle.tla_meaning.specs.Scopes.{Denotation}
 use Rattle.tla_meaning.proofs.Joins.{both_unit}
 use Rattle.tla_meaning.proofs.Views.{and_left, and_right, false≢true}
-use Rattle.tla_meaning.specs.declared.actions.Assigned.{Assigned}
-use Rattle.tla_meaning.specs.declared.actions.Assigned.TheVariants.{Constants, PrimedVariables, Variables}
+use Rattle.tla_meaning.specs.declared.actions.Assignable.{Assignable}
+use Rattle.tla_meaning.specs.declared.actions.Assignable.TheVariants.{Constants, PrimedVariables, Variables}
 use Rattle.tla_meaning.specs.declared.actions.Effect.{Effect}
 use Rattle.tla_evaluator.specs.Effects.{behind}
 use Rattle.tla_evaluator.specs.Trees.{AreNormal, effect_at, is_expanded, stays, value_at}
@@ -31,7 +31,7 @@ use Rattle.tla_evaluator.specs.Results.{IsNormalOutcome}
 
 -- ---- one tree
 
-pub act_is : (w : ℕ) (m : Assigned) (e : Expr) (s t : State) → IsTrue (is_expanded e) →
+pub act_is : (w : ℕ) (m : Assignable) (e : Expr) (s t : State) → IsTrue (is_expanded e) →
     outcome_of (effect_at w m e [] s t) ≡ act (Some w) m e no_scope s t
 act_is w m e s t h = ap (λ (a : Denotation). outcome_of (a.act m s t)) (lone_is (Some w) e h no_scope)
 
@@ -56,7 +56,7 @@ answer_normal (Ok o) w e vars s t ok h = as_clause o (subst NormalOutcome (sym h
     as_clause (Wrong p) k = tt
     as_clause (Big p) k = tt
 
-effect_is : (w : ℕ) (m n : Assigned) (e : Expr) (s t : State) → IsTrue (is_expanded e) → m ≡ n →
+effect_is : (w : ℕ) (m n : Assignable) (e : Expr) (s t : State) → IsTrue (is_expanded e) → m ≡ n →
     (meaning (Some w) e no_scope).act n s t ≡ effect_at w m e [] s t
 effect_is w m n e s t h same =
     sym (ap (λ (a : Denotation). a.act m s t) (lone_is (Some w) e h no_scope) ∙ ap (λ k. (meaning (Some w) e no_scope).act k s t) same)
@@ -110,38 +110,12 @@ module _ (w : ℕ) (s : State) where
   assumed_is : (e : Expr) → IsTrue (is_expanded e) → effect_of (val (Some w) e no_scope s s) ≡ assumed e
   assumed_is e h = ap effect_of (sym (val_is w e s s h))
 
-  all_assumed : (es : List Expr) → IsTrue (list_all (λ b. b) (map is_expanded es)) →
-      map (λ e. effect_of (val (Some w) e no_scope s s)) es ≡ map assumed es
-  all_assumed [] h = refl
-  all_assumed (e ∷ es) h =
-      let rest : Bool = list_all (λ b. b) (map is_expanded es) in
-      ap₂ (λ (x : Effect) (xs : List Effect). x ∷ xs) (assumed_is e (and_left (is_expanded e) rest h)) (all_assumed es (and_right (is_expanded e) rest h))
-
-  by_operator : (o : Op) (e : Expr) (es : List Expr) → IsTrue (is_expanded e) → IsTrue (list_all (λ b. b) (map is_expanded es)) →
-      map (λ e. effect_of (val (Some w) e no_scope s s)) (assumptions o e es) ≡ map assumed (assumptions o e es)
-  by_operator op.And e es h k = all_assumed es k
-  by_operator o e es h k = ap (λ x. x ∷ []) (assumed_is e h)
-
-  assumptions_are : (e : Expr) → IsTrue (is_expanded e) →
-      map (λ e. effect_of (val (Some w) e no_scope s s)) (assumptions (out-Expr e).op e (out-Expr e).args)
-      ≡ map assumed (assumptions (out-Expr e).op e (out-Expr e).args)
-  assumptions_are e h =
-      let parts : is_expanded e ≡ (stays (out-Expr e).op && list_all (λ b. b) (map is_expanded (out-Expr e).args)) =
-      fold_out-Expr Bool (λ x. stays x.op && list_all (λ b. b) x.args) e in
-      by_operator (out-Expr e).op e (out-Expr e).args h
-      (and_right (stays (out-Expr e).op) (list_all (λ b. b) (map is_expanded (out-Expr e).args)) (sym parts ∙ h))
-
-  -- an assumption that stands for itself alone
-  pub one_assumption : (o : Op) (e : Expr) (es : List Expr) → (o ≡ op.And → ⊥) → assumed e ≡ effects_and (map assumed (assumptions o e es))
-  one_assumption op.And e es h = absurd (h refl)
-  one_assumption o e es h = sym (and_one (assumed e))
-
   module _ (job : Job) (n : ℕ) where
     abbrev pub first : Effect
     first = effect_at w (Constants n) job.cinit [] s s
 
     abbrev pub second : Effect
-    second = effects_and (map assumed (assumptions (out-Expr job.assume).op job.assume (out-Expr job.assume).args))
+    second = assumed job.assume
 
     abbrev pub third : Effect
     third = effect_at w (Variables n) job.init [] s s
@@ -151,11 +125,12 @@ module _ (w : ℕ) (s : State) where
     start_chain is c a i =
         let one = effect_is w (Constants n) (in_cinit job) job.cinit s s c (ap (λ k. (Constants k)) is) in
         let last = effect_is w (Variables n) (in_init job) job.init s s i (ap (λ k. (Variables k)) is) in
-        ap (λ f. outcome_of (effects_and ((f ∷ assume_effects (Some w) job s) ++ (meaning (Some w) job.init no_scope).act (in_init job) s s ∷ []))) one
-        ∙ ap (λ fs. outcome_of (effects_and ((first ∷ fs) ++ (meaning (Some w) job.init no_scope).act (in_init job) s s ∷ []))) (assumptions_are job.assume a)
-        ∙ ap (λ f. outcome_of (effects_and ((first ∷ map assumed (assumptions (out-Expr job.assume).op job.assume (out-Expr job.assume).args)) ++ f ∷ []))) last
-        ∙ ap outcome_of (and_append (first ∷ map assumed (assumptions (out-Expr job.assume).op job.assume (out-Expr job.assume).args)) (third ∷ []))
-        ∙ ap (λ f. outcome_of (chain (chain first second) f)) (and_one third)
+        let middle = assumed_is job.assume a in
+        ap (λ f. outcome_of (effects_and (f ∷ effect_of (val (Some w) job.assume no_scope s s) ∷ (meaning (Some w) job.init no_scope).act (in_init job) s s ∷ []))) one
+        ∙ ap (λ f. outcome_of (effects_and (first ∷ f ∷ (meaning (Some w) job.init no_scope).act (in_init job) s s ∷ []))) middle
+        ∙ ap (λ f. outcome_of (effects_and (first ∷ second ∷ f ∷ []))) last
+        ∙ ap outcome_of (and_append (first ∷ second ∷ []) (third ∷ []))
+        ∙ ap₂ (λ f g. outcome_of (chain (chain first f) g)) (and_one second) (and_one third)
 
     module _ (is : n ≡ constants job) (c : IsTrue (is_expanded job.cinit)) (a : IsTrue (is_expanded job.assume)) (i : IsTrue (is_expanded job.init)) where
       -- CInit does not hold

@@ -1,7 +1,7 @@
 -- What the evaluation of an action answers, by the operator at the node.
 use Rattle.std.specs.Prelude.{ℕ, ◌||◌, List, [], ◌∷◌, ◌++◌, drop, length, take}
 use Rattle.tla_values.specs.declared.value.Value.{Value}
-use Rattle.tla_meaning.specs.declared.actions.Assigned.{Assigned}
+use Rattle.tla_meaning.specs.declared.actions.Assignable.{Assignable}
 use Rattle.tla_meaning.specs.declared.actions.Effect.{Effect}
 use Rattle.tla_meaning.specs.declared.expr.Expr.{Expr}
 use Rattle.tla_meaning.specs.declared.job.State.{State}
@@ -22,16 +22,16 @@ abbrev pub either : Effect → Effect → Effect
 either f g = record { holds = f.holds || g.holds; fault = join_faults f.fault g.fault }
 
 -- the first of these trees, or Wrong where there is none
-abbrev pub first_effect : ℕ → Assigned → Place → List Expr → List (List ℕ × Value) → State → State → Effect
+abbrev pub first_effect : ℕ → Assignable → Place → List Expr → List (List ℕ × Value) → State → State → Effect
 first_effect w m p [] vars s t = fails_by (IsWrong p)
 first_effect w m p (e ∷ es) vars s t = effect_at w m e vars s t
 
 -- the body where the names have these values
-abbrev pub body_effect : ℕ → Assigned → Expr → List (List ℕ) → List (List ℕ × Value) → State → State → List Value → Effect
+abbrev pub body_effect : ℕ → Assignable → Expr → List (List ℕ) → List (List ℕ × Value) → State → State → List Value → Effect
 body_effect w m e xs vars s t c = effect_at w m e (vars ++ bound_to xs c) s t
 
 -- \E: the domains come first, and then the body over all members
-abbrev pub exists_at : ℕ → Assigned → Place → List (List ℕ) → List Expr → List (List ℕ × Value) → State → State → Effect
+abbrev pub exists_at : ℕ → Assignable → Place → List (List ℕ) → List Expr → List (List ℕ × Value) → State → State → Effect
 exists_at w m p xs es vars s t =
     exists_effect p (outcomes_at w (take (length xs) es) vars s t)
     (λ c. first_effect w m p (drop (length xs) es) (vars ++ bound_to xs c) s t)

@@ -13,7 +13,7 @@ use Rattle.tla_meaning.specs.declared.outcome.Fault.TheVariants.{IsWrong}
 use Rattle.tla_meaning.specs.declared.outcome.Outcome.{Outcome}
 use Rattle.tla_meaning.specs.declared.outcome.Outcome.TheVariants.{Wrong}
 use Rattle.tla_meaning.specs.declared.place.Place.{Place}
-use Rattle.tla_meaning.specs.declared.actions.Assigned.{Assigned}
+use Rattle.tla_meaning.specs.declared.actions.Assignable.{Assignable}
 use Rattle.tla_meaning.specs.declared.actions.Effect.{Effect}
 use Rattle.tla_meaning.specs.Actions.{node}
 use Rattle.tla_meaning.specs.Forms.{Broken, Formed}
@@ -53,7 +53,7 @@ value_at w e vars s t = (lone (Some w) e (scope_at vars)).value s t
 abbrev pub form_at : ℕ → Expr → List (List ℕ × Value) → State → State → Formed
 form_at w e vars s t = (lone (Some w) e (scope_at vars)).form s t
 
-abbrev pub effect_at : ℕ → Assigned → Expr → List (List ℕ × Value) → State → State → Effect
+abbrev pub effect_at : ℕ → Assignable → Expr → List (List ℕ × Value) → State → State → Effect
 effect_at w m e vars s t = (lone (Some w) e (scope_at vars)).act m s t
 
 abbrev pub outcomes_at : ℕ → List Expr → List (List ℕ × Value) → State → State → List Outcome
@@ -62,7 +62,7 @@ outcomes_at w es vars s t = map (λ e. value_at w e vars s t) es
 abbrev pub forms_at : ℕ → List Expr → List (List ℕ × Value) → State → State → List Formed
 forms_at w es vars s t = map (λ e. form_at w e vars s t) es
 
-abbrev pub effects_at : ℕ → Assigned → List Expr → List (List ℕ × Value) → State → State → List Effect
+abbrev pub effects_at : ℕ → Assignable → List Expr → List (List ℕ × Value) → State → State → List Effect
 effects_at w m es vars s t = map (λ e. effect_at w m e vars s t) es
 
 -- the values that an evaluation reads are normal

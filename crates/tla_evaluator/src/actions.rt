@@ -13,7 +13,7 @@ use crate::outcomes::{is_fault, join_faults, truth};
 use crate::sets::choices_of;
 use crate::trees::{after, any_mentions, front};
 use std::alloc::{AllocError, Global};
-use tla_meaning::{Assigned, Effect, Expr, Fault, Op, Outcome, Place, State};
+use tla_meaning::{Assignable, Effect, Expr, Fault, Op, Outcome, Place, State};
 use tla_values::{List, Text, Value};
 
 fn fails_by(fault: Fault) -> Effect
@@ -91,7 +91,7 @@ fn at_no_body(choices: &[List<Value>], place: Place) -> Effect
 pub(crate) fn action(
     alloc: Global,
     e: &Expr,
-    assigned: Assigned,
+    assigned: Assignable,
     env: &[(Text, Value)],
     s: &State,
     t: &State,
@@ -131,7 +131,7 @@ pub(crate) fn action(
 fn all_effects(
     alloc: Global,
     args: &[Expr],
-    assigned: Assigned,
+    assigned: Assignable,
     env: &[(Text, Value)],
     s: &State,
     t: &State,
@@ -158,7 +158,7 @@ fn all_effects(
 fn some_effect(
     alloc: Global,
     args: &[Expr],
-    assigned: Assigned,
+    assigned: Assignable,
     env: &[(Text, Value)],
     s: &State,
     t: &State,
@@ -182,7 +182,7 @@ fn if_effect(
     alloc: Global,
     args: &[Expr],
     place: Place,
-    assigned: Assigned,
+    assigned: Assignable,
     env: &[(Text, Value)],
     s: &State,
     t: &State,
@@ -212,7 +212,7 @@ fn case_effect(
     alloc: Global,
     args: &[Expr],
     place: Place,
-    assigned: Assigned,
+    assigned: Assignable,
     env: &[(Text, Value)],
     s: &State,
     t: &State,
@@ -245,7 +245,7 @@ fn exists_effect(
     args: &[Expr],
     names: &[Text],
     place: Place,
-    assigned: Assigned,
+    assigned: Assignable,
     env: &[(Text, Value)],
     s: &State,
     t: &State,
@@ -279,7 +279,7 @@ fn body_effects(
     body: &Expr,
     names: &[Text],
     choices: &[List<Value>],
-    assigned: Assigned,
+    assigned: Assignable,
     env: &[(Text, Value)],
     s: &State,
     t: &State,

@@ -5,7 +5,7 @@ ghost use Rattle.tla_values.specs.Sets.{Normal};
 ghost use Rattle.tla_meaning.specs.declared.expr.Decl.{Decl};
 ghost use Rattle.tla_meaning.specs.declared.expr.Expr.{Expr, out-Expr};
 ghost use Rattle.tla_meaning.specs.Actions.{act, effect_of, effects_and, outcome_of, val};
-ghost use Rattle.tla_meaning.specs.Executions.{IsYes, assumptions, invariant, is_yes, next, no_scope, scope_of, start};
+ghost use Rattle.tla_meaning.specs.Executions.{IsYes, invariant, is_yes, next, no_scope, scope_of, start};
 ghost use Rattle.tla_evaluator.specs.Effects.{behind};
 ghost use Rattle.tla_evaluator.specs.Results.{IsNormalOutcome};
 ghost use Rattle.tla_evaluator.specs.Trees.{AreNormal, is_expanded, value_at};
@@ -14,7 +14,7 @@ use crate::actions::{action, by_value};
 use crate::expressions::value;
 use crate::outcomes::{fault_or, join_faults};
 use std::alloc::{AllocError, Global};
-use tla_meaning::{Assigned, Decl, Effect, Env, Expr, Fault, Job, Op, Outcome, State};
+use tla_meaning::{Assignable, Decl, Effect, Env, Expr, Fault, Job, Op, Outcome, State};
 use tla_values::{Text, Value};
 
 // The fault where there is one, else whether the action holds.
@@ -64,9 +64,9 @@ pub fn act(alloc: Global, a: &Expr, s: &State, t: &State, width: u32) -> Result<
     requires expanded { IsTrue (is_expanded a.now) }
     requires now { All Normal s.now.vals }
     requires next { All Normal t.now.vals }
-    ensures { IfOk result (λ o. o ≡ act (Some width) Assigned.Primed a.now no_scope s.now t.now) }
+    ensures { IfOk result (λ o. o ≡ act (Some width) Assignable.Primed a.now no_scope s.now t.now) }
 {
-    let effect = action(alloc, a, Assigned::Primed, &[], s, t, width)?;
+    let effect = action(alloc, a, Assignable::Primed, &[], s, t, width)?;
     Ok(outcome_of(effect))
 }
 
@@ -94,7 +94,7 @@ pub fn start(alloc: Global, job: &Job, s: &State, width: u32) -> Result<Outcome,
     let cinit = action(
         alloc,
         &job.cinit,
-        Assigned::Constants(count),
+        Assignable::Constants(count),
         &[],
         s,
         s,
@@ -103,14 +103,14 @@ pub fn start(alloc: Global, job: &Job, s: &State, width: u32) -> Result<Outcome,
     if !cinit.holds {
         return Ok(outcome_of(cinit));
     }
-    let assumed = behind(cinit, assumptions(alloc, &job.assume, s, width)?);
+    let assumed = behind(cinit, by_value(alloc, &job.assume, &[], s, s, width)?);
     if !assumed.holds {
         return Ok(outcome_of(assumed));
     }
     let init = action(
         alloc,
         &job.init,
-        Assigned::Variables(count),
+        Assignable::Variables(count),
         &[],
         s,
         s,
@@ -127,39 +127,6 @@ fn behind(first: Effect, second: Effect) -> Effect
         holds: second.holds,
         fault: join_faults(first.fault, second.fault),
     }
-}
-
-// The assumptions in order, as far as they hold.
-fn assumptions(alloc: Global, assume: &Expr, s: &State, width: u32) -> Result<Effect, AllocError>
-    requires narrow { width ≤ 64 }
-    requires wide { 4 ≤ width }
-    requires normal { All Normal s.now.vals }
-    ensures { IfOk result (λ f. f ≡ effects_and
-        (map (λ e. effect_of (value_at width e [] s.now s.now)) (assumptions (out-Expr assume.now).op assume.now (out-Expr assume.now).args))) }
-{
-    match &assume.op {
-        Op::And => all_values(alloc, assume.args.as_slice(), s, width),
-        _ => by_value(alloc, assume, &[], s, s, width),
-    }
-}
-
-fn all_values(alloc: Global, es: &[Expr], s: &State, width: u32) -> Result<Effect, AllocError>
-    requires narrow { width ≤ 64 }
-    requires wide { 4 ≤ width }
-    requires normal { All Normal s.now.vals }
-    ensures { IfOk result (λ f. f ≡ effects_and (map (λ e. effect_of (value_at width e [] s.now s.now)) es.now)) }
-{
-    let mut all = Effect {
-        holds: true,
-        fault: Fault::NoFault,
-    };
-    for e in es {
-        all = behind(all, by_value(alloc, e, &[], s, s, width)?);
-        if !all.holds {
-            return Ok(all);
-        }
-    }
-    Ok(all)
 }
 
 /// What Next gives from a state to another (Specifying Systems, sections 2.3 and 8.1).
@@ -183,7 +150,7 @@ pub fn next(
     let effect = action(
         alloc,
         &job.next,
-        Assigned::PrimedVariables(count),
+        Assignable::PrimedVariables(count),
         &[],
         s,
         t,

@@ -5,7 +5,7 @@ ghost use Rattle.tla_meaning.specs.Actions.{counts};
 ghost use Rattle.tla_evaluator.specs.Trees.{is_expanded, stays};
 ghost use Rattle.tla_evaluator.specs.Mentions.{mentions};
 
-use tla_meaning::{Assigned, Expr, Op};
+use tla_meaning::{Assignable, Expr, Op};
 
 // Whether the operator is left after expansion.
 pub(crate) fn stays(op: &Op) -> bool
@@ -38,21 +38,21 @@ fn all_expanded(trees: &[Expr]) -> bool
     true
 }
 
-fn counts(assigned: Assigned, i: usize, primed: bool) -> bool
+fn counts(assigned: Assignable, i: usize, primed: bool) -> bool
     ensures { result ≡ counts assigned i primed }
 {
     match assigned {
-        Assigned::Every => true,
-        Assigned::Primed => primed,
-        Assigned::Constants(constants) => i < constants,
-        Assigned::Variables(constants) => constants <= i,
-        Assigned::PrimedVariables(constants) => primed && constants <= i,
+        Assignable::Every => true,
+        Assignable::Primed => primed,
+        Assignable::Constants(constants) => i < constants,
+        Assignable::Variables(constants) => constants <= i,
+        Assignable::PrimedVariables(constants) => primed && constants <= i,
     }
 }
 
 // Whether the tree holds a name that counts as assigned.
 #[cycle(mentions)]
-fn mentions(e: &Expr, assigned: Assigned) -> bool
+fn mentions(e: &Expr, assigned: Assignable) -> bool
     ensures { result ≡ mentions assigned e.now }
 {
     match &e.op {
@@ -62,7 +62,7 @@ fn mentions(e: &Expr, assigned: Assigned) -> bool
 }
 
 #[cycle(mentions)]
-pub(crate) fn any_mentions(trees: &[Expr], assigned: Assigned) -> bool
+pub(crate) fn any_mentions(trees: &[Expr], assigned: Assignable) -> bool
     ensures { result ≡ list_any (mentions assigned) trees.now }
 {
     for e in trees {

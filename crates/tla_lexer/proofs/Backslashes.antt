@@ -8,7 +8,7 @@ use Rattle.tla_values.specs.Names.{is_letter}
 use Rattle.tla_lexer.specs.declared.pieces.Piece.{Piece}
 use Rattle.tla_lexer.specs.declared.pieces.Piece.TheVariants.{LineComment, Bad}
 use Rattle.tla_lexer.specs.Classes.{is_digit, is_line_feed, StartsIn, BeginsWith}
-use Rattle.tla_lexer.specs.Comments.{begins_with_pair}
+use Rattle.tla_lexer.specs.inner.Comments.{begins_with_pair}
 use Rattle.tla_lexer.specs.Pieces.{symbol_or_bad, symbol_or_stray, backslash, is_octal, open_behind, block_comment, IsSymbolic}
 use Rattle.tla_lexer.specs.Symbols.{symbol_of, NoSymbolPast}
 use Rattle.tla_lexer.proofs.Heads.{reads_parenthesis, reads_backslash}

@@ -7,7 +7,7 @@ use Rattle.std.proofs.lemmas.List.{append-nil, append_assoc, length-append, leng
 use Rattle.tla_lexer.specs.declared.pieces.Piece.{Piece}
 use Rattle.tla_lexer.specs.declared.pieces.Piece.TheVariants.{LineComment, BlockComment, OpenComment}
 use Rattle.tla_lexer.specs.Classes.{is_line_feed, StartsIn, BeginsWith}
-use Rattle.tla_lexer.specs.Comments.{begins_with_pair}
+use Rattle.tla_lexer.specs.inner.Comments.{begins_with_pair}
 use Rattle.tla_lexer.specs.Pieces.{parenthesis, backslash, open_behind, block_comment, IsFound}
 use Rattle.tla_lexer.proofs.Fronts.{longer_fails, length-front, longer_front, read_on}
 use Rattle.tla_lexer.proofs.Heads.{found, reads_parenthesis, reads_backslash}

@@ -8,7 +8,7 @@ use Rattle.tla_lexer.specs.declared.pieces.Piece.TheVariants.{Lexeme, Bad}
 use Rattle.tla_lexer.specs.declared.token.TokenKind.TheVariants.{Quoted}
 use Rattle.tla_lexer.specs.Classes.{StartsIn}
 use Rattle.tla_lexer.specs.Pieces.{escaped, is_plain, put, text_of, quoted, IsFound}
-use Rattle.tla_lexer.specs.Texts.{StandsFor}
+use Rattle.tla_lexer.specs.inner.Texts.{StandsFor}
 use Rattle.tla_lexer.proofs.Fronts.{longer_front, front_is, read_on}
 use Rattle.tla_lexer.proofs.Heads.{found, reads_quoted}
 use Rattle.tla_lexer.proofs.SymbolLemmas.{none_unless}

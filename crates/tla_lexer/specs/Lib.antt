@@ -1,8 +1,7 @@
 pub mod Classes
-pub mod Comments
 pub mod Header
 pub mod Pieces
 pub mod Places
 pub mod Runs
 pub mod Symbols
-pub mod Texts
+pub mod inner

@@ -1,7 +1,7 @@
 // Comments.
 ghost use Rattle.std.specs.Prelude.{◌≡◌, not, true};
 ghost use Rattle.tla_lexer.specs.Classes.{is_line_feed, BeginsWith};
-ghost use Rattle.tla_lexer.specs.Comments.{begins_with_pair, IsMark};
+ghost use Rattle.tla_lexer.specs.inner.Comments.{begins_with_pair, IsMark};
 ghost use Rattle.tla_lexer.specs.Pieces.{IsFound};
 
 use crate::pieces::{Found, Piece};

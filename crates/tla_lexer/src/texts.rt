@@ -2,7 +2,7 @@
 ghost use Rattle.std.specs.Prelude.{◌≡◌, ◌==◌, IfOk};
 ghost use Rattle.tla_lexer.specs.Classes.{StartsIn};
 ghost use Rattle.tla_lexer.specs.Pieces.{escaped, IsFound};
-ghost use Rattle.tla_lexer.specs.Texts.{IsUnit};
+ghost use Rattle.tla_lexer.specs.inner.Texts.{IsUnit};
 
 use crate::pieces::{Found, Piece};
 use crate::token::TokenKind;

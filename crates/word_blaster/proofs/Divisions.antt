@@ -9,7 +9,7 @@ use Rattle.sat_formula.specs.declared.lit.Lit.{Lit}
 use Rattle.sat_formula.specs.Lit.{lit_value}
 use Rattle.word_blaster.specs.Word.{bit, number, taken, sign, signed, values}
 use Rattle.word_blaster.specs.Quotient.{floor_quotient, floor_remainder}
-use Rattle.word_blaster.specs.Division.{IsDivideStep, IsFirstRest, IsDivided}
+use Rattle.word_blaster.specs.inner.Division.{IsDivideStep, IsFirstRest, IsDivided}
 use Rattle.word_blaster.proofs.Bits.{double_pow, number-cons, number-append, number-push, number_lt, bit-le}
 use Rattle.word_blaster.proofs.Signs.{signed_parts, number-not, difference_cases, taken-push}
 use Rattle.word_blaster.proofs.Multiples.{taken-cons, number-mask}

@@ -1,3 +1,3 @@
 pub mod Word
-pub mod Division
 pub mod Quotient
+pub mod inner

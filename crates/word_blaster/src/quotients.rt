@@ -3,7 +3,7 @@
 ghost use Rattle.std.specs.Prelude.{◌≡◌, ℕ, suc, ◌+◌, ◌<◌, ◌≤◌, Bool, length, IfOk, List, pos};
 ghost use Rattle.sat_formula.specs.Lit.{lit_value};
 ghost use Rattle.sat_formula.specs.Formula.{Grows, Satisfies};
-ghost use Rattle.word_blaster.specs.Division.{IsDivideStep, IsFirstRest, IsDivided};
+ghost use Rattle.word_blaster.specs.inner.Division.{IsDivideStep, IsFirstRest, IsDivided};
 ghost use Rattle.word_blaster.specs.Quotient.{IsDividedWhere, IsFloorQuotient, IsFloorRemainder};
 ghost use Rattle.word_blaster.specs.Word.{values, WordBelow};
 

@@ -1,4 +1,4 @@
-use Rattle.refutation_checker.specs.Reading.{Closes, ClosesNone}
+use Rattle.refutation_checker.specs.inner.Reading.{Closes, ClosesNone}
 use Rattle.std.specs.Prelude.{option_copied}
 use Rattle.sat_formula.specs.Lit.{IsBelow}
 use Rattle.std.proofs.Common.{None}

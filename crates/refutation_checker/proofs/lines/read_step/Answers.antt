@@ -2,7 +2,7 @@ use Rattle.std.proofs.Common.{Some}
 use Rattle.std.specs.Prelude.{decimal, option_copied}
 use Rattle.sat_formula.specs.Lit.{IsBelow}
 use Rattle.refutation_checker.specs.Certificate.{lit_text, IsHint}
-use Rattle.refutation_checker.specs.Reading.{Closes, ClosesNone}
+use Rattle.refutation_checker.specs.inner.Reading.{Closes, ClosesNone}
 use Rattle.refutation_checker.proofs.LineTexts.{step_uncut, step_no_id, step_no_lits, step_ended, step_no_hints, step_unended, step_made}
 use Rattle.refutation_checker.proofs.lines.read_step.Goals as goal
 

@@ -2,8 +2,8 @@ use Rattle.std.proofs.Common.{All, refl}
 use Rattle.std.proofs.lemmas.Result.{err_from_is_err_and}
 use Rattle.sat_formula.specs.Lit.{IsBelow}
 use Rattle.refutation_checker.specs.Certificate.{clause_text}
-use Rattle.refutation_checker.specs.Sections.{IsLineOf}
-use Rattle.refutation_checker.specs.Reading.{SpellsNone}
+use Rattle.refutation_checker.specs.inner.Sections.{IsLineOf}
+use Rattle.refutation_checker.specs.inner.Reading.{SpellsNone}
 use Rattle.refutation_checker.proofs.Stops.{no_line, not_this, none_spelled}
 use Rattle.refutation_checker.proofs.reading.clause.Goals as goal
 

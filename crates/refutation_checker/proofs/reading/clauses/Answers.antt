@@ -4,7 +4,7 @@ use Rattle.std.proofs.lemmas.List.{length_push}
 use Rattle.std.proofs.lemmas.List.Elements.{All-push}
 use Rattle.sat_formula.specs.Lit.{IsBelow}
 use Rattle.refutation_checker.specs.Certificate.{clause_text}
-use Rattle.refutation_checker.specs.Sections.{IsLineOf, StopsAtOnce, StopsInClauses}
+use Rattle.refutation_checker.specs.inner.Sections.{IsLineOf, StopsAtOnce, StopsInClauses}
 use Rattle.refutation_checker.proofs.Stops.{AtLine-weaker, clauses_stop, takes_push}
 use Rattle.refutation_checker.proofs.reading.clauses.Goals as goal
 

@@ -1,7 +1,7 @@
 use Rattle.std.proofs.Common.{◌≡◌, All, length, map}
 use Rattle.sat_formula.specs.Lit.{IsBelow}
 use Rattle.refutation_checker.specs.Certificate.{clause_text}
-use Rattle.refutation_checker.specs.Sections.{Takes}
+use Rattle.refutation_checker.specs.inner.Sections.{Takes}
 use Rattle.refutation_checker.proofs.reading.clauses.Given as goal
 
 abbrev pub invariant-loop : goal.invariant-loop

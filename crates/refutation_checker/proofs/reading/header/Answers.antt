@@ -1,7 +1,7 @@
 use Rattle.std.proofs.Common.{refl}
 use Rattle.std.proofs.lemmas.Result.{err_from_is_err_and}
-use Rattle.refutation_checker.specs.Lines.{IsHeader, header_line}
-use Rattle.refutation_checker.specs.Sections.{IsLineOf}
+use Rattle.refutation_checker.specs.inner.Lines.{IsHeader, header_line}
+use Rattle.refutation_checker.specs.inner.Sections.{IsLineOf}
 use Rattle.refutation_checker.proofs.Stops.{no_line, not_this, none_spelled}
 use Rattle.refutation_checker.proofs.reading.header.Goals as goal
 

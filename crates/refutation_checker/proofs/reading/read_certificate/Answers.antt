@@ -3,7 +3,7 @@ use Rattle.std.proofs.lemmas.Result.{err_from_is_err_and}
 use Rattle.std.proofs.lemmas.List.Elements.{All-push}
 use Rattle.refutation_checker.specs.Certificate.{IsInGrammar, IsCertificate, IsFirstBadLine, first_line}
 use Rattle.refutation_checker.specs.Faults.{AtLine}
-use Rattle.refutation_checker.specs.Sections.{StopsAtOnce, StopsInSection}
+use Rattle.refutation_checker.specs.inner.Sections.{StopsAtOnce, StopsInSection}
 use Rattle.refutation_checker.proofs.Closed.{not_so}
 use Rattle.refutation_checker.proofs.Stops.{AtLine-weaker}
 use Rattle.refutation_checker.proofs.CertificateStops.{first_stops, section_stops, sections_push, sections_whole, printed_certificate, certificate_same, certificate_good, no_certificate, no_other_line}

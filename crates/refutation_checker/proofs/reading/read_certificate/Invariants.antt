@@ -1,6 +1,6 @@
 use Rattle.std.proofs.Common.{All, length}
 use Rattle.refutation_checker.specs.Certificate.{IsInGrammar, certificate_lines}
-use Rattle.refutation_checker.specs.Sections.{Takes}
+use Rattle.refutation_checker.specs.inner.Sections.{Takes}
 use Rattle.refutation_checker.proofs.reading.read_certificate.Given as goal
 
 abbrev pub invariant-sections : goal.invariant-sections

@@ -1,8 +1,8 @@
 use Rattle.std.proofs.Common.{◌≡◌}
 use Rattle.std.specs.Prelude.{codes}
 use Rattle.std.proofs.lemmas.Result.{err_from_is_err_and}
-use Rattle.refutation_checker.specs.Lines.{IsHeader, IsQuestion, header_line, question_line}
-use Rattle.refutation_checker.specs.Sections.{IsLineOf, StopsAtOnce, StopsInClauses, StopsInSection, StopsInSteps}
+use Rattle.refutation_checker.specs.inner.Lines.{IsHeader, IsQuestion, header_line, question_line}
+use Rattle.refutation_checker.specs.inner.Sections.{IsLineOf, StopsAtOnce, StopsInClauses, StopsInSection, StopsInSteps}
 use Rattle.refutation_checker.proofs.Stops.{AtLine-weaker}
 use Rattle.refutation_checker.proofs.SectionStops.{question_stops, header_stops, clauses_stops, log_stops, steps_stops, section_made}
 use Rattle.refutation_checker.proofs.reading.section.Goals as goal

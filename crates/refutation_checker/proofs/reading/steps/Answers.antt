@@ -2,8 +2,8 @@ use Rattle.std.proofs.Common.{refl}
 use Rattle.std.proofs.lemmas.Result.{err_from_is_err_and}
 use Rattle.std.proofs.lemmas.List.Elements.{All-push}
 use Rattle.refutation_checker.specs.Certificate.{step_text, end_text, IsStep, EndsRightly}
-use Rattle.refutation_checker.specs.Reading.{Spells, SpellsNone}
-use Rattle.refutation_checker.specs.Sections.{IsLineOf}
+use Rattle.refutation_checker.specs.inner.Reading.{Spells, SpellsNone}
+use Rattle.refutation_checker.specs.inner.Sections.{IsLineOf}
 use Rattle.refutation_checker.proofs.Stops.{no_line, not_this, none_spelled, steps_stop, takes_push_line}
 use Rattle.refutation_checker.proofs.reading.steps.Goals as goal
 

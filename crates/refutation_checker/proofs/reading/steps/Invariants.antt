@@ -1,6 +1,6 @@
 use Rattle.std.proofs.Common.{All, length, map}
 use Rattle.refutation_checker.specs.Certificate.{IsStep, step_text}
-use Rattle.refutation_checker.specs.Sections.{Takes}
+use Rattle.refutation_checker.specs.inner.Sections.{Takes}
 use Rattle.refutation_checker.proofs.reading.steps.Given as goal
 
 abbrev pub invariant-steps : goal.invariant-steps

@@ -1,7 +1,7 @@
 use Rattle.std.proofs.Common.{List, map, ap, ◌∙◌}
 use Rattle.sat_formula.specs.declared.lit.Lit.{Lit}
-use Rattle.symbolic_mc.specs.Boolean.{state_of}
-use Rattle.symbolic_mc.specs.Levels.{values_of}
+use Rattle.symbolic_mc.specs.inner.Boolean.{state_of}
+use Rattle.symbolic_mc.specs.inner.Levels.{values_of}
 use Rattle.sat_formula.specs.Clause.{AllTrue}
 use Rattle.symbolic_mc.proofs.Found.{found, not_found, some_of, none_of}
 use Rattle.symbolic_mc.proofs.checking.counterexample.Goals as goal

@@ -1,6 +1,6 @@
 use Rattle.std.proofs.Common.{◌≡◌, map, take}
-use Rattle.symbolic_mc.specs.Boolean.{state_of}
-use Rattle.symbolic_mc.specs.Levels.{values_of}
+use Rattle.symbolic_mc.specs.inner.Boolean.{state_of}
+use Rattle.symbolic_mc.specs.inner.Levels.{values_of}
 use Rattle.symbolic_mc.proofs.checking.decode.Given as goal
 
 abbrev pub invariant-loop-code : goal.invariant-loop-code

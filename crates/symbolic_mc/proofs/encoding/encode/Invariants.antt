@@ -1,5 +1,5 @@
 use Rattle.std.proofs.Common.{◌≡◌, ◌+◌, length}
-use Rattle.symbolic_mc.specs.Levels.{IsLevel}
+use Rattle.symbolic_mc.specs.inner.Levels.{IsLevel}
 use Rattle.symbolic_mc.proofs.encoding.encode.Given as goal
 
 abbrev pub invariant-loop-step : goal.invariant-loop-step

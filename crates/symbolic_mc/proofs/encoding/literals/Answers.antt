@@ -1,5 +1,5 @@
 use Rattle.symbolic_mc.proofs.Literals.{all_more}
-use Rattle.symbolic_mc.specs.Levels.{values_of}
+use Rattle.symbolic_mc.specs.inner.Levels.{values_of}
 use Rattle.symbolic_mc.proofs.encoding.literals.Goals as goal
 
 pub loop-conjunct-preserved : goal.loop-conjunct-preserved

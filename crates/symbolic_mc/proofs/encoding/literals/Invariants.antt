@@ -1,8 +1,8 @@
 use Rattle.std.proofs.Common.{◌≡◌, ℕ, Bool, List, take, All}
 use Rattle.std.specs.List.{list_all}
 use Rattle.sat_formula.specs.Lit.{lit_value, IsBelow}
-use Rattle.symbolic_mc.specs.Boolean.{all_hold}
-use Rattle.symbolic_mc.specs.Levels.{values_of}
+use Rattle.symbolic_mc.specs.inner.Boolean.{all_hold}
+use Rattle.symbolic_mc.specs.inner.Levels.{values_of}
 use Rattle.symbolic_mc.proofs.encoding.literals.Given as goal
 
 abbrev pub invariant-loop-conjunct : goal.invariant-loop-conjunct

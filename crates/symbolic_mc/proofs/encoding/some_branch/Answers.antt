@@ -1,7 +1,7 @@
 use Rattle.std.proofs.Common.{arith, ◌∙◌}
 use Rattle.sat_formula.proofs.Extension.{Grows-trans}
-use Rattle.symbolic_mc.specs.Boolean.{all_hold}
-use Rattle.symbolic_mc.specs.Levels.{values_of}
+use Rattle.symbolic_mc.specs.inner.Boolean.{all_hold}
+use Rattle.symbolic_mc.specs.inner.Levels.{values_of}
 use Rattle.symbolic_mc.proofs.Literals.{or_step}
 use Rattle.symbolic_mc.proofs.encoding.some_branch.Goals as goal
 

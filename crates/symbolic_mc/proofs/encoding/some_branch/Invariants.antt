@@ -1,7 +1,7 @@
 use Rattle.std.proofs.Common.{take, ◌≤◌}
 use Rattle.sat_formula.specs.Formula.{Grows, HasValue}
-use Rattle.symbolic_mc.specs.Boolean.{some_holds}
-use Rattle.symbolic_mc.specs.Levels.{values_of}
+use Rattle.symbolic_mc.specs.inner.Boolean.{some_holds}
+use Rattle.symbolic_mc.specs.inner.Levels.{values_of}
 use Rattle.symbolic_mc.proofs.encoding.some_branch.Given as goal
 
 abbrev pub invariant-loop-branch : goal.invariant-loop-branch

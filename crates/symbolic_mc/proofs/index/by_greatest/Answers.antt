@@ -1,7 +1,7 @@
 use Rattle.std.proofs.Common.{◌≡◌, ℕ, ◌+◌, ◌<◌, ◌≤◌, ◌∙◌, List, [], ap, sym, subst, length, set, get_or, arith, All}
 use Rattle.std.specs.Prelude.{Contains}
 use Rattle.std.proofs.lemmas.List.{get_or_default}
-use Rattle.symbolic_mc.specs.Index.{IsGreatest}
+use Rattle.symbolic_mc.specs.inner.Index.{IsGreatest}
 use Rattle.symbolic_mc.proofs.Indexed.{entered, not_entered, greatest_of}
 use Rattle.symbolic_mc.proofs.index.by_greatest.Goals as goal
 use Rattle.symbolic_mc.proofs.index.by_greatest.Goals.{then-variable-len+in_ok-push, else-variable-len}

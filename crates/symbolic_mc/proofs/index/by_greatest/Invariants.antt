@@ -1,6 +1,6 @@
 use Rattle.std.proofs.Common.{◌≡◌, ℕ, ◌<◌, [], length, get_or, All}
 use Rattle.std.specs.Prelude.{Contains}
-use Rattle.symbolic_mc.specs.Index.{IsGreatest}
+use Rattle.symbolic_mc.specs.inner.Index.{IsGreatest}
 use Rattle.symbolic_mc.proofs.index.by_greatest.Given as goal
 
 abbrev pub invariant-loop-number : goal.invariant-loop-number

@@ -1,6 +1,6 @@
 use Rattle.std.proofs.Common.{ℕ, ◌<◌, ◌≤◌, get_or}
 use Rattle.sat_formula.specs.declared.lit.Lit.{Lit}
-use Rattle.symbolic_mc.specs.Index.{IsGreatest}
+use Rattle.symbolic_mc.specs.inner.Index.{IsGreatest}
 use Rattle.symbolic_mc.proofs.index.greatest.Given as goal
 
 abbrev pub invariant-loop-lit : goal.invariant-loop-lit

@@ -1,5 +1,5 @@
 use Rattle.std.specs.List.{join_by}
-use Rattle.symbolic_mc.specs.Reading.{SomeFit, EndsList}
+use Rattle.symbolic_mc.specs.inner.Reading.{SomeFit, EndsList}
 use Rattle.symbolic_mc.proofs.Readings.{behind_only, behind_none}
 use Rattle.symbolic_mc.proofs.Texts.{on_ok}
 use Rattle.symbolic_mc.proofs.reader.read_behind.Goals as goal

@@ -1,6 +1,6 @@
 use Rattle.std.proofs.Common.{◌≡◌, ℕ, [], take, false, get_or}
 use Rattle.std.specs.List.{list_any}
-use Rattle.symbolic_mc.specs.Search.{is_false}
+use Rattle.symbolic_mc.specs.inner.Search.{is_false}
 use Rattle.symbolic_mc.proofs.search.has_false_among.Given as goal
 
 abbrev pub invariant-loop-number : goal.invariant-loop-number

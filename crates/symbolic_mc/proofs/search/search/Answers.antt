@@ -1,5 +1,5 @@
 use Rattle.std.proofs.Common.{◌<◌, ◌∷◌, ◌∙◌, [], ap, sym, subst, List, Bool, false, length, length-append, arith}
-use Rattle.symbolic_mc.specs.Search.{has_false, WasCalm}
+use Rattle.symbolic_mc.specs.inner.Search.{has_false, WasCalm}
 use Rattle.symbolic_mc.proofs.Decided.{decided_as}
 use Rattle.symbolic_mc.proofs.Indexed.{calm-push, calm-turn}
 use Rattle.symbolic_mc.proofs.Passed.{Passed, passed-push, passed-turn, none_left, false_as}

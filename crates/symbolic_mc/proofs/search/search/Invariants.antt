@@ -1,5 +1,5 @@
 use Rattle.std.proofs.Common.{◌≤◌, length}
-use Rattle.symbolic_mc.specs.Search.{WasCalm}
+use Rattle.symbolic_mc.specs.inner.Search.{WasCalm}
 use Rattle.symbolic_mc.proofs.Passed.{Passed}
 use Rattle.symbolic_mc.proofs.Work.{work}
 use Rattle.symbolic_mc.proofs.search.search.Given as goal

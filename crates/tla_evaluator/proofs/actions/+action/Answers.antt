@@ -7,7 +7,7 @@ use Rattle.tla_meaning.specs.declared.outcome.Fault.TheVariants.{NoFault}
 use denote.Param.Weighed.{most}
 use Rattle.tla_meaning.specs.declared.expr.Expr.{Expr, out-Expr, size-Expr}
 use Rattle.tla_meaning.specs.Actions.{case_effect, effects_and, effects_or, if_effect}
-use Rattle.tla_meaning.specs.declared.actions.Assigned.{Assigned}
+use Rattle.tla_meaning.specs.declared.actions.Assignable.{Assignable}
 use Rattle.tla_evaluator.specs.Effects.{exists_at, first_effect}
 use Rattle.tla_evaluator.specs.Mentions.{mentions}
 use Rattle.tla_evaluator.specs.Trees.{AreNormal, effects_at, outcomes_at}
@@ -17,7 +17,7 @@ use Rattle.tla_evaluator.proofs.actions.+action.Goals as goal
 use Rattle.tla_evaluator.proofs.actions.+action.Goals.{action-in_default-via-in-Or+else-any_mentions, action-in_default-via-in-If+else-any_mentions-2, action-in_default-via-in-Case+else-any_mentions-3, action-in_default-via-in_default}
 
 -- whether a child is marked, as the call says
-here : (m : Assigned) (es args : List Expr) (b : Bool) → es ≡ args → b ≡ list_any (mentions m) es → list_any (mentions m) args ≡ b
+here : (m : Assignable) (es args : List Expr) (b : Bool) → es ≡ args → b ≡ list_any (mentions m) es → list_any (mentions m) args ≡ b
 here m es args b same is = ap (list_any (mentions m)) (sym same) ∙ sym is
 
 pub all_effects-loop-e-preserved : goal.all_effects-loop-e-preserved

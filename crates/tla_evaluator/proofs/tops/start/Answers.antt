@@ -18,7 +18,7 @@ returns-then-not-assumed c =
     c.constants-count.ensures ∙ ap (λ ds. length (filter (λ (d : Decl). d.constant) ds)) c.as_slice.ensures in
     c.outcome_of-then-not-assumed.ensures
     ∙ stops_second _ _ c.args.job.now _ count c.requires.cinit c.requires.assume c.requires.init c.in_ok-cinit.cinit c.behind-assumed.result
-    c.in_ok-cinit.ensures c.if-not-cinit.false (c.behind-assumed.ensures ∙ ap (behind c.in_ok-cinit.cinit.fault) c.in_ok-assumptions.ensures) c.if-not-assumed.true
+    c.in_ok-cinit.ensures c.if-not-cinit.false (c.behind-assumed.ensures ∙ ap (behind c.in_ok-cinit.cinit.fault) c.in_ok-by_value.ensures) c.if-not-assumed.true
 
 pub returns : goal.returns
 returns c =
@@ -26,5 +26,5 @@ returns c =
     c.constants-count.ensures ∙ ap (λ ds. length (filter (λ (d : Decl). d.constant) ds)) c.as_slice.ensures in
     c.outcome_of-2.ensures
     ∙ goes_on _ _ c.args.job.now _ count c.requires.cinit c.requires.assume c.requires.init c.in_ok-cinit.cinit c.behind-assumed.result _
-    c.in_ok-cinit.ensures c.if-not-cinit.false (c.behind-assumed.ensures ∙ ap (behind c.in_ok-cinit.cinit.fault) c.in_ok-assumptions.ensures) c.if-not-assumed.false
+    c.in_ok-cinit.ensures c.if-not-cinit.false (c.behind-assumed.ensures ∙ ap (behind c.in_ok-cinit.cinit.fault) c.in_ok-by_value.ensures) c.if-not-assumed.false
     (c.behind.ensures ∙ ap (behind c.behind-assumed.result.fault) c.in_ok-init.ensures)

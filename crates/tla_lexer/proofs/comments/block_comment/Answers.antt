@@ -1,6 +1,6 @@
 use Rattle.std.proofs.Common.{◌≡◌, ◌+◌, ◌-◌, sym, ◌∙◌, ap, subst, arith}
 use Rattle.std.proofs.lemmas.List.{take_rest}
-use Rattle.tla_lexer.specs.Comments.{begins_with_pair}
+use Rattle.tla_lexer.specs.inner.Comments.{begins_with_pair}
 use Rattle.tla_lexer.proofs.CommentLemmas.{Knows, knows_start, knows_opens, knows_closes, knows_neither, closed_found, open_found}
 use Rattle.tla_lexer.proofs.comments.block_comment.Goals as goal
 

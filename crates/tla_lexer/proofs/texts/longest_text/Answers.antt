@@ -1,6 +1,6 @@
 use Rattle.std.proofs.Common.{subst, sym, ap, ◌∙◌, drop}
 use Rattle.std.proofs.lemmas.List.{take_rest}
-use Rattle.tla_lexer.specs.Texts.{StandsFor}
+use Rattle.tla_lexer.specs.inner.Texts.{StandsFor}
 use Rattle.tla_lexer.proofs.TextLemmas.{InText, in_text_start, in_text_on, text_found, text_fails}
 use Rattle.tla_lexer.proofs.texts.longest_text.Goals as goal
 

@@ -3,7 +3,7 @@ use Rattle.sat_formula.specs.Lit.{lit_value}
 use Rattle.sat_formula.specs.declared.lit.Lit.{Lit}
 use Rattle.sat_formula.proofs.Extension.{Satisfies-older}
 use Rattle.word_blaster.specs.Word.{signed, values}
-use Rattle.word_blaster.specs.Division.{IsDivided}
+use Rattle.word_blaster.specs.inner.Division.{IsDivided}
 use Rattle.word_blaster.proofs.Words.{values-length, values-push, turned-value}
 use Rattle.word_blaster.proofs.Divisions.{positive_is, divided_quotient, divided_remainder}
 use Rattle.std.proofs.Common.{suc, sym}

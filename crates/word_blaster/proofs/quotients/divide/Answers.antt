@@ -4,7 +4,7 @@ use Rattle.sat_formula.specs.Lit.{lit_value}
 use Rattle.sat_formula.specs.declared.lit.Lit.{Lit}
 use Rattle.sat_formula.proofs.Extension.{Satisfies-older, Grows-trans, Grows-refl}
 use Rattle.word_blaster.specs.Word.{values, WordBelow}
-use Rattle.word_blaster.specs.Division.{IsDivided, IsDivideStep}
+use Rattle.word_blaster.specs.inner.Division.{IsDivided, IsDivideStep}
 use Rattle.word_blaster.proofs.Words.{WordBelow-get, WordBelow-later, WordBelow-cons, WordBelow-nil, values-length}
 use Rattle.word_blaster.proofs.Divisions.{divided_sign, divided_more}
 use Rattle.word_blaster.proofs.quotients.divide.Goals as goal

@@ -1,7 +1,7 @@
 use Rattle.std.proofs.Common.{◌≡◌, ◌+◌, ◌-◌, ◌≤◌, Bool, List, length, drop}
 use Rattle.sat_formula.specs.Formula.{Grows, Satisfies}
 use Rattle.word_blaster.specs.Word.{values, WordBelow}
-use Rattle.word_blaster.specs.Division.{IsDivided}
+use Rattle.word_blaster.specs.inner.Division.{IsDivided}
 use Rattle.word_blaster.proofs.quotients.divide.Given as goal
 
 abbrev pub invariant-loop-k : goal.invariant-loop-k

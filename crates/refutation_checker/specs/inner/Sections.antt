@@ -5,7 +5,7 @@ use Rattle.sat_formula.specs.Lit.{IsBelow}
 use Rattle.refutation_checker.specs.declared.log.Step.{Step}
 use Rattle.refutation_checker.specs.declared.section.Section.{Section}
 use Rattle.refutation_checker.specs.Certificate.{clause_text, step_text, end_text, section_lines, text_of_lines, IsStep, EndsRightly, IsInGrammar}
-use Rattle.refutation_checker.specs.Reading.{Lacks}
+use Rattle.refutation_checker.specs.inner.Reading.{Lacks}
 use Rattle.refutation_checker.specs.Place.{Place}
 
 -- the line spells a value that fits

@@ -6,7 +6,7 @@ use Rattle.tla_meaning.specs.BooleanLayout.{keyword_text, variables_text, conjun
 use Rattle.tla_values.specs.Names.{is_letter}
 use Rattle.symbolic_mc.specs.declared.reader.Head.{Head}
 use Rattle.symbolic_mc.specs.declared.reader.Definitions.{Definitions}
-use Rattle.symbolic_mc.specs.Reading.{BeginsNot, no_letter_first, SomeFit}
+use Rattle.symbolic_mc.specs.inner.Reading.{BeginsNot, no_letter_first, SomeFit}
 
 abbrev pub prime_text : Bool → List ℕ
 prime_text primed = if primed then codes "' " else codes " "

@@ -5,7 +5,7 @@ use Rattle.sat_formula.specs.declared.cnf.Cnf.{Cnf}
 use Rattle.sat_formula.specs.Lit.{values, IsBelow}
 use Rattle.sat_formula.specs.Formula.{Satisfies}
 use Rattle.tla_meaning.specs.declared.boolean.BooleanModule.{BooleanModule}
-use Rattle.symbolic_mc.specs.Boolean.{IsRun}
+use Rattle.symbolic_mc.specs.inner.Boolean.{IsRun}
 
 -- the truth values that an assignment gives a state's literals
 abbrev pub values_of : List Bool → List Lit → List Bool
