@@ -1,7 +1,7 @@
 -- Set forms by their kinds, and what belongs to lists of them.
 use Rattle.std.proofs.lemmas.Bool.Decides.{nat_tests}
 use Rattle.std.proofs.lemmas.List.{length-map}
-use Rattle.std.proofs.Common.{◌≡◌, ℕ, zero, suc, ◌≤◌, ◌==◌, ◌&&◌, Bool, true, false, length, drop, arith, List, [], ◌∷◌, map, refl, ap, ◌∙◌, sym}
+use Rattle.std.proofs.Common.{◌≡◌, ℕ, zero, suc, ◌≤◌, ◌==◌, ◌&&◌, Bool, true, false, length, drop, arith, List, [], ◌∷◌, refl, ap, ◌∙◌, sym}
 use Rattle.tla_values.specs.Order.{Layer, same_value, text_cmp, value_cmp}
 use Rattle.tla_values.proofs.Laws.{value_back}
 use Rattle.std.specs.declared.cmp.Ordering.{Ordering}

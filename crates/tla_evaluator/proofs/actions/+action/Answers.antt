@@ -1,4 +1,4 @@
-use Rattle.std.proofs.Common.{arith, ◌≡◌, ℕ, Bool, false, ◌<◌, ◌≤◌, List, get_or, length, option_map, ap, ap₂, subst, sym, ◌∙◌}
+use Rattle.std.proofs.Common.{arith, ◌≡◌, ℕ, Bool, ◌<◌, ◌≤◌, List, get_or, length, option_map, ap, ap₂, subst, sym, ◌∙◌}
 use Rattle.std.specs.List.{All, list_any}
 use Rattle.std.proofs.lemmas.List.Elements.{All-same}
 use Rattle.tla_values.specs.Sets.{Normal}

@@ -1,4 +1,4 @@
-use Rattle.std.proofs.Common.{◌≡◌, ℕ, ◌++◌, ◌∷◌, [], ◌*◌, ◌≤◌, drop, map}
+use Rattle.std.proofs.Common.{◌≡◌, ℕ, ◌++◌, ◌∷◌, [], ◌*◌, ◌≤◌, drop}
 use denote.Param.Weighed.{most}
 use Rattle.tla_values.specs.Sets.{Normal}
 use Rattle.tla_meaning.specs.declared.expr.Expr.{Expr, out-Expr}
