@@ -1,8 +1,8 @@
 use std::test::Fail;
 use tla_values::{
-    List, Text, Value, apply, cmp_values, copy_text, copy_value, domain_of, fun_of, inter_of,
-    is_function, is_name, is_normal, is_set, member, minus, override_at, same_text, same_value,
-    set_of, show, subset, union_of,
+    List, Text, Value, apply, cmp_values, copy_onto, copy_text, copy_texts, copy_value, domain_of,
+    fun_of, inter_of, is_function, is_name, is_normal, is_set, member, minus, override_at,
+    same_text, same_value, set_of, show, subset, union_of,
 };
 
 fn text(rt: &HostRuntime, bytes: &[u8]) -> Result<Value, Fail> {
@@ -279,5 +279,25 @@ fn lists_and_texts_give_back_what_they_hold(rt: HostRuntime) -> Result<(), Fail>
     let ac = Text::from_vec(Vec::from_slice(rt.alloc(), b"ac")?);
     assert!(rt; !same_text(&ab, &ac) && same_text(&ab, &copy_text(rt.alloc(), &ab)?));
     assert!(rt; ab.into_vec().as_slice() == b"ab".as_slice());
+    Ok(())
+}
+
+#[test]
+fn copies_of_lists_are_equal(rt: HostRuntime) -> Result<(), Fail> {
+    let mut texts = List::new(rt.alloc());
+    texts.push(Text::from_vec(Vec::from_slice(rt.alloc(), b"one")?))?;
+    texts.push(Text::from_vec(Vec::from_slice(rt.alloc(), b"")?))?;
+    let copies = copy_texts(rt.alloc(), &texts)?;
+    assert_eq!(rt; copies.len(), 2);
+    assert!(rt;
+        copies
+            .get(0)
+            .is_some_and(|t| t.bytes() == b"one".as_slice())
+    );
+    assert!(rt; copies.get(1).is_some_and(|t| t.bytes().is_empty()));
+    let mut items = numbers(&rt, &[3])?.into_vec();
+    copy_onto(rt.alloc(), numbers(&rt, &[1, 2])?.as_slice(), &mut items)?;
+    let all = set_of(rt.alloc(), List::from_vec(items))?;
+    assert!(rt; shows(&rt, &all, b"{1, 2, 3}")?);
     Ok(())
 }

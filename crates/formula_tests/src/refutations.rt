@@ -1,3 +1,5 @@
+ghost use Rattle.std.specs.Prelude.{◌≡◌, []};
+
 use refutation_checker::{
     Check, Log, QueryName, Recheck, Section, Step, Trail, certificate_head, check, follows,
     print_section, read_certificate, recheck,
@@ -107,26 +109,29 @@ fn the_first_wrong_step_is_named(rt: HostRuntime) -> Result<(), Fail> {
     Ok(())
 }
 
-// One trail serves all steps, also one that is far beyond its table.
+// Whether this step of one literal follows from the four clauses.
+fn asked(alloc: Global, trail: &mut Trail, id: u64, lit: i32, hint: u64) -> Result<bool, AllocError>
+    requires { trail.old ≡ [] }
+    ensures { trail.new ≡ [] }
+{
+    let one = step(alloc, id, &[lit], &[hint, hint.saturating_add(1)])?;
+    let formula = four(alloc)?;
+    follows(formula.clauses.clauses(), &[], &one, trail)
+}
+
+// One trail serves all steps.
 #[test]
 fn steps_are_asked_one_by_one(rt: HostRuntime) -> Result<(), Fail> {
     let alloc = rt.alloc();
-    let formula = four(alloc)?;
-    let clauses = formula.clauses.clauses();
     let mut trail = Trail::new(alloc, 1)?;
-    for (id, lits, hints, wanted) in [
-        (5, 2, [1, 2], true),
-        (6, 2, [1, 2], false),
-        (5, 2, [3, 4], false),
-        (5, -2, [3, 4], true),
-    ] {
-        let one = step(alloc, id, &[lits], &hints)?;
-        assert_eq!(rt;
-            follows(clauses, &[], &one, &mut trail)?,
-            wanted,
-            "{id} {lits}"
-        );
-    }
+    let first = asked(alloc, &mut trail, 5, 2, 1)?;
+    let wrong_number = asked(alloc, &mut trail, 6, 2, 1)?;
+    let wrong_hints = asked(alloc, &mut trail, 5, 2, 3)?;
+    let last = asked(alloc, &mut trail, 5, -2, 3)?;
+    assert_eq!(rt;
+        (first, wrong_number, wrong_hints, last),
+        (true, false, false, true)
+    );
     Ok(())
 }
 

@@ -300,7 +300,14 @@ fn each_line_is_a_write_of_its_own(rt: HostRuntime) -> Result<(), Fail> {
 fn lengths_of_every_size_have_their_answer(rt: HostRuntime) -> Result<(), Fail> {
     for length in ["2", "13", "100", "1000"] {
         let clean = format!(in rt.alloc(); "no error to {length}\n")?;
-        agrees(&rt, &["check", "Toggle.tla", length], STUCK, CALM, 0, &clean)?;
+        agrees(
+            &rt,
+            &["check", "Toggle.tla", length],
+            STUCK,
+            CALM,
+            0,
+            &clean,
+        )?;
     }
     Ok(())
 }
