@@ -27,9 +27,9 @@ use Rattle.tla_meaning.specs.Shapes.{all_set_items, choices}
 use Rattle.tla_meaning.proofs.Joins.{both_assoc, both_same}
 use Rattle.tla_meaning.specs.declared.actions.Assignable.{Assignable}
 use Rattle.tla_meaning.specs.declared.actions.Effect.{Effect}
-use Rattle.tla_evaluator.specs.Effects.{behind, body_effect, either, exists_at, first_effect}
+use Rattle.tla_evaluator.specs.inner.Effects.{behind, body_effect, either, exists_at, first_effect}
 use Rattle.tla_evaluator.specs.Mentions.{mentions}
-use Rattle.tla_evaluator.specs.Trees.{effect_at, effects_at, lone, lone_node, outcomes_at, scope_at, stays, value_at}
+use Rattle.tla_evaluator.specs.Trees.{effect_at, effects_at, expanded_meaning, expanded_node, outcomes_at, scope_at, is_expanded_op, value_at}
 use Rattle.tla_evaluator.proofs.MentionLaws.{holds_as}
 use Rattle.tla_evaluator.proofs.TreeSizes.{most-drop}
 
@@ -39,44 +39,44 @@ use Rattle.tla_evaluator.proofs.TreeSizes.{most-drop}
 abbrev sense_at : ℕ → Expr → List (List ℕ × Value) → Op → Denotation
 sense_at w e vars o =
     let x : Expr-F Expr = out-Expr e in
-    elim (stays o) [
-      | true ↦ denotation_of (Some w) x.place o (length x.binds) (view x.place (role o (length x.binds)) x.binds (map (lone (Some w)) x.args) (scope_at vars))
+    elim (is_expanded_op o) [
+      | true ↦ denotation_of (Some w) x.place o (length x.binds) (view x.place (role o (length x.binds)) x.binds (map (expanded_meaning (Some w)) x.args) (scope_at vars))
       | false ↦ absent x.place
     ]
 
-sense-out : (w : ℕ) (e : Expr) (vars : List (List ℕ × Value)) (o : Op) → (out-Expr e).op ≡ o → lone (Some w) e (scope_at vars) ≡ sense_at w e vars o
-unfolding lone
+sense-out : (w : ℕ) (e : Expr) (vars : List (List ℕ × Value)) (o : Op) → (out-Expr e).op ≡ o → expanded_meaning (Some w) e (scope_at vars) ≡ sense_at w e vars o
+unfolding expanded_meaning
 sense-out w e vars o h =
-    ap (λ (k : Meaning). k (scope_at vars)) (fold_out-Expr Meaning (lone_node (Some w)) e) ∙ ap (sense_at w e vars) h
+    ap (λ (k : Meaning). k (scope_at vars)) (fold_out-Expr Meaning (expanded_node (Some w)) e) ∙ ap (sense_at w e vars) h
 
 -- ---- the children
 
 module _ (w : ℕ) (m : Assignable) (p : Place) (vars : List (List ℕ × Value)) (s t : State) where
-  effects_here : (es : List Expr) → effects m (outer p [] (map (lone (Some w)) es) (scope_at vars)) s t ≡ effects_at w m es vars s t
+  effects_here : (es : List Expr) → effects m (outer p [] (map (expanded_meaning (Some w)) es) (scope_at vars)) s t ≡ effects_at w m es vars s t
   effects_here [] = refl
   effects_here (e ∷ es) = ap (λ fs. effect_at w m e vars s t ∷ fs) (effects_here es)
 
-  outcomes_here : (es : List Expr) → outcomes (outer p [] (map (lone (Some w)) es) (scope_at vars)) s t ≡ outcomes_at w es vars s t
+  outcomes_here : (es : List Expr) → outcomes (outer p [] (map (expanded_meaning (Some w)) es) (scope_at vars)) s t ≡ outcomes_at w es vars s t
   outcomes_here [] = refl
   outcomes_here (e ∷ es) = ap (λ os. value_at w e vars s t ∷ os) (outcomes_here es)
 
-  marked_here : (es : List Expr) → any_mentions m (outer p [] (map (lone (Some w)) es) (scope_at vars)) ≡ list_any (mentions m) es
+  marked_here : (es : List Expr) → any_mentions m (outer p [] (map (expanded_meaning (Some w)) es) (scope_at vars)) ≡ list_any (mentions m) es
   marked_here [] = refl
   marked_here (e ∷ es) = ap₂ ◌||◌ (holds_as (Some w) m e vars) (marked_here es)
 
   -- the domains of a binder, which stand before its body
   domains_here : (n : ℕ) (es : List Expr) →
-      outcomes (take n (outer p (replicate n false ++ true ∷ []) (map (lone (Some w)) es) (scope_at vars))) s t ≡ outcomes_at w (take n es) vars s t
+      outcomes (take n (outer p (replicate n false ++ true ∷ []) (map (expanded_meaning (Some w)) es) (scope_at vars))) s t ≡ outcomes_at w (take n es) vars s t
   domains_here zero es = refl
   domains_here (suc n) [] = refl
   domains_here (suc n) (e ∷ es) = ap (λ os. value_at w e vars s t ∷ os) (domains_here n es)
 
-  first_here : (es : List Expr) → (child p 0 (outer p [] (map (lone (Some w)) es) (scope_at vars))).act m s t ≡ first_effect w m p es vars s t
+  first_here : (es : List Expr) → (child p 0 (outer p [] (map (expanded_meaning (Some w)) es) (scope_at vars))).act m s t ≡ first_effect w m p es vars s t
   first_here [] = refl
   first_here (e ∷ es) = refl
 
   body_here : (n : ℕ) (es : List Expr) →
-      (child p n (inner p (replicate n false ++ true ∷ []) (map (lone (Some w)) es) (scope_at vars))).act m s t ≡ first_effect w m p (drop n es) vars s t
+      (child p n (inner p (replicate n false ++ true ∷ []) (map (expanded_meaning (Some w)) es) (scope_at vars))).act m s t ≡ first_effect w m p (drop n es) vars s t
   body_here zero [] = refl
   body_here zero (e ∷ es) = refl
   body_here (suc n) [] = refl
@@ -123,7 +123,7 @@ module _ (w : ℕ) (m : Assignable) (e : Expr) (vars : List (List ℕ × Value))
   args = (out-Expr e).args
 
   abbrev here : List Denotation
-  here = outer p [] (map (lone (Some w)) args) (scope_at vars)
+  here = outer p [] (map (expanded_meaning (Some w)) args) (scope_at vars)
 
   -- as the node has it, by whether a child is marked
   abbrev by_mark : Op → Bool → Effect → Effect
@@ -171,7 +171,7 @@ module _ (w : ℕ) (m : Assignable) (e : Expr) (vars : List (List ℕ × Value))
   at_exists h =
       let xs : List (List ℕ) = (out-Expr e).binds in
       let body : List Value → Effect = λ c.
-      (child p (length xs) (inner p (replicate (length xs) false ++ true ∷ []) (map (lone (Some w)) args) (scope_at (vars ++ bound_to xs c)))).act m s t in
+      (child p (length xs) (inner p (replicate (length xs) false ++ true ∷ []) (map (expanded_meaning (Some w)) args) (scope_at (vars ++ bound_to xs c)))).act m s t in
       let same : body ≡ (λ c. first_effect w m p (drop (length xs) args) (vars ++ bound_to xs c) s t) =
       λ i. λ c. body_here w m p (vars ++ bound_to xs c) s t (length xs) args i in
       ap (λ (a : Denotation). a.act m s t) (sense-out w e vars op.Exists h)

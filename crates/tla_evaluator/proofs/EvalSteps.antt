@@ -12,7 +12,7 @@ use Rattle.tla_meaning.specs.Meaning.{by_truth, case_chosen, choose, conjoined, 
 use Rattle.tla_meaning.specs.Operators.{yes_no}
 use Rattle.tla_meaning.specs.Outcomes.{join_faults, fault_of, joined, strict, fault_or, values}
 use Rattle.tla_meaning.proofs.Joins.{both_unit}
-use Rattle.tla_evaluator.specs.Nodes.{junction}
+use Rattle.tla_evaluator.specs.inner.Nodes.{junction}
 use Rattle.tla_evaluator.proofs.OutcomeLemmas.{fault_step, values_step}
 
 false≢true : false ≡ true → ⊥

@@ -11,13 +11,13 @@ use Rattle.tla_meaning.specs.Forms.{Made}
 use Rattle.tla_meaning.specs.declared.forms.SetForm.TheVariants.{AllInts, AllNats, AllTexts, Records, Sequences, Subsets, Tuples}
 use Rattle.tla_meaning.specs.Meaning.{Meaning, form_of_all, form_of_one, function_form, plain, role, view}
 use Rattle.tla_meaning.specs.Scopes.{Scope, Denotation}
-use Rattle.tla_evaluator.specs.Nodes.{has_form}
-use Rattle.tla_evaluator.specs.Trees.{first_form_at, form_at, forms_at, outcomes_at, scope_at, stays, value_at}
+use Rattle.tla_evaluator.specs.inner.Nodes.{has_form}
+use Rattle.tla_evaluator.specs.Trees.{first_form_at, form_at, forms_at, outcomes_at, scope_at, is_expanded_op, value_at}
 use Rattle.tla_evaluator.proofs.TreeLemmas.{sense_at, sense_gone}
 use Rattle.tla_evaluator.proofs.NodeLemmas.{false≢true, here_first_form, here_forms, here_outcomes, children}
 
 -- a node that is no set form is the set that its value is
-plain_form : (w : ℕ) (p : Place) (o : Op) (xs : List (List ℕ)) (ks : List Meaning) (sc : Scope) (s t : State) → IsTrue (stays o) → has_form o ≡ false →
+plain_form : (w : ℕ) (p : Place) (o : Op) (xs : List (List ℕ)) (ks : List Meaning) (sc : Scope) (s t : State) → IsTrue (is_expanded_op o) → has_form o ≡ false →
     plain ((denotation_of (Some w) p o (length xs) (view p (role o (length xs)) xs ks sc)).value s t) ≡ (denotation_of (Some w) p o (length xs) (view p (role o (length xs)) xs ks sc)).form s t
 plain_form w p op.IntSet xs ks sc s t g h = absurd (false≢true (sym h))
 plain_form w p op.NatSet xs ks sc s t g h = absurd (false≢true (sym h))
@@ -50,7 +50,7 @@ module _ (w : ℕ) (e : Expr) (vars : List (List ℕ × Value)) (s t : State) wh
   abbrev sense : Op → Denotation
   sense o = denotation_of (Some w) place o (length names) (view place (role o (length names)) names (children w place names vars s t trees) (scope_at vars))
 
-  form_is : (o : Op) → (out-Expr e).op ≡ o → IsTrue (stays o) → form_at w e vars s t ≡ (sense o).form s t
+  form_is : (o : Op) → (out-Expr e).op ≡ o → IsTrue (is_expanded_op o) → form_at w e vars s t ≡ (sense o).form s t
   form_is o is h = ap (λ (a : Denotation). a.form s t) (sense_at (Some w) e (scope_at vars) o is h)
 
   pub ints_is : (out-Expr e).op ≡ op.IntSet → Made AllInts ≡ form_at w e vars s t
@@ -80,17 +80,17 @@ module _ (w : ℕ) (e : Expr) (vars : List (List ℕ × Value)) (s t : State) wh
   pub noted_form_is : (x : List ℕ) → (out-Expr e).op ≡ op.Noted x → first_form_at w place trees vars s t ≡ form_at w e vars s t
   noted_form_is x is = sym (form_is (op.Noted x) is refl ∙ here_first_form w place names vars s t trees)
 
-  by_stays : (b : Bool) → stays (out-Expr e).op ≡ b → has_form (out-Expr e).op ≡ false → plain (value_at w e vars s t) ≡ form_at w e vars s t
-  by_stays true k h =
+  by_is_expanded : (b : Bool) → is_expanded_op (out-Expr e).op ≡ b → has_form (out-Expr e).op ≡ false → plain (value_at w e vars s t) ≡ form_at w e vars s t
+  by_is_expanded true k h =
       ap (λ (a : Denotation). plain (a.value s t)) (sense_at (Some w) e (scope_at vars) (out-Expr e).op refl k)
       ∙ plain_form w place (out-Expr e).op names (children w place names vars s t trees) (scope_at vars) s t k h
       ∙ sym (form_is (out-Expr e).op refl k)
-  by_stays false k h =
+  by_is_expanded false k h =
       ap (λ (a : Denotation). plain (a.value s t)) (sense_gone (Some w) e (scope_at vars) k)
       ∙ sym (ap (λ (a : Denotation). a.form s t) (sense_gone (Some w) e (scope_at vars) k))
 
   pub plain_is : has_form (out-Expr e).op ≡ false → plain (value_at w e vars s t) ≡ form_at w e vars s t
-  plain_is h = by_stays (stays (out-Expr e).op) refl h
+  plain_is h = by_is_expanded (is_expanded_op (out-Expr e).op) refl h
 
 -- an operator that describes no set
 pub record IsNoForm (o : Op) : Type 0 where

@@ -8,7 +8,7 @@ pub mod FormSteps
 pub mod FunctionLemmas
 pub mod ListLemmas
 pub mod ListSteps
-pub mod LoneLaws
+pub mod ExpandedLaws
 pub mod MentionLaws
 pub mod MentionLemmas
 pub mod NameLemmas

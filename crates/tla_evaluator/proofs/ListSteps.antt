@@ -19,11 +19,11 @@ use Rattle.tla_meaning.specs.Scopes.{bound_to}
 use Rattle.tla_meaning.specs.Shapes.{all_set_items, choices}
 use Rattle.tla_meaning.specs.Outcomes.{join_faults, joined, values, with_value}
 use Rattle.tla_meaning.proofs.Joins.{both_assoc, joined_append}
-use Rattle.tla_meaning.proofs.NormalTable.{IsNormalOutcome as NormalOutcome}
+use Rattle.tla_meaning.specs.Outcomes.{IsNormalOutcome}
 use Rattle.tla_meaning.proofs.NormalNodes.{NormalOutcomes, NormalReached, at_path_normal, values_normal}
-use Rattle.tla_evaluator.specs.Nodes.{index_trees, paths_at, update_at, updates_at}
+use Rattle.tla_evaluator.specs.inner.Nodes.{index_trees, paths_at, update_at, updates_at}
 use Rattle.tla_evaluator.specs.Trees.{AreNormal, first_at, outcomes_at, value_at}
-use Rattle.tla_evaluator.proofs.LoneLaws.{value_normal}
+use Rattle.tla_evaluator.proofs.ExpandedLaws.{value_normal}
 use Rattle.tla_evaluator.proofs.NormalBinds.{choices_are_normal}
 use Rattle.tla_evaluator.proofs.TreeSizes.{most-drop}
 
@@ -39,7 +39,7 @@ module _ (w : ℕ) (vars : List (List ℕ × Value)) (s t : State) (ok : AreNorm
       subst (λ ws. All Normal ws) (sym is) (All-from_recursion Normal (values (outcomes_at w es vars s t)) (values_normal (outcomes_at w es vars s t) (all_normal es)))
 
   pub one_normal : (e : Expr) (v : Value) → Val v ≡ value_at w e vars s t → Normal v
-  one_normal e v is = subst NormalOutcome (sym is) (value_normal w e vars s t ok)
+  one_normal e v is = subst IsNormalOutcome (sym is) (value_normal w e vars s t ok)
 
   pub first_normal : (p : Place) (es : List Expr) (v : Value) → Val v ≡ first_at w p es vars s t → Normal v
   first_normal p [] v is = absurd (cc)

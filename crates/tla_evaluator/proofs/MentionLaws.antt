@@ -14,7 +14,7 @@ use Rattle.tla_meaning.specs.Meaning.{Meaning, denotations, except_marks, outer,
 use Rattle.tla_meaning.specs.Numbers.{Width}
 use Rattle.tla_meaning.specs.Scopes.{bind, bound_to}
 use Rattle.tla_evaluator.specs.Mentions.{mentioned_at, mentions}
-use Rattle.tla_evaluator.specs.Trees.{lone, lone_node, scope_at}
+use Rattle.tla_evaluator.specs.Trees.{expanded_meaning, expanded_node, scope_at}
 
 -- ---- the meaning says the same
 
@@ -32,7 +32,7 @@ none_after true = refl
 none_after false = refl
 
 abbrev Holding : Width → Assignable → Expr → Type 0
-Holding w m e = (vars : List (List ℕ × Value)) → (lone w e (scope_at vars)).mentions m ≡ mentions m e
+Holding w m e = (vars : List (List ℕ × Value)) → (expanded_meaning w e (scope_at vars)).mentions m ≡ mentions m e
 
 module _ (w : Width) (m : Assignable) where
   abbrev Held_trees : Type 0
@@ -45,33 +45,33 @@ module _ (w : Width) (m : Assignable) where
   results ys = list_any (λ k. k) (map (mentions m) (trees ys))
 
   senses_hold : (ys : Held_trees) (vars : List (List ℕ × Value)) →
-      any_mentions m (denotations (map (lone w) (trees ys)) (scope_at vars)) ≡ results ys
+      any_mentions m (denotations (map (expanded_meaning w) (trees ys)) (scope_at vars)) ≡ results ys
   senses_hold [] vars = refl
   senses_hold (y ∷ ys) vars = ap₂ ◌||◌ (y.1 vars) (senses_hold ys vars)
 
   either_hold : (p : Place) (ms : List Bool) (ys : Held_trees) (vars more : List (List ℕ × Value)) →
-      (any_mentions m (outer p ms (map (lone w) (trees ys)) (scope_at vars))
-      || any_mentions m (inner p ms (map (lone w) (trees ys)) (scope_at more)))
+      (any_mentions m (outer p ms (map (expanded_meaning w) (trees ys)) (scope_at vars))
+      || any_mentions m (inner p ms (map (expanded_meaning w) (trees ys)) (scope_at more)))
       ≡ results ys
   either_hold p ms [] vars more = refl
   either_hold p [] (y ∷ ys) vars more =
-      assoc _ (any_mentions m (outer p [] (map (lone w) (trees ys)) (scope_at vars))) _
+      assoc _ (any_mentions m (outer p [] (map (expanded_meaning w) (trees ys)) (scope_at vars))) _
       ∙ ap₂ ◌||◌ (y.1 vars) (either_hold p [] ys vars more)
   either_hold p (true ∷ ms) (y ∷ ys) vars more =
-      shift ((lone w y.0 (scope_at more)).mentions m) (any_mentions m (outer p ms (map (lone w) (trees ys)) (scope_at vars))) _
+      shift ((expanded_meaning w y.0 (scope_at more)).mentions m) (any_mentions m (outer p ms (map (expanded_meaning w) (trees ys)) (scope_at vars))) _
       ∙ ap₂ ◌||◌ (y.1 more) (either_hold p ms ys vars more)
   either_hold p (false ∷ ms) (y ∷ ys) vars more =
-      assoc _ (any_mentions m (outer p ms (map (lone w) (trees ys)) (scope_at vars))) _
+      assoc _ (any_mentions m (outer p ms (map (expanded_meaning w) (trees ys)) (scope_at vars))) _
       ∙ ap₂ ◌||◌ (y.1 vars) (either_hold p ms ys vars more)
 
   abbrev layer : Op → Place → List (List ℕ) → Held_trees → List (List ℕ × Value) → Type 0
   layer o p xs ys vars =
-      (lone_node w (record { place = p; op = o; args = map (lone w) (trees ys); binds = xs }) (scope_at vars)).mentions m
+      (expanded_node w (record { place = p; op = o; args = map (expanded_meaning w) (trees ys); binds = xs }) (scope_at vars)).mentions m
       ≡ mentioned_at m o (map (mentions m) (trees ys))
 
   plain_holds : (p : Place) (ms : List Bool) (xs : List (List ℕ)) (ys : Held_trees) (vars : List (List ℕ × Value)) →
-      (any_mentions m (outer p ms (map (lone w) (trees ys)) (scope_at vars))
-      || any_mentions m (inner p ms (map (lone w) (trees ys)) (bind xs [] (scope_at vars))))
+      (any_mentions m (outer p ms (map (expanded_meaning w) (trees ys)) (scope_at vars))
+      || any_mentions m (inner p ms (map (expanded_meaning w) (trees ys)) (bind xs [] (scope_at vars))))
       ≡ results ys
   plain_holds p ms xs ys vars = either_hold p ms ys vars (vars ++ bound_to xs [])
 
@@ -88,7 +88,7 @@ module _ (w : Width) (m : Assignable) where
   layer_holds op.Boxed p xs ys vars = refl
   layer_holds op.Angled p xs ys vars = refl
   layer_holds (op.Bound x) p xs ys vars =
-      none_after (any_mentions m (denotations (map (lone w) (trees ys)) (scope_at vars))) ∙ senses_hold ys vars
+      none_after (any_mentions m (denotations (map (expanded_meaning w) (trees ys)) (scope_at vars))) ∙ senses_hold ys vars
   layer_holds op.Exists p xs ys vars = plain_holds p (under_last (length xs)) xs ys vars
   layer_holds op.Forall p xs ys vars = plain_holds p (under_last (length xs)) xs ys vars
   layer_holds op.Filter p xs ys vars = plain_holds p (under_last (length xs)) xs ys vars
@@ -99,11 +99,11 @@ module _ (w : Width) (m : Assignable) where
   layer_holds o p xs ys vars = plain_holds p [] xs ys vars
 
 -- the meaning of a tree says the same, whatever its bound names stand for
-pub holds_as : (w : Width) (m : Assignable) (e : Expr) (vars : List (List ℕ × Value)) → (lone w e (scope_at vars)).mentions m ≡ mentions m e
-unfolding lone
+pub holds_as : (w : Width) (m : Assignable) (e : Expr) (vars : List (List ℕ × Value)) → (expanded_meaning w e (scope_at vars)).mentions m ≡ mentions m e
+unfolding expanded_meaning
 holds_as w m = ind-Expr (Holding w m) (λ x y is.
     subst (λ (z : Expr-F Expr). Holding w m (roll-Expr z)) is (λ vars.
     let z : Expr-F Expr = map-Expr ((e : Expr) × Holding w m e) Expr (λ e. e.0) y in
-    ap (λ (k : Meaning). (k (scope_at vars)).mentions m) (fold-roll-Expr Meaning (lone_node w) z)
+    ap (λ (k : Meaning). (k (scope_at vars)).mentions m) (fold-roll-Expr Meaning (expanded_node w) z)
     ∙ layer_holds w m z.op z.place z.binds y.args vars
     ∙ sym (fold-roll-Expr Bool (λ x. mentioned_at m x.op x.args) z)))

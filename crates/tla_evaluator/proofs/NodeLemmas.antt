@@ -16,9 +16,9 @@ use Rattle.tla_meaning.specs.Operators.{on_all_sets, table}
 use Rattle.tla_meaning.specs.Outcomes.{strict, values}
 use Rattle.tla_meaning.specs.Scopes.{Scope, Denotation, bind, bound_to, find_last, value_found}
 use Rattle.tla_meaning.specs.Shapes.{choices}
-use Rattle.tla_meaning.specs.Strict.{is_strict}
-use Rattle.tla_evaluator.specs.Nodes.{bound_at, except_at, fold_at, index_trees, is_binder, is_membership, junction, membership_test, paths_at, updates_at}
-use Rattle.tla_evaluator.specs.Trees.{first_at, first_form_at, forms_at, lone, outcomes_at, scope_at, stays, value_at}
+use Rattle.tla_meaning.specs.inner.Strict.{is_strict}
+use Rattle.tla_evaluator.specs.inner.Nodes.{bound_at, except_at, fold_at, index_trees, is_binder, is_membership, junction, membership_test, paths_at, updates_at}
+use Rattle.tla_evaluator.specs.Trees.{first_at, first_form_at, forms_at, expanded_meaning, outcomes_at, scope_at, is_expanded_op, value_at}
 use Rattle.tla_evaluator.proofs.TreeLemmas.{first_given, forms_given, here_given, inner_back, inner_child, outcomes_given, outer_back, outer_front, sense_at, sense_gone, take_map, drop_map}
 
 pub false≢true : false ≡ true → ⊥
@@ -57,15 +57,15 @@ strict_value w p (op.Name i primed) xs ks sc s t h = absurd (false≢true h)
 strict_value w p (op.Bound x) xs ks sc s t h = absurd (false≢true h)
 strict_value w p o xs ks sc s t h = refl
 
-strict_stays : (o : Op) → IsTrue (is_strict o) → IsTrue (stays o)
-strict_stays (op.Use x) h = absurd (false≢true h)
-strict_stays (op.Param x) h = absurd (false≢true h)
-strict_stays (op.Let ds) h = absurd (false≢true h)
-strict_stays op.Prime h = absurd (false≢true h)
-strict_stays op.Unchanged h = absurd (false≢true h)
-strict_stays op.Boxed h = absurd (false≢true h)
-strict_stays op.Angled h = absurd (false≢true h)
-strict_stays o h = refl
+strict_is_expanded : (o : Op) → IsTrue (is_strict o) → IsTrue (is_expanded_op o)
+strict_is_expanded (op.Use x) h = absurd (false≢true h)
+strict_is_expanded (op.Param x) h = absurd (false≢true h)
+strict_is_expanded (op.Let ds) h = absurd (false≢true h)
+strict_is_expanded op.Prime h = absurd (false≢true h)
+strict_is_expanded op.Unchanged h = absurd (false≢true h)
+strict_is_expanded op.Boxed h = absurd (false≢true h)
+strict_is_expanded op.Angled h = absurd (false≢true h)
+strict_is_expanded o h = refl
 
 binder_value : (w : ℕ) (p : Place) (o : Op) (xs : List (List ℕ)) (ks : List Meaning) (sc : Scope) (s t : State) → IsTrue (is_binder o) →
     over_members p o (length xs) (view p (role op.Exists (length xs)) xs ks sc) s t ≡ (denotation_of (Some w) p o (length xs) (view p (role o (length xs)) xs ks sc)).value s t
@@ -76,13 +76,13 @@ binder_value w p op.MapTo xs ks sc s t h = refl
 binder_value w p op.Lambda xs ks sc s t h = refl
 binder_value w p o xs ks sc s t h = absurd (false≢true h)
 
-binder_stays : (o : Op) → IsTrue (is_binder o) → IsTrue (stays o)
-binder_stays op.Exists h = refl
-binder_stays op.Forall h = refl
-binder_stays op.Filter h = refl
-binder_stays op.MapTo h = refl
-binder_stays op.Lambda h = refl
-binder_stays o h = absurd (false≢true h)
+binder_is_expanded : (o : Op) → IsTrue (is_binder o) → IsTrue (is_expanded_op o)
+binder_is_expanded op.Exists h = refl
+binder_is_expanded op.Forall h = refl
+binder_is_expanded op.Filter h = refl
+binder_is_expanded op.MapTo h = refl
+binder_is_expanded op.Lambda h = refl
+binder_is_expanded o h = absurd (false≢true h)
 
 membership_value : (w : ℕ) (p : Place) (o : Op) (xs : List (List ℕ)) (ks : List Meaning) (sc : Scope) (s t : State) → IsTrue (is_membership o) →
     in_form p (membership_test o p) (outcomes (outer p [] ks sc) s t) (forms (outer p [] ks sc) s t) ≡ (denotation_of (Some w) p o (length xs) (view p (role o (length xs)) xs ks sc)).value s t
@@ -91,15 +91,15 @@ membership_value w p op.NotIn xs ks sc s t h = refl
 membership_value w p op.SubsetEq xs ks sc s t h = refl
 membership_value w p o xs ks sc s t h = absurd (false≢true h)
 
-membership_stays : (o : Op) → IsTrue (is_membership o) → IsTrue (stays o)
-membership_stays op.In h = refl
-membership_stays op.NotIn h = refl
-membership_stays op.SubsetEq h = refl
-membership_stays o h = absurd (false≢true h)
+membership_is_expanded : (o : Op) → IsTrue (is_membership o) → IsTrue (is_expanded_op o)
+membership_is_expanded op.In h = refl
+membership_is_expanded op.NotIn h = refl
+membership_is_expanded op.SubsetEq h = refl
+membership_is_expanded o h = absurd (false≢true h)
 
 module _ (w : ℕ) (p : Place) (xs : List (List ℕ)) (vars : List (List ℕ × Value)) (s t : State) where
   abbrev pub children : List Expr → List Meaning
-  children es = map (lone (Some w)) es
+  children es = map (expanded_meaning (Some w)) es
 
   abbrev scope : Scope
   scope = scope_at vars
@@ -123,14 +123,14 @@ module _ (w : ℕ) (p : Place) (xs : List (List ℕ)) (vars : List (List ℕ × 
       (child p n (inner p (replicate n false ++ true ∷ ms) (children es) (bind xs vs scope))).value s t ≡ first_at w p (drop n es) (vars ++ bound_to xs vs) s t
   under_value n ms vs es =
       ap (λ (a : Denotation). a.value s t) (inner_child p n ms (children es) (bind xs vs scope)
-      ∙ ap (λ (ks : List Meaning). child p 0 (denotations ks (bind xs vs scope))) (drop_map (lone (Some w)) n es))
+      ∙ ap (λ (ks : List Meaning). child p 0 (denotations ks (bind xs vs scope))) (drop_map (expanded_meaning (Some w)) n es))
       ∙ first_given w (vars ++ bound_to xs vs) s t p (drop n es)
 
   front_outcomes : (n : ℕ) (ms : List Bool) (es : List Expr) →
       outcomes (take n (outer p (replicate n false ++ true ∷ ms) (children es) scope)) s t ≡ outcomes_at w (take n es) vars s t
   front_outcomes n ms es =
       ap (λ (as' : List Denotation). outcomes as' s t) (outer_front p n ms (children es) scope
-      ∙ ap (λ (ks : List Meaning). denotations ks scope) (take_map (lone (Some w)) n es))
+      ∙ ap (λ (ks : List Meaning). denotations ks scope) (take_map (expanded_meaning (Some w)) n es))
       ∙ outcomes_given w vars s t (take n es)
 
   -- ---- EXCEPT
@@ -152,7 +152,7 @@ module _ (w : ℕ) (p : Place) (xs : List (List ℕ)) (vars : List (List ℕ × 
       outcomes_plus (take n all) (all_indexes ns (drop (suc n) all))
       ∙ ap₂ (λ (os qs : List Outcome). os ++ qs) (front_outcomes n (except_marks ns) es)
       (ap (λ (as' : List Denotation). outcomes (all_indexes ns as') s t) (outer_back p n (except_marks ns) (children es) scope
-      ∙ ap (λ (ks : List Meaning). outer p (except_marks ns) ks scope) (drop_map (lone (Some w)) (suc n) es))
+      ∙ ap (λ (ks : List Meaning). outer p (except_marks ns) ks scope) (drop_map (expanded_meaning (Some w)) (suc n) es))
       ∙ indexes_given ns (drop (suc n) es))
       ∙ outcomes_both (take n es) (index_trees ns (drop (suc n) es))
 
@@ -167,8 +167,8 @@ module _ (w : ℕ) (p : Place) (xs : List (List ℕ)) (vars : List (List ℕ × 
       ap₂ (λ (u : Update) (us : List Update). u ∷ us)
       (ap₂ (λ (vs : List Value) (f : Value → Outcome). (vs, f)) (ap values (front_outcomes n ms es)) (λ i. λ old. under_value n ms (old ∷ []) es i))
       (ap₂ (λ (as' : List Denotation) (f : List Value → List Denotation). updates p ns as' f s t)
-      (outer_back p n ms (children es) scope ∙ ap (λ (ks : List Meaning). outer p ms ks scope) (drop_map (lone (Some w)) (suc n) es))
-      (λ i. λ vs. (inner_back p n ms (children es) (bind xs vs scope) ∙ ap (λ (ks : List Meaning). inner p ms ks (bind xs vs scope)) (drop_map (lone (Some w)) (suc n) es)) i)
+      (outer_back p n ms (children es) scope ∙ ap (λ (ks : List Meaning). outer p ms ks scope) (drop_map (expanded_meaning (Some w)) (suc n) es))
+      (λ i. λ vs. (inner_back p n ms (children es) (bind xs vs scope) ∙ ap (λ (ks : List Meaning). inner p ms ks (bind xs vs scope)) (drop_map (expanded_meaning (Some w)) (suc n) es)) i)
       ∙ updates_given ns (drop (suc n) es))
 
   except_given : (ns : List ℕ) (es : List Expr) →
@@ -186,7 +186,7 @@ module _ (w : ℕ) (p : Place) (xs : List (List ℕ)) (vars : List (List ℕ × 
       (fold_over p (λ a b. (child p 0 (inner p (true ∷ []) (children es) (bind xs (a ∷ b ∷ []) scope))).value s t))
   fold_given es =
       sym (ap₂ (λ (os : List Outcome) (f : Value → Value → Outcome). strict os (fold_over p f))
-      (ap (λ (as' : List Denotation). outcomes as' s t) (outer_back p 0 [] (children es) scope ∙ ap (λ (ks : List Meaning). outer p [] ks scope) (drop_map (lone (Some w)) 1 es))
+      (ap (λ (as' : List Denotation). outcomes as' s t) (outer_back p 0 [] (children es) scope ∙ ap (λ (ks : List Meaning). outer p [] ks scope) (drop_map (expanded_meaning (Some w)) 1 es))
       ∙ here_outcomes (drop 1 es))
       (λ i. λ a b. under_value 0 [] (a ∷ b ∷ []) es i))
 
@@ -207,11 +207,11 @@ module _ (w : ℕ) (e : Expr) (vars : List (List ℕ × Value)) (s t : State) wh
   abbrev names : List (List ℕ)
   names = (out-Expr e).binds
 
-  value_is : (o : Op) → (out-Expr e).op ≡ o → IsTrue (stays o) →
+  value_is : (o : Op) → (out-Expr e).op ≡ o → IsTrue (is_expanded_op o) →
       value_at w e vars s t ≡ (denotation_of (Some w) place o (length names) (view place (role o (length names)) names (children w place names vars s t trees) (scope_at vars))).value s t
   value_is o is h = ap (λ (a : Denotation). a.value s t) (sense_at (Some w) e (scope_at vars) o is h)
 
-  pub gone_is : stays (out-Expr e).op ≡ false → Wrong place ≡ value_at w e vars s t
+  pub gone_is : is_expanded_op (out-Expr e).op ≡ false → Wrong place ≡ value_at w e vars s t
   gone_is h = sym (ap (λ (a : Denotation). a.value s t) (sense_gone (Some w) e (scope_at vars) h))
 
   pub bool_is : (b : Bool) → (out-Expr e).op ≡ op.Bool b → Val (value.Bool b) ≡ value_at w e vars s t
@@ -250,7 +250,7 @@ module _ (w : ℕ) (e : Expr) (vars : List (List ℕ × Value)) (s t : State) wh
       ap (λ (o : Op). in_form place (membership_test o place) (outcomes_at w trees vars s t) (forms_at w trees vars s t)) is
       ∙ sym (ap₂ (in_form place (membership_test o place)) (here_outcomes w place names vars s t trees) (here_forms w place names vars s t trees))
       ∙ membership_value w place o names (children w place names vars s t trees) (scope_at vars) s t h
-      ∙ sym (value_is o is (membership_stays o h))
+      ∙ sym (value_is o is (membership_is_expanded o h))
 
   pub binder_is : (o : Op) → (out-Expr e).op ≡ o → IsTrue (is_binder o) →
       bound_at w place (out-Expr e).op names trees vars s t ≡ value_at w e vars s t
@@ -258,7 +258,7 @@ module _ (w : ℕ) (e : Expr) (vars : List (List ℕ × Value)) (s t : State) wh
       ap (λ (o : Op). bound_at w place o names trees vars s t) is
       ∙ bound_given w place names vars s t o trees
       ∙ binder_value w place o names (children w place names vars s t trees) (scope_at vars) s t h
-      ∙ sym (value_is o is (binder_stays o h))
+      ∙ sym (value_is o is (binder_is_expanded o h))
 
   pub except_is : (ns ms : List ℕ) → ms ≡ ns → (out-Expr e).op ≡ op.Except ns → except_at w place ms names trees vars s t ≡ value_at w e vars s t
   except_is ns ms same is = ap (λ z. except_at w place z names trees vars s t) same ∙ except_given w place names vars s t ns trees ∙ sym (value_is (op.Except ns) is refl)
@@ -274,11 +274,11 @@ module _ (w : ℕ) (e : Expr) (vars : List (List ℕ × Value)) (s t : State) wh
   strict_is h =
       sym (ap (λ (os : List Outcome). strict os (table (Some w) place (out-Expr e).op)) (here_outcomes w place names vars s t trees))
       ∙ strict_value w place (out-Expr e).op names (children w place names vars s t trees) (scope_at vars) s t h
-      ∙ sym (value_is (out-Expr e).op refl (strict_stays (out-Expr e).op h))
+      ∙ sym (value_is (out-Expr e).op refl (strict_is_expanded (out-Expr e).op h))
 
 -- an operator that is none of those that are read in a way of their own
 pub record IsRest (o : Op) : Type 0 where
-  pub stays : IsTrue (stays o)
+  pub is_expanded_op : IsTrue (is_expanded_op o)
   pub not_bool : (b : Bool) → o ≡ op.Bool b → ⊥
   pub not_int : (n : ℤ) → o ≡ op.Int n → ⊥
   pub not_str : (a : List ℕ) → o ≡ op.Str a → ⊥
@@ -320,13 +320,13 @@ rest_is_strict op.MapTo h = absurd (h.not_mapto refl)
 rest_is_strict op.Lambda h = absurd (h.not_lambda refl)
 rest_is_strict (op.Except ns) h = absurd (h.not_except ns refl)
 rest_is_strict op.Fold h = absurd (h.not_fold refl)
-rest_is_strict (op.Use x) h = absurd (false≢true h.stays)
-rest_is_strict (op.Param x) h = absurd (false≢true h.stays)
-rest_is_strict (op.Let ds) h = absurd (false≢true h.stays)
-rest_is_strict op.Prime h = absurd (false≢true h.stays)
-rest_is_strict op.Unchanged h = absurd (false≢true h.stays)
-rest_is_strict op.Boxed h = absurd (false≢true h.stays)
-rest_is_strict op.Angled h = absurd (false≢true h.stays)
+rest_is_strict (op.Use x) h = absurd (false≢true h.is_expanded_op)
+rest_is_strict (op.Param x) h = absurd (false≢true h.is_expanded_op)
+rest_is_strict (op.Let ds) h = absurd (false≢true h.is_expanded_op)
+rest_is_strict op.Prime h = absurd (false≢true h.is_expanded_op)
+rest_is_strict op.Unchanged h = absurd (false≢true h.is_expanded_op)
+rest_is_strict op.Boxed h = absurd (false≢true h.is_expanded_op)
+rest_is_strict op.Angled h = absurd (false≢true h.is_expanded_op)
 rest_is_strict (op.Noted x) h = absurd (h.not_noted x refl)
 rest_is_strict (op.Name i primed) h = absurd (h.not_name i primed refl)
 rest_is_strict (op.Bound x) h = absurd (h.not_bound x refl)

@@ -22,36 +22,35 @@ use Rattle.tla_meaning.proofs.Views.{and_left, and_right, false≢true}
 use Rattle.tla_meaning.specs.declared.actions.Assignable.{Assignable}
 use Rattle.tla_meaning.specs.declared.actions.Assignable.TheVariants.{Constants, PrimedVariables, Variables}
 use Rattle.tla_meaning.specs.declared.actions.Effect.{Effect}
-use Rattle.tla_evaluator.specs.Effects.{behind}
-use Rattle.tla_evaluator.specs.Trees.{AreNormal, effect_at, is_expanded, stays, value_at}
+use Rattle.tla_evaluator.specs.inner.Effects.{behind}
+use Rattle.tla_evaluator.specs.Trees.{AreNormal, effect_at, is_expanded, is_expanded_op, value_at}
 use Rattle.tla_evaluator.proofs.ActionNodes.{behind_twice, get_or-default}
-use Rattle.tla_evaluator.proofs.LoneLaws.{lone_is, value_normal}
-use Rattle.tla_meaning.proofs.NormalTable.{IsNormalOutcome as NormalOutcome}
-use Rattle.tla_evaluator.specs.Results.{IsNormalOutcome}
+use Rattle.tla_evaluator.proofs.ExpandedLaws.{expanded_is, value_normal}
+use Rattle.tla_meaning.specs.Outcomes.{IsNormalOutcome}
 
 -- ---- one tree
 
 pub act_is : (w : ℕ) (m : Assignable) (e : Expr) (s t : State) → IsTrue (is_expanded e) →
     outcome_of (effect_at w m e [] s t) ≡ act (Some w) m e no_scope s t
-act_is w m e s t h = ap (λ (a : Denotation). outcome_of (a.act m s t)) (lone_is (Some w) e h no_scope)
+act_is w m e s t h = ap (λ (a : Denotation). outcome_of (a.act m s t)) (expanded_is (Some w) e h no_scope)
 
 pub val_is : (w : ℕ) (e : Expr) (s t : State) → IsTrue (is_expanded e) → value_at w e [] s t ≡ val (Some w) e no_scope s t
-val_is w e s t h = ap (λ (a : Denotation). a.value s t) (lone_is (Some w) e h no_scope)
+val_is w e s t h = ap (λ (a : Denotation). a.value s t) (expanded_is (Some w) e h no_scope)
 
 pub eval_is : (w : ℕ) (e : Expr) (env : Env) (vars : List (List ℕ × Value)) (s t u : State) → vars ≡ env.vals → u ≡ t → IsTrue (is_expanded e) →
     value_at w e vars s t ≡ val (Some w) e (scope_of env) s u
 eval_is w e env vars s t u same next h =
     ap (λ vs. value_at w e vs s t) same
-    ∙ ap (λ (a : Denotation). a.value s t) (lone_is (Some w) e h (scope_of env))
+    ∙ ap (λ (a : Denotation). a.value s t) (expanded_is (Some w) e h (scope_of env))
     ∙ ap (λ n. val (Some w) e (scope_of env) s n) (sym next)
 
 -- the outcome of an evaluation is normal
 pub answer_normal : {E : Type 0} (r : Result Outcome E) (w : ℕ) (e : Expr) (vars : List (List ℕ × Value)) (s t : State) → AreNormal vars s t →
     IfOk r (λ o. o ≡ value_at w e vars s t) → IfOk r IsNormalOutcome
 answer_normal (Err x) w e vars s t ok h = tt
-answer_normal (Ok o) w e vars s t ok h = as_clause o (subst NormalOutcome (sym h) (value_normal w e vars s t ok))
+answer_normal (Ok o) w e vars s t ok h = as_clause o (subst IsNormalOutcome (sym h) (value_normal w e vars s t ok))
   where
-    as_clause : (o : Outcome) → NormalOutcome o → IsNormalOutcome o
+    as_clause : (o : Outcome) → IsNormalOutcome o → IsNormalOutcome o
     as_clause (Val v) k = k
     as_clause (Wrong p) k = tt
     as_clause (Big p) k = tt
@@ -59,7 +58,7 @@ answer_normal (Ok o) w e vars s t ok h = as_clause o (subst NormalOutcome (sym h
 effect_is : (w : ℕ) (m n : Assignable) (e : Expr) (s t : State) → IsTrue (is_expanded e) → m ≡ n →
     (meaning (Some w) e no_scope).act n s t ≡ effect_at w m e [] s t
 effect_is w m n e s t h same =
-    sym (ap (λ (a : Denotation). a.act m s t) (lone_is (Some w) e h no_scope) ∙ ap (λ k. (meaning (Some w) e no_scope).act k s t) same)
+    sym (ap (λ (a : Denotation). a.act m s t) (expanded_is (Some w) e h no_scope) ∙ ap (λ k. (meaning (Some w) e no_scope).act k s t) same)
 
 pub next_is : (w : ℕ) (n : ℕ) (job : Job) (s t : State) → n ≡ constants job → IsTrue (is_expanded job.next) →
     outcome_of (effect_at w (PrimedVariables n) job.next [] s t) ≡ next (Some w) job s t

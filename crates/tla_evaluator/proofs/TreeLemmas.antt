@@ -14,27 +14,27 @@ use Rattle.tla_meaning.specs.Forms.{Formed}
 use Rattle.tla_meaning.specs.Meaning.{Meaning, forms, inner, child, outcomes, outer, role, denotations, view}
 use Rattle.tla_meaning.specs.Numbers.{Width}
 use Rattle.tla_meaning.specs.Scopes.{Scope, Denotation, absent}
-use Rattle.tla_evaluator.specs.Trees.{first_at, forms_at, form_at, is_expanded, lone, lone_node, outcomes_at, scope_at, stays, value_at}
+use Rattle.tla_evaluator.specs.Trees.{first_at, forms_at, form_at, is_expanded, expanded_meaning, expanded_node, outcomes_at, scope_at, is_expanded_op, value_at}
 
-pub lone-out : (w : Width) (e : Expr) → lone w e ≡ lone_node w (map-Expr Expr Meaning (lone w) (out-Expr e))
-unfolding lone
-lone-out w e = fold_out-Expr Meaning (lone_node w) e
+pub expanded_meaning-out : (w : Width) (e : Expr) → expanded_meaning w e ≡ expanded_node w (map-Expr Expr Meaning (expanded_meaning w) (out-Expr e))
+unfolding expanded_meaning
+expanded_meaning-out w e = fold_out-Expr Meaning (expanded_node w) e
 
--- the sense of a node that stays
-pub sense_at : (w : Width) (e : Expr) (sc : Scope) (o : Op) → (out-Expr e).op ≡ o → IsTrue (stays o) →
-    lone w e sc ≡ denotation_of w (out-Expr e).place o (length (out-Expr e).binds)
-    (view (out-Expr e).place (role o (length (out-Expr e).binds)) (out-Expr e).binds (map (lone w) (out-Expr e).args) sc)
+-- the sense of a node that is_expanded_op
+pub sense_at : (w : Width) (e : Expr) (sc : Scope) (o : Op) → (out-Expr e).op ≡ o → IsTrue (is_expanded_op o) →
+    expanded_meaning w e sc ≡ denotation_of w (out-Expr e).place o (length (out-Expr e).binds)
+    (view (out-Expr e).place (role o (length (out-Expr e).binds)) (out-Expr e).binds (map (expanded_meaning w) (out-Expr e).args) sc)
 sense_at w e sc o is h =
-    let x : Expr-F Meaning = map-Expr Expr Meaning (lone w) (out-Expr e) in
-    ap (λ (m : Meaning). m sc) (lone-out w e)
-    ∙ ap (λ (b : Bool). elim b as (λ _. Denotation) [ true ↦ node w x sc | false ↦ absent x.place ]) (ap stays is ∙ h)
+    let x : Expr-F Meaning = map-Expr Expr Meaning (expanded_meaning w) (out-Expr e) in
+    ap (λ (m : Meaning). m sc) (expanded_meaning-out w e)
+    ∙ ap (λ (b : Bool). elim b as (λ _. Denotation) [ true ↦ node w x sc | false ↦ absent x.place ]) (ap is_expanded_op is ∙ h)
     ∙ ap (λ (o : Op). denotation_of w x.place o (length x.binds) (view x.place (role o (length x.binds)) x.binds x.args sc)) is
 
 -- the sense of every other node
-pub sense_gone : (w : Width) (e : Expr) (sc : Scope) → stays (out-Expr e).op ≡ false → lone w e sc ≡ absent (out-Expr e).place
+pub sense_gone : (w : Width) (e : Expr) (sc : Scope) → is_expanded_op (out-Expr e).op ≡ false → expanded_meaning w e sc ≡ absent (out-Expr e).place
 sense_gone w e sc h =
-    let x : Expr-F Meaning = map-Expr Expr Meaning (lone w) (out-Expr e) in
-    ap (λ (m : Meaning). m sc) (lone-out w e)
+    let x : Expr-F Meaning = map-Expr Expr Meaning (expanded_meaning w) (out-Expr e) in
+    ap (λ (m : Meaning). m sc) (expanded_meaning-out w e)
     ∙ ap (λ (b : Bool). elim b as (λ _. Denotation) [ true ↦ node w x sc | false ↦ absent x.place ]) h
 
 -- ---- expanded trees
@@ -43,11 +43,11 @@ all_mapped : {X : Type 0} (f : X → Bool) (xs : List X) → list_all (λ b. b) 
 all_mapped f [] = refl
 all_mapped f (x ∷ xs) = ap (λ b. f x && b) (all_mapped f xs)
 
--- a node that stays is expanded where its children are
-pub expanded_then : (e : Expr) (es : List Expr) → es ≡ (out-Expr e).args → IsTrue (stays (out-Expr e).op) → list_all is_expanded es ≡ is_expanded e
+-- a node that is_expanded_op is expanded where its children are
+pub expanded_then : (e : Expr) (es : List Expr) → es ≡ (out-Expr e).args → IsTrue (is_expanded_op (out-Expr e).op) → list_all is_expanded es ≡ is_expanded e
 expanded_then e es same h =
     ap (list_all is_expanded) same
-    ∙ sym (fold_out-Expr Bool (λ x. stays x.op && list_all (λ b. b) x.args) e
+    ∙ sym (fold_out-Expr Bool (λ x. is_expanded_op x.op && list_all (λ b. b) x.args) e
     ∙ ap (λ b. b && list_all (λ b. b) (map is_expanded (out-Expr e).args)) h
     ∙ all_mapped is_expanded (out-Expr e).args)
 
@@ -99,7 +99,7 @@ drop_map f (suc n) (x ∷ xs) = drop_map f n xs
 
 module _ (w : ℕ) (vars : List (List ℕ × Value)) (s t : State) where
   abbrev pub given : List Expr → List Denotation
-  given es = denotations (map (lone (Some w)) es) (scope_at vars)
+  given es = denotations (map (expanded_meaning (Some w)) es) (scope_at vars)
 
   pub outcomes_given : (es : List Expr) → outcomes (given es) s t ≡ outcomes_at w es vars s t
   outcomes_given [] = refl
@@ -114,5 +114,5 @@ module _ (w : ℕ) (vars : List (List ℕ × Value)) (s t : State) where
   first_given p (e ∷ es) = refl
 
   -- the children of a node without bound names
-  pub here_given : (p : Place) (es : List Expr) → outer p [] (map (lone (Some w)) es) (scope_at vars) ≡ given es
-  here_given p es = outer_all p (map (lone (Some w)) es) (scope_at vars)
+  pub here_given : (p : Place) (es : List Expr) → outer p [] (map (expanded_meaning (Some w)) es) (scope_at vars) ≡ given es
+  here_given p es = outer_all p (map (expanded_meaning (Some w)) es) (scope_at vars)

@@ -1,7 +1,5 @@
-pub mod Effects
-pub mod Excepts
 pub mod Mentions
-pub mod Nodes
 pub mod Results
 pub mod SetRules
 pub mod Trees
+pub mod inner

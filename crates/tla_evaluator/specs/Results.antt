@@ -2,14 +2,6 @@
 use Rattle.std.specs.Prelude.{List, [], ◌∷◌, ◌++◌, if◌then◌else◌}
 use Rattle.tla_values.specs.Sets.{Normal, arguments, insert_pair, member}
 use Rattle.tla_values.specs.declared.value.Value.{Value}
-use Rattle.tla_meaning.specs.declared.outcome.Outcome.{Outcome}
-use Rattle.tla_meaning.specs.declared.outcome.Outcome.TheVariants.{Val, Wrong, Big}
-
--- a value of an outcome is normal
-abbrev pub IsNormalOutcome : Outcome → Type 0
-IsNormalOutcome (Val v) = Normal v
-IsNormalOutcome (Wrong p) = Unit {0}
-IsNormalOutcome (Big p) = Unit {0}
 
 abbrev pub IsNormalPair : Value × Value → Type 0
 IsNormalPair p = Normal p.0 × Normal p.1

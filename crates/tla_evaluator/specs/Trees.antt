@@ -22,39 +22,39 @@ use Rattle.tla_meaning.specs.Numbers.{Width}
 use Rattle.tla_meaning.specs.Scopes.{Scope, absent}
 
 -- the operators that are left after expansion
-abbrev pub stays : Op → Bool
-stays (op.Use x) = false
-stays (op.Param x) = false
-stays (op.Let ds) = false
-stays op.Prime = false
-stays op.Unchanged = false
-stays op.Boxed = false
-stays op.Angled = false
-stays o = true
+abbrev pub is_expanded_op : Op → Bool
+is_expanded_op (op.Use x) = false
+is_expanded_op (op.Param x) = false
+is_expanded_op (op.Let ds) = false
+is_expanded_op op.Prime = false
+is_expanded_op op.Unchanged = false
+is_expanded_op op.Boxed = false
+is_expanded_op op.Angled = false
+is_expanded_op o = true
 
 abbrev pub is_expanded : Expr → Bool
-is_expanded = fold-Expr Bool (λ x. stays x.op && list_all (λ b. b) x.args)
+is_expanded = fold-Expr Bool (λ x. is_expanded_op x.op && list_all (λ b. b) x.args)
 
 -- such a node means what it means, and every other one nothing
-abbrev pub lone_node : Width → Expr-F Meaning → Meaning
-lone_node w x sc = elim (stays x.op) [ true ↦ node w x sc | false ↦ absent x.place ]
+abbrev pub expanded_node : Width → Expr-F Meaning → Meaning
+expanded_node w x sc = elim (is_expanded_op x.op) [ true ↦ node w x sc | false ↦ absent x.place ]
 
 -- the meaning of trees that use nothing that is defined elsewhere
-unfoldable pub lone : Width → Expr → Meaning
-lone w = fold-Expr Meaning (lone_node w)
+unfoldable pub expanded_meaning : Width → Expr → Meaning
+expanded_meaning w = fold-Expr Meaning (expanded_node w)
 
 -- bound names have these values, and nothing is defined
 abbrev pub scope_at : List (List ℕ × Value) → Scope
 scope_at vars = record { bound = vars; named = [] }
 
 abbrev pub value_at : ℕ → Expr → List (List ℕ × Value) → State → State → Outcome
-value_at w e vars s t = (lone (Some w) e (scope_at vars)).value s t
+value_at w e vars s t = (expanded_meaning (Some w) e (scope_at vars)).value s t
 
 abbrev pub form_at : ℕ → Expr → List (List ℕ × Value) → State → State → Formed
-form_at w e vars s t = (lone (Some w) e (scope_at vars)).form s t
+form_at w e vars s t = (expanded_meaning (Some w) e (scope_at vars)).form s t
 
 abbrev pub effect_at : ℕ → Assignable → Expr → List (List ℕ × Value) → State → State → Effect
-effect_at w m e vars s t = (lone (Some w) e (scope_at vars)).act m s t
+effect_at w m e vars s t = (expanded_meaning (Some w) e (scope_at vars)).act m s t
 
 abbrev pub outcomes_at : ℕ → List Expr → List (List ℕ × Value) → State → State → List Outcome
 outcomes_at w es vars s t = map (λ e. value_at w e vars s t) es

@@ -4,7 +4,7 @@ ghost use Rattle.std.specs.Prelude.{◌≡◌, ◌≤◌, IfOk, drop, length, ma
 ghost use Rattle.tla_values.specs.Sets.{Normal};
 ghost use Rattle.tla_values.specs.declared.value.Value.{out-Value};
 ghost use Rattle.tla_meaning.specs.Actions.{case_effect, effect_of, effects_and, effects_or, fails_by, if_effect, is_true};
-ghost use Rattle.tla_evaluator.specs.Effects.{body_effect, either, exists_at};
+ghost use Rattle.tla_evaluator.specs.inner.Effects.{body_effect, either, exists_at};
 ghost use Rattle.tla_evaluator.specs.Trees.{AreNormal, effect_at, effects_at, outcomes_at, value_at};
 
 use crate::expressions::{operands, value};

@@ -2,7 +2,7 @@
 ghost use Rattle.std.specs.Prelude.{◌≡◌, IfOk};
 ghost use Rattle.tla_values.specs.Sets.{Normal};
 ghost use Rattle.tla_meaning.specs.Meaning.{at_path, set_path};
-ghost use Rattle.tla_evaluator.specs.Excepts.{reached_of};
+ghost use Rattle.tla_evaluator.specs.inner.Excepts.{reached_of};
 
 use std::alloc::{AllocError, Global};
 use tla_values::{Value, apply, copy_value, override_at};

@@ -12,7 +12,7 @@ ghost use Rattle.tla_meaning.specs.Operators.{table, yes_no};
 ghost use Rattle.tla_meaning.specs.Outcomes.{joined, strict, values};
 ghost use Rattle.tla_meaning.specs.Scopes.{bound_to};
 ghost use Rattle.tla_evaluator.specs.SetRules.{formed_of};
-ghost use Rattle.tla_evaluator.specs.Nodes.{bodies_at, bound_at, except_at, fold_at, index_trees, junction, membership_test, paths_at, update_at, updates_at};
+ghost use Rattle.tla_evaluator.specs.inner.Nodes.{bodies_at, bound_at, except_at, fold_at, index_trees, junction, membership_test, paths_at, update_at, updates_at};
 ghost use Rattle.tla_evaluator.specs.Trees.{AreNormal, first_at, form_at, forms_at, outcomes_at, value_at};
 
 use crate::binders::{bound_table, choices_of};
@@ -24,7 +24,7 @@ use crate::numbers::number;
 use crate::operands::value_and_items;
 use crate::operators::table;
 use crate::outcomes::{Joined, fault_of, fault_or, is_fault, join, join_faults, nothing, truth};
-use crate::trees::{after, front, stays};
+use crate::trees::{after, front, is_expanded_op};
 use std::alloc::{AllocError, Global};
 use tla_meaning::{Expr, Fault, Op, Outcome, Place, SetForm, State};
 use tla_values::{List, Text, Value, copy_text, copy_value};
@@ -68,7 +68,7 @@ pub(crate) fn value(
         Op::Fold => fold(alloc, e, env, s, t, width),
         Op::Noted(_) => first(alloc, args, e.place, env, s, t, width),
         _ => {
-            if stays(&e.op) {
+            if is_expanded_op(&e.op) {
                 joined_operands(alloc, e, env, s, t, width)
             } else {
                 Ok(Outcome::Wrong(e.place))

@@ -1,7 +1,7 @@
 // Truth values and equality.
 ghost use Rattle.std.specs.Prelude.{◌≡◌, None};
 ghost use Rattle.tla_meaning.specs.Operators.{table};
-ghost use Rattle.tla_evaluator.specs.Results.{IsNormalOutcome};
+ghost use Rattle.tla_meaning.specs.Outcomes.{IsNormalOutcome};
 
 use crate::operands::{one_truth, two_truths};
 use tla_meaning::{Op, Outcome, Place};

@@ -6,7 +6,7 @@ ghost use Rattle.tla_meaning.specs.declared.forms.SetForm.TheVariants.{Functions
 ghost use Rattle.tla_meaning.specs.Meaning.{all_in, form_of_all, form_of_one, function_form, in_form, layer_of, plain};
 ghost use Rattle.tla_meaning.specs.Outcomes.{fault_of, join_faults};
 ghost use Rattle.tla_meaning.specs.Shapes.{set_items};
-ghost use Rattle.tla_evaluator.specs.Nodes.{membership_test};
+ghost use Rattle.tla_evaluator.specs.inner.Nodes.{membership_test};
 ghost use Rattle.tla_evaluator.specs.SetRules.{fault_or_wrong, formed_of};
 
 use crate::forms::{all_belong, belongs, is_set_form};

@@ -3,7 +3,7 @@ ghost use Rattle.std.specs.Prelude.{◌≡◌, ◌*ℤ◌, ◌+ℤ◌, ◌<ℤ�
 ghost use Rattle.std.specs.Int.RustNames.{unsigned_abs};
 ghost use Rattle.tla_meaning.specs.Numbers.{in_width, number, power, power_of, range};
 ghost use Rattle.tla_meaning.specs.Operators.{table};
-ghost use Rattle.tla_evaluator.specs.Results.{IsNormalOutcome};
+ghost use Rattle.tla_meaning.specs.Outcomes.{IsNormalOutcome};
 ghost use Rattle.tla_values.specs.Sets.{Normal};
 
 use crate::logic::yes_no;

@@ -3,7 +3,7 @@ ghost use Rattle.std.specs.List.{All};
 ghost use Rattle.std.specs.Prelude.{◌≡◌, ◌≤◌, IfOk, Some};
 ghost use Rattle.tla_values.specs.Sets.{Normal};
 ghost use Rattle.tla_meaning.specs.Operators.{table};
-ghost use Rattle.tla_evaluator.specs.Results.{IsNormalOutcome};
+ghost use Rattle.tla_meaning.specs.Outcomes.{IsNormalOutcome};
 
 use crate::{functions, logic, numbers, records, sequences, sets};
 use std::alloc::{AllocError, Global};

@@ -4,7 +4,7 @@ ghost use Rattle.std.specs.Prelude.{◌≡◌, ◌++◌, ◌∷◌, [], IfOk, Li
 ghost use Rattle.tla_values.specs.Sets.{Normal};
 ghost use Rattle.tla_meaning.specs.Operators.{table};
 ghost use Rattle.tla_meaning.specs.Shapes.{functions, record_of, sequence, the_function};
-ghost use Rattle.tla_evaluator.specs.Results.{IsNormalOutcome};
+ghost use Rattle.tla_meaning.specs.Outcomes.{IsNormalOutcome};
 
 use crate::functions::{function_of, value_at};
 use crate::operands::{one_function, two_sets};

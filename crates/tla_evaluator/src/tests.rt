@@ -730,7 +730,7 @@ fn shown(alloc: Global, outcome: Outcome, mark: u32) -> Result<String, Fail> {
     match outcome {
         Outcome::Val(v) => {
             let mut out = Vec::new(alloc);
-            show(&v, &mut out)?;
+            show(alloc, &v, &mut out)?;
             let text = String::from_utf8(out)?;
             Ok(text)
         }

@@ -6,8 +6,8 @@ ghost use Rattle.tla_meaning.specs.declared.expr.Decl.{Decl};
 ghost use Rattle.tla_meaning.specs.declared.expr.Expr.{Expr, out-Expr};
 ghost use Rattle.tla_meaning.specs.Actions.{act, effect_of, effects_and, outcome_of, val};
 ghost use Rattle.tla_meaning.specs.Executions.{IsYes, invariant, is_yes, next, no_scope, scope_of, start};
-ghost use Rattle.tla_evaluator.specs.Effects.{behind};
-ghost use Rattle.tla_evaluator.specs.Results.{IsNormalOutcome};
+ghost use Rattle.tla_evaluator.specs.inner.Effects.{behind};
+ghost use Rattle.tla_meaning.specs.Outcomes.{IsNormalOutcome};
 ghost use Rattle.tla_evaluator.specs.Trees.{AreNormal, is_expanded, value_at};
 
 use crate::actions::{action, by_value};

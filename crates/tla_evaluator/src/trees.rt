@@ -2,14 +2,14 @@
 ghost use Rattle.std.specs.Prelude.{◌≡◌, drop, take};
 ghost use Rattle.std.specs.List.{list_all, list_any};
 ghost use Rattle.tla_meaning.specs.Actions.{counts};
-ghost use Rattle.tla_evaluator.specs.Trees.{is_expanded, stays};
+ghost use Rattle.tla_evaluator.specs.Trees.{is_expanded, is_expanded_op};
 ghost use Rattle.tla_evaluator.specs.Mentions.{mentions};
 
 use tla_meaning::{Assignable, Expr, Op};
 
 // Whether the operator is left after expansion.
-pub(crate) fn stays(op: &Op) -> bool
-    ensures { result ≡ stays op.now }
+pub(crate) fn is_expanded_op(op: &Op) -> bool
+    ensures { result ≡ is_expanded_op op.now }
 {
     !matches!(
         op,
@@ -23,7 +23,7 @@ pub(crate) fn stays(op: &Op) -> bool
 pub fn is_expanded(e: &Expr) -> bool
     ensures { result ≡ is_expanded e.now }
 {
-    stays(&e.op) && all_expanded(e.args.as_slice())
+    is_expanded_op(&e.op) && all_expanded(e.args.as_slice())
 }
 
 #[cycle(expanded)]
@@ -57,7 +57,7 @@ fn mentions(e: &Expr, assigned: Assignable) -> bool
 {
     match &e.op {
         Op::Name(i, primed) => counts(assigned, *i, *primed),
-        op => stays(op) && any_mentions(e.args.as_slice(), assigned),
+        op => is_expanded_op(op) && any_mentions(e.args.as_slice(), assigned),
     }
 }
 

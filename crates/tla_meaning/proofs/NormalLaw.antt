@@ -17,7 +17,7 @@ use Rattle.tla_meaning.specs.Meaning.{Meaning, denotations, Role, Named, Held, L
 use Rattle.tla_meaning.specs.Actions.{node, val, meaning}
 use Rattle.tla_meaning.specs.Executions.{scope_of}
 use Rattle.tla_meaning.proofs.NormalShapes.{Normals, IfSomes, truth_normal, all_plus}
-use Rattle.tla_meaning.proofs.NormalTable.{IsNormalOutcome}
+use Rattle.tla_meaning.specs.Outcomes.{IsNormalOutcome}
 use Rattle.tla_meaning.proofs.NormalNodes.{NormalDenotation, NormalDenotations, NormalView, absent_normal, child_normal, denotation_normal}
 
 -- ---- scopes

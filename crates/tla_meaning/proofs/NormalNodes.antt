@@ -26,7 +26,8 @@ use Rattle.tla_meaning.specs.Scopes.{Denotation, absent, value_found}
 use Rattle.tla_meaning.specs.Meaning.{View, outcomes, child, forms, choose, by_truth, conjoined, disjoined, implied, if_chosen, case_chosen, truths, on_all_truths, kept, argument, bound_table, over_members, Update, Reached, At, Outside, NoFunction, reached_at, step_into, go_on, at_path, put_at, set_path, updated, all_indexes, updates, first_updated, except, folded, fold_over, in_form, all_in, read, changed, value_of, kept_value, unchanged_of}
 use Rattle.tla_meaning.specs.Actions.{meant, denotation_of}
 use Rattle.tla_meaning.proofs.NormalShapes.{Normals, NormalSet, NormalLists, NormalLayer, IfSomes, layer_normal, text_normal, the_set_normal, the_function_normal, all_plus, all_mapped, zip_pairs, sequence_normal, choices_normal, apply_normal, lists_of}
-use Rattle.tla_meaning.proofs.NormalTable.{IsNormalOutcome, yes_normal, number_normal, on_items_normal, items_of_normal, on_all_sets_normal, taken, dropped, table_normal}
+use Rattle.tla_meaning.specs.Outcomes.{IsNormalOutcome}
+use Rattle.tla_meaning.proofs.NormalTable.{yes_normal, number_normal, on_items_normal, items_of_normal, on_all_sets_normal, taken, dropped, table_normal}
 
 abbrev pub NormalOutcomes : List Outcome → Type 0
 NormalOutcomes os = AllByRecursion IsNormalOutcome os

@@ -15,15 +15,11 @@ use Rattle.tla_meaning.specs.declared.op.Op.TheVariants as op
 use Rattle.tla_meaning.specs.declared.place.Place.{Place}
 use Rattle.tla_meaning.specs.declared.outcome.Outcome.{Outcome}
 use Rattle.tla_meaning.specs.declared.outcome.Outcome.TheVariants.{Val, Wrong, Big}
+use Rattle.tla_meaning.specs.Outcomes.{IsNormalOutcome}
 use Rattle.tla_meaning.specs.Numbers.{Width, in_width, number, quotient, remainder, power, power_of, range}
 use Rattle.tla_meaning.specs.Operators.{table, yes_no, or_wrong, on_truth, on_truths, on_two, on_number, on_numbers, on_set, on_sets, on_function, on_functions, on_sequence, on_sequences, on_items, on_all_sets, applied, domain, head_of, tail_of, part_of, part_from_to, appended}
 use Rattle.tla_meaning.specs.Shapes.{truth, sequence, items_of, all_set_items, union_all}
 use Rattle.tla_meaning.proofs.NormalShapes.{Normals, NormalSet, NormalLayer, IfSomes, set_made, layer_normal, truth_normal, int_normal, the_set_normal, the_function_normal, all_plus, subsets_normal, from_normal, sequence_normal, record_normal, functions_normal, records_normal, tuples_normal, falsity_first, items_normal, apply_normal, all_items_normal, union_normal, union_all_normal, lists_of}
-
-abbrev pub IsNormalOutcome : Outcome → Type 0
-IsNormalOutcome (Val v) = Normal v
-IsNormalOutcome (Wrong p) = Unit {0}
-IsNormalOutcome (Big p) = Unit {0}
 
 abbrev pub NormalLayers : List (Layer Value) → Type 0
 NormalLayers ls = AllByRecursion NormalLayer ls

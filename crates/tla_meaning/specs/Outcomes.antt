@@ -3,6 +3,7 @@ use Rattle.std.specs.Prelude.{ℕ, Bool, List, [], ◌∷◌, if◌then◌else�
 use Rattle.std.specs.declared.cmp.Ordering.{Ordering}
 use Rattle.std.specs.Ordering.{nat_cmp, is_lt}
 use Rattle.std.specs.Cmp.Lexicographic.{slice_cmp}
+use Rattle.tla_values.specs.Sets.{Normal}
 use Rattle.tla_values.specs.declared.value.Value.{Value}
 use Rattle.tla_meaning.specs.declared.place.Place.{Place}
 use Rattle.tla_meaning.specs.declared.outcome.Fault.{Fault}
@@ -65,3 +66,9 @@ abbrev pub with_value : Outcome → (Value → Outcome) → Outcome
 with_value (Val v) f = f v
 with_value (Wrong p) f = Wrong p
 with_value (Big p) f = Big p
+
+-- a value of an outcome is normal
+abbrev pub IsNormalOutcome : Outcome → Type 0
+IsNormalOutcome (Val v) = Normal v
+IsNormalOutcome (Wrong p) = Unit {0}
+IsNormalOutcome (Big p) = Unit {0}

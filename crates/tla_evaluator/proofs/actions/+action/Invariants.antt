@@ -1,6 +1,6 @@
 use Rattle.std.proofs.Common.{◌≡◌, ◌≤◌, ◌-◌, drop, length, map}
 use Rattle.tla_meaning.specs.Actions.{case_effect, effects_and, effects_or}
-use Rattle.tla_evaluator.specs.Effects.{behind, body_effect, either}
+use Rattle.tla_evaluator.specs.inner.Effects.{behind, body_effect, either}
 use Rattle.tla_evaluator.specs.Trees.{effects_at, outcomes_at}
 use Rattle.tla_evaluator.proofs.actions.+action.Given as goal
 

@@ -15,7 +15,7 @@ use Rattle.tla_meaning.specs.Meaning.{fold_over, folded, form_of_all, function_f
 use Rattle.tla_meaning.specs.Operators.{table, yes_no}
 use Rattle.tla_meaning.specs.Outcomes.{join_faults, joined, values}
 use Rattle.tla_meaning.specs.Scopes.{bound_to}
-use Rattle.tla_evaluator.specs.Nodes.{index_trees, paths_at, update_at}
+use Rattle.tla_evaluator.specs.inner.Nodes.{index_trees, paths_at, update_at}
 use Rattle.tla_evaluator.specs.Trees.{first_at, form_at, forms_at, outcomes_at, value_at}
 use Rattle.tla_evaluator.proofs.FormLoops.{form_fault_next, form_via, forms_count, forms_next, function_ok, function_parts, if_case, no_first_form, one_first_form}
 use Rattle.tla_evaluator.proofs.ListSteps.{behind_no_deeper, first_normal, folded_next, further_no_deeper, index_fault_next, item_normal, members_normal, one_normal, operands_normal, paths_next, reached_normal, results_normal, two_are_normal, under_same, one_is_normal, updated_at, updated_next}
@@ -117,10 +117,10 @@ pub value-returns-in-Noted : goal.value-returns-in-Noted
 value-returns-in-Noted t c =
     via _ (noted_is c.args.width c.args.e.now c.args.env.now c.args.s.now c.args.t.now _ c.as_slice-args.ensures _ c.in-Noted.is) c.first.ensures
 
-pub value-returns-then-stays : goal.value-returns-then-stays
-value-returns-then-stays t c =
+pub value-returns-then-is_expanded_op : goal.value-returns-then-is_expanded_op
+value-returns-then-is_expanded_op t c =
     via _ (strict_is c.args.width c.args.e.now c.args.env.now c.args.s.now c.args.t.now (rest_is_strict _ (record {
-      stays = sym c.stays.ensures ∙ c.if-stays.true;
+      is_expanded_op = sym c.is_expanded_op.ensures ∙ c.if-is_expanded_op.true;
       not_bool = c.in_default.not-Bool;
       not_int = c.in_default.not-Int;
       not_str = c.in_default.not-Str;
@@ -144,9 +144,9 @@ value-returns-then-stays t c =
       not_bound = c.in_default.not-Bound;
     }))) c.joined_operands.ensures
 
-pub value-returns-else-stays : goal.value-returns-else-stays
-value-returns-else-stays t c =
-    gone_is c.args.width c.args.e.now c.args.env.now c.args.s.now c.args.t.now (sym c.stays.ensures ∙ c.if-stays.false)
+pub value-returns-else-is_expanded_op : goal.value-returns-else-is_expanded_op
+value-returns-else-is_expanded_op t c =
+    gone_is c.args.width c.args.e.now c.args.env.now c.args.s.now c.args.t.now (sym c.is_expanded_op.ensures ∙ c.if-is_expanded_op.false)
 
 pub form-returns-in-IntSet : goal.form-returns-in-IntSet
 form-returns-in-IntSet t c =

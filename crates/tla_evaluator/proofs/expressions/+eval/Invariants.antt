@@ -6,7 +6,7 @@ use Rattle.tla_meaning.specs.Forms.{form_faults, made, results}
 use Rattle.tla_meaning.specs.Meaning.{case_chosen, folded, updated}
 use Rattle.tla_meaning.specs.Outcomes.{join_faults, joined, values}
 use Rattle.tla_meaning.specs.Scopes.{bound_to}
-use Rattle.tla_evaluator.specs.Nodes.{bodies_at, index_trees, junction, paths_at, updates_at}
+use Rattle.tla_evaluator.specs.inner.Nodes.{bodies_at, index_trees, junction, paths_at, updates_at}
 use Rattle.tla_evaluator.specs.Trees.{first_at, forms_at, outcomes_at}
 use Rattle.tla_evaluator.proofs.expressions.+eval.Given as goal
 

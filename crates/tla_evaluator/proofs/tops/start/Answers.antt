@@ -1,7 +1,7 @@
 use Rattle.std.proofs.Common.{◌≡◌, ap, filter, length, ◌∙◌}
 use Rattle.tla_meaning.specs.declared.expr.Decl.{Decl}
 use Rattle.tla_meaning.specs.Executions.{constants}
-use Rattle.tla_evaluator.specs.Effects.{behind}
+use Rattle.tla_evaluator.specs.inner.Effects.{behind}
 use Rattle.tla_evaluator.proofs.TopLemmas.{stops_first, stops_second, goes_on}
 use Rattle.tla_evaluator.proofs.tops.start.Goals as goal
 
