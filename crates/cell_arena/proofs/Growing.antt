@@ -1,7 +1,7 @@
 -- The laws of growth.
-use Rattle.std.proofs.Common.{◌≡◌, ℕ, ◌<◌, ◌≤◌, Bool, true, false, ◌&&◌, IsTrue, List, [], ◌∷◌, ◌++◌, length, refl, sym, ◌∙◌, ap, arith, append_assoc, Result, Ok, Err, OnOk, OnErr}
+use Rattle.std.proofs.Common.{◌≡◌, ℕ, ◌<◌, ◌≤◌, Bool, true, false, ◌&&◌, IsTrue, List, [], ◌∷◌, ◌++◌, length, All, get_or, refl, sym, ◌∙◌, ap, subst, arith, append_assoc, Result, Ok, Err, OnOk, OnErr}
 use Rattle.std.specs.List.{list_all}
-use Rattle.std.proofs.lemmas.List.{append-nil, get_or_append_left, length_push}
+use Rattle.std.proofs.lemmas.List.{append-nil, get_or_append_left, get_or_default, length_push}
 use Rattle.std.proofs.lemmas.List.Folds.{list_all-append}
 use Rattle.sat_formula.specs.declared.cnf.Cnf.{Cnf}
 use Rattle.sat_formula.specs.Formula.{Satisfies, Grows as FormulaGrows}
@@ -11,9 +11,11 @@ use Rattle.cell_arena.specs.declared.kinds.CellId.{CellId}
 use Rattle.cell_arena.specs.declared.kinds.CellKind.{CellKind}
 use Rattle.cell_arena.specs.declared.kinds.CellKind.TheVariants.{Bit}
 use Rattle.cell_arena.specs.declared.build.Build.{Build}
-use Rattle.cell_arena.specs.Cells.{Cells, InRange, in_range, kind_at}
+use Rattle.cell_arena.specs.Cells.{Cells, IsHeld, NamesBelow, InRange, in_range, kind_at}
 use Rattle.cell_arena.specs.Decode.{decode, kind_value}
 use Rattle.cell_arena.specs.Growth.{Keeps, Grows, Decodes}
+use Rattle.cell_arena.proofs.Held.{NamesBelow-later}
+use Rattle.cell_arena.proofs.Assigned.{decode-append}
 use Rattle.cell_arena.proofs.Decoding.{decode-older, decode-newest}
 
 pub Keeps-refl : (c : Cells) → Keeps c c
@@ -124,3 +126,14 @@ Decodes-push b c k vars id e n = record {
   there = rw e (let h = length_push b.arena.kinds k in omega arith);
   value = λ a s. decode-newest b.arena c.arena k a id (ap (λ x. x.kinds) e) (ap (λ x. x.texts) e) n;
 }
+
+held-named : (n vars width : ℕ) (ks : List CellKind) → ((id : CellId) → id.index < length ks → IsHeld id.index vars width (kind_at ks id)) → vars ≤ n → All (NamesBelow n) ks
+held-named n vars width ks held le = λ i d lt.
+    let first : CellKind = Bit (record { var = 0; neg = false }) in
+    subst (NamesBelow n) (get_or_default ks i first d lt) (NamesBelow-later vars n (get_or ks i first) le (held (record { index = i }) lt).named)
+
+-- a cell keeps its value as the assignment grows
+pub decode-assigned : (b : Build) (id : CellId) (a more : List Bool) → length a ≡ b.formula.vars → decode b.arena (a ++ more) id ≡ decode b.arena a id
+decode-assigned b id a more n =
+    let fits = b.fits in
+    decode-append b.arena a more id (held-named (length a) b.arena.vars b.arena.width b.arena.kinds b.built.held (omega arith))

@@ -10,7 +10,7 @@ use Rattle.cell_arena.specs.declared.kinds.CellKind.{CellKind}
 use Rattle.cell_arena.specs.declared.kinds.CellKind.TheVariants.{Bit, Word, Text, Set, Fun, Rec, Tup, Seq}
 use Rattle.cell_arena.specs.Cells.{Cells, WellBuilt, IsHeld, NamesBelow, kind_at}
 
-NamesBelow-later : (m n : ℕ) (k : CellKind) → m ≤ n → NamesBelow m k → NamesBelow n k
+pub NamesBelow-later : (m n : ℕ) (k : CellKind) → m ≤ n → NamesBelow m k → NamesBelow n k
 NamesBelow-later m n (Bit l) le h = omega arith
 NamesBelow-later m n (Word w) le h = WordBelow-later m n w h le
 NamesBelow-later m n (Text w) le h = WordBelow-later m n w h le

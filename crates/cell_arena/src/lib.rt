@@ -11,8 +11,10 @@ mod arena;
 mod build;
 mod differ;
 mod kinds;
+mod laws;
 
 pub use arena::Arena;
 pub use build::Build;
 pub use differ::all_differ;
 pub use kinds::{CellId, CellKind};
+pub use laws::older_cells_stay;

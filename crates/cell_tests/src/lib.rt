@@ -1,0 +1,9 @@
+//! Tests of the crates of cells: what cells decode to, against values.
+#![tactic(auto)]
+
+#[cfg(test)]
+mod arena;
+#[cfg(test)]
+mod constants;
+#[cfg(test)]
+mod decoding;
