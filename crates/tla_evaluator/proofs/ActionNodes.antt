@@ -28,7 +28,7 @@ use Rattle.tla_meaning.proofs.Joins.{both_assoc, both_same}
 use Rattle.tla_meaning.specs.declared.actions.Assignable.{Assignable}
 use Rattle.tla_meaning.specs.declared.actions.Effect.{Effect}
 use Rattle.tla_evaluator.specs.inner.Effects.{behind, body_effect, either, exists_at, first_effect}
-use Rattle.tla_evaluator.specs.Mentions.{mentions}
+use Rattle.tla_evaluator.specs.inner.Mentions.{mentions}
 use Rattle.tla_evaluator.specs.Trees.{effect_at, effects_at, expanded_meaning, expanded_node, outcomes_at, scope_at, is_expanded_op, value_at}
 use Rattle.tla_evaluator.proofs.MentionLaws.{holds_as}
 use Rattle.tla_evaluator.proofs.TreeSizes.{most-drop}

@@ -13,7 +13,7 @@ use Rattle.tla_meaning.specs.declared.forms.SetForm.{SetForm}
 use Rattle.tla_meaning.specs.Meaning.{case_chosen, function_form, if_chosen}
 use Rattle.tla_meaning.specs.Outcomes.{join_faults}
 use Rattle.tla_evaluator.specs.declared.memberships.FormOutcome.{FormOutcome}
-use Rattle.tla_evaluator.specs.SetRules.{formed_of}
+use Rattle.tla_evaluator.specs.inner.SetRules.{formed_of}
 use Rattle.tla_evaluator.specs.Trees.{first_form_at, form_at, forms_at, outcomes_at, value_at}
 use Rattle.tla_evaluator.proofs.EvalSteps.{map_next}
 use Rattle.tla_evaluator.proofs.FormSteps.{form_fault_step, forms_step}

@@ -10,7 +10,7 @@ use Rattle.tla_values.proofs.Laws.{value_itself}
 use Rattle.tla_values.proofs.TotalLemmas.{value_equal}
 use Rattle.tla_values.proofs.SetLaws.{Rising, Above, higher, less_back, rising_from, rising_insert}
 use Rattle.tla_values.proofs.FunLaws.{apply_domain, rising_function, arguments_insert, apply_found, apply_split, pair_split, FoundAt, SplitAt}
-use Rattle.tla_evaluator.specs.Results.{with_last}
+use Rattle.tla_evaluator.specs.inner.Results.{with_last}
 
 abbrev Pair : Type 0
 Pair = Value × Value

@@ -13,7 +13,7 @@ use Rattle.tla_meaning.specs.Actions.{any_mentions}
 use Rattle.tla_meaning.specs.Meaning.{Meaning, denotations, except_marks, outer, inner}
 use Rattle.tla_meaning.specs.Numbers.{Width}
 use Rattle.tla_meaning.specs.Scopes.{bind, bound_to}
-use Rattle.tla_evaluator.specs.Mentions.{mentioned_at, mentions}
+use Rattle.tla_evaluator.specs.inner.Mentions.{mentioned_at, mentions}
 use Rattle.tla_evaluator.specs.Trees.{expanded_meaning, expanded_node, scope_at}
 
 -- ---- the meaning says the same

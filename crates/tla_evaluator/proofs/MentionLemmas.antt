@@ -7,7 +7,7 @@ use Rattle.tla_meaning.specs.declared.expr.Expr.TheFolds.{fold_out-Expr}
 use Rattle.tla_meaning.specs.declared.op.Op.{Op}
 use Rattle.tla_meaning.specs.declared.op.Op.TheVariants as op
 use Rattle.tla_evaluator.specs.Trees.{is_expanded_op}
-use Rattle.tla_evaluator.specs.Mentions.{mentioned_at, mentions}
+use Rattle.tla_evaluator.specs.inner.Mentions.{mentioned_at, mentions}
 
 any_same : (m : Assignable) (es : List Expr) → list_any (λ k. k) (map (mentions m) es) ≡ list_any (mentions m) es
 any_same m [] = refl

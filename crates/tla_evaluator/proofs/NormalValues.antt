@@ -22,7 +22,7 @@ use Rattle.tla_meaning.specs.declared.place.Place.{Place}
 use Rattle.tla_meaning.specs.declared.outcome.Outcome.TheVariants.{Val, Wrong}
 use Rattle.tla_meaning.specs.Operators.{on_all_sets}
 use Rattle.tla_evaluator.proofs.NumberLemmas.{size, out_size}
-use Rattle.tla_evaluator.specs.Results.{IsNormalPair, all_of}
+use Rattle.tla_evaluator.specs.inner.Results.{IsNormalPair, all_of}
 
 abbrev Pair : Type 0
 Pair = Value × Value

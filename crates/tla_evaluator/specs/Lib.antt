@@ -1,5 +1,2 @@
-pub mod Mentions
-pub mod Results
-pub mod SetRules
 pub mod Trees
 pub mod inner

@@ -11,7 +11,7 @@ ghost use Rattle.tla_meaning.specs.Meaning.{Update, case_chosen, choose, folded,
 ghost use Rattle.tla_meaning.specs.Operators.{table, yes_no};
 ghost use Rattle.tla_meaning.specs.Outcomes.{joined, strict, values};
 ghost use Rattle.tla_meaning.specs.Scopes.{bound_to};
-ghost use Rattle.tla_evaluator.specs.SetRules.{formed_of};
+ghost use Rattle.tla_evaluator.specs.inner.SetRules.{formed_of};
 ghost use Rattle.tla_evaluator.specs.inner.Nodes.{bodies_at, bound_at, except_at, fold_at, index_trees, junction, membership_test, paths_at, update_at, updates_at};
 ghost use Rattle.tla_evaluator.specs.Trees.{AreNormal, first_at, form_at, forms_at, outcomes_at, value_at};
 

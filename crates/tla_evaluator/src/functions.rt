@@ -8,7 +8,7 @@ ghost use Rattle.tla_values.specs.Sets.{Normal, apply, arguments, function_of, i
 ghost use Rattle.tla_meaning.specs.Operators.{or_wrong, table};
 ghost use Rattle.tla_meaning.specs.Shapes.{the_function};
 ghost use Rattle.tla_meaning.specs.Outcomes.{IsNormalOutcome};
-ghost use Rattle.tla_evaluator.specs.Results.{IsNormalPair, with_last};
+ghost use Rattle.tla_evaluator.specs.inner.Results.{IsNormalPair, with_last};
 
 use crate::numbers::fits;
 use crate::operands::{is_sequence, one_function, two_functions};

@@ -7,7 +7,7 @@ ghost use Rattle.tla_meaning.specs.Meaning.{all_in, form_of_all, form_of_one, fu
 ghost use Rattle.tla_meaning.specs.Outcomes.{fault_of, join_faults};
 ghost use Rattle.tla_meaning.specs.Shapes.{set_items};
 ghost use Rattle.tla_evaluator.specs.inner.Nodes.{membership_test};
-ghost use Rattle.tla_evaluator.specs.SetRules.{fault_or_wrong, formed_of};
+ghost use Rattle.tla_evaluator.specs.inner.SetRules.{fault_or_wrong, formed_of};
 
 use crate::forms::{all_belong, belongs, is_set_form};
 use crate::logic::yes_no;

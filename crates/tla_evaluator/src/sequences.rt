@@ -8,7 +8,7 @@ ghost use Rattle.tla_meaning.specs.Forms.{results};
 ghost use Rattle.tla_meaning.specs.Operators.{head_of, on_items, part_from_to, part_of, table, tail_of};
 ghost use Rattle.tla_meaning.specs.Shapes.{items_of, numbered, sequence};
 ghost use Rattle.tla_meaning.specs.Outcomes.{IsNormalOutcome};
-ghost use Rattle.tla_evaluator.specs.Results.{IsNormalPair};
+ghost use Rattle.tla_evaluator.specs.inner.Results.{IsNormalPair};
 
 use crate::numbers::number;
 use crate::operands::{is_sequence, one_sequence, two_sequences};

@@ -5,7 +5,7 @@ ghost use Rattle.tla_values.specs.Sets.{Normal};
 ghost use Rattle.tla_meaning.specs.Operators.{on_all_sets, table};
 ghost use Rattle.tla_meaning.specs.Shapes.{all_set_items, choices, each_to, sublists, subsets, the_set, union_all, with_each};
 ghost use Rattle.tla_meaning.specs.Outcomes.{IsNormalOutcome};
-ghost use Rattle.tla_evaluator.specs.Results.{all_of};
+ghost use Rattle.tla_evaluator.specs.inner.Results.{all_of};
 
 use crate::logic::yes_no;
 use crate::numbers::number;

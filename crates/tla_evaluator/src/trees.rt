@@ -3,7 +3,7 @@ ghost use Rattle.std.specs.Prelude.{◌≡◌, drop, take};
 ghost use Rattle.std.specs.List.{list_all, list_any};
 ghost use Rattle.tla_meaning.specs.Actions.{counts};
 ghost use Rattle.tla_evaluator.specs.Trees.{is_expanded, is_expanded_op};
-ghost use Rattle.tla_evaluator.specs.Mentions.{mentions};
+ghost use Rattle.tla_evaluator.specs.inner.Mentions.{mentions};
 
 use tla_meaning::{Assignable, Expr, Op};
 

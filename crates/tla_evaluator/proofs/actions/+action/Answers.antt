@@ -9,7 +9,7 @@ use Rattle.tla_meaning.specs.declared.expr.Expr.{Expr, out-Expr, size-Expr}
 use Rattle.tla_meaning.specs.Actions.{case_effect, effects_and, effects_or, if_effect}
 use Rattle.tla_meaning.specs.declared.actions.Assignable.{Assignable}
 use Rattle.tla_evaluator.specs.inner.Effects.{exists_at, first_effect}
-use Rattle.tla_evaluator.specs.Mentions.{mentions}
+use Rattle.tla_evaluator.specs.inner.Mentions.{mentions}
 use Rattle.tla_evaluator.specs.Trees.{AreNormal, effects_at, outcomes_at}
 use Rattle.tla_evaluator.proofs.ActionNodes.{is_now, at_value, at_and, at_or, at_or_value, at_if, at_if_value, at_case, at_case_value, at_exists, at_noted, and_next, or_next, bodies_next, case_false, case_fault, if_fault, exists_body, exists_fault, first_some, first_none, no_deeper}
 use Rattle.tla_evaluator.proofs.NormalBinds.{longer_normal, choices_are_normal}

@@ -2,7 +2,7 @@ use Rattle.std.proofs.Common.{arith, ◌≡◌, ◌++◌, sym, subst}
 use Rattle.std.specs.List.{All}
 use Rattle.std.proofs.lemmas.Grind.{common_steps}
 use Rattle.std.proofs.lemmas.List.Elements.{All-append}
-use Rattle.tla_evaluator.specs.Results.{IsNormalPair}
+use Rattle.tla_evaluator.specs.inner.Results.{IsNormalPair}
 use Rattle.tla_evaluator.proofs.NormalValues.{normal_pairs}
 use Rattle.tla_evaluator.proofs.functions.merge.Goals as goal
 

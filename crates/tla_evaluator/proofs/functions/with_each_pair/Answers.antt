@@ -2,7 +2,7 @@ use Rattle.std.proofs.Common.{ap, ◌∙◌, sym, subst, IsTrue}
 use Rattle.tla_values.specs.Sets.{arguments, increasing}
 use Rattle.tla_values.proofs.SetLaws.{rising_to}
 use Rattle.tla_values.proofs.FunLaws.{rising_function}
-use Rattle.tla_evaluator.specs.Results.{with_last}
+use Rattle.tla_evaluator.specs.inner.Results.{with_last}
 use Rattle.tla_evaluator.proofs.FunctionLemmas.{function_more}
 use Rattle.tla_evaluator.proofs.functions.with_each_pair.Goals as goal
 

@@ -1,6 +1,6 @@
 use Rattle.std.proofs.Common.{sym, subst}
 use Rattle.std.specs.List.{All}
-use Rattle.tla_evaluator.specs.Results.{IsNormalPair}
+use Rattle.tla_evaluator.specs.inner.Results.{IsNormalPair}
 use Rattle.tla_evaluator.proofs.NormalValues.{normal_pairs}
 use Rattle.tla_evaluator.proofs.sequences.head.Goals as goal
 

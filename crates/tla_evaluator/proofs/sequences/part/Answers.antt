@@ -3,7 +3,7 @@ use Rattle.std.specs.List.{All}
 use Rattle.std.proofs.lemmas.Int.{to_z-of_z}
 use Rattle.std.proofs.lemmas.List.Elements.{All-take, All-drop}
 use mir.Syntax.{w128}
-use Rattle.tla_evaluator.specs.Results.{IsNormalPair}
+use Rattle.tla_evaluator.specs.inner.Results.{IsNormalPair}
 use Rattle.tla_evaluator.proofs.NormalValues.{normal_pairs}
 use Rattle.tla_evaluator.proofs.ListLemmas.{part_value}
 use Rattle.tla_evaluator.proofs.sequences.part.Goals as goal

@@ -1,5 +1,5 @@
 use Rattle.std.proofs.lemmas.List.Elements.{All-take, All-drop}
-use Rattle.tla_evaluator.specs.Results.{IsNormalPair}
+use Rattle.tla_evaluator.specs.inner.Results.{IsNormalPair}
 use Rattle.tla_evaluator.proofs.sequences.tail_of.Goals as goal
 
 pub returns-in_ok-value-in-len1-up-clause-normal : goal.returns-in_ok-value-in-len1-up-clause-normal

@@ -1,6 +1,6 @@
 use Rattle.std.proofs.Common.{◌≡◌, ◌++◌, drop, option_map}
 use Rattle.tla_meaning.specs.Shapes.{all_set_items}
-use Rattle.tla_evaluator.specs.Results.{all_of}
+use Rattle.tla_evaluator.specs.inner.Results.{all_of}
 use Rattle.tla_evaluator.proofs.sets.all_members.Given as goal
 
 abbrev pub invariant-loop-v : goal.invariant-loop-v

@@ -1,6 +1,6 @@
 use Rattle.std.proofs.Common.{◌≡◌, drop}
 use Rattle.std.specs.List.{list_any}
-use Rattle.tla_evaluator.specs.Mentions.{mentions}
+use Rattle.tla_evaluator.specs.inner.Mentions.{mentions}
 use Rattle.tla_evaluator.proofs.trees.+mentions.Given as goal
 
 abbrev pub invariant-any_mentions-loop-e : goal.invariant-any_mentions-loop-e
