@@ -128,12 +128,21 @@ module _ (w : ℕ) (job : Job) where
       none zero (omega arith) StepWrong (s, is, wide_wrong (start_narrow (Some w) job s) (λ b. none zero (omega arith) StepBig (s, is, b)) wrong)
   none_errs n none (StepIsWrong {n = m} s t r is keeps wrong) =
       let reached : Reaches (Some w) job m s = wide_reaches w job (suc n) none m s (omega arith) r in
-      none n (omega arith) StepWrong (s, t, reached, is, keeps,
-      wide_wrong (next_narrow (Some w) job s t) (λ b. none n (omega arith) StepBig (s, t, reached, is, keeps, b)) wrong)
+      none n (omega arith) StepWrong (
+        s,
+        t,
+        reached,
+        is,
+        keeps,
+        wide_wrong (next_narrow (Some w) job s t) (λ b. none n (omega arith) StepBig (s, t, reached, is, keeps, b)) wrong,
+      )
   none_errs n none (InvariantIsNotTrue s r untrue) =
       let reached : Reaches (Some w) job n s = wide_reaches w job (suc n) none n s (omega arith) r in
-      none n (omega arith) InvNotTrue (s, reached,
-      wide_not_yes (invariant_narrow (Some w) job s) (λ b. none n (omega arith) InvBig (s, reached, b)) untrue)
+      none n (omega arith) InvNotTrue (
+        s,
+        reached,
+        wide_not_yes (invariant_narrow (Some w) job s) (λ b. none n (omega arith) InvBig (s, reached, b)) untrue,
+      )
 
 -- ---- inductive errors by the typed questions
 
@@ -163,10 +172,23 @@ module _ (within : State → Bool) (w : ℕ) (job : Job) (none : NoneHoldsTyped 
       zero_is : (m : ℕ) → m < 1 → zero ≡ m
       zero_is m le = omega arith
   none_errs_typed level (TypedStepErrs s t h is keeps wrong) =
-      none StepWrong (s, t, wide_start s h, is, keeps,
-      wide_wrong (next_narrow (Some w) job s t) (λ b. none StepBig (s, t, wide_start s h, is, keeps, b)) wrong)
+      none StepWrong (
+        s,
+        t,
+        wide_start s h,
+        is,
+        keeps,
+        wide_wrong (next_narrow (Some w) job s t) (λ b. none StepBig (s, t, wide_start s h, is, keeps, b)) wrong,
+      )
   none_errs_typed level (TypedInvariantErrs s t h is keeps steps untrue) =
       let stepped : IsYes (next (Some w) job s t) =
       wide_yes (next_narrow (Some w) job s t) (λ b. none StepBig (s, t, wide_start s h, is, keeps, b)) steps in
-      none InvNotTrue (s, t, wide_start s h, is, keeps, stepped,
-      wide_not_yes (invariant_narrow (Some w) job t) (λ b. none InvBig (s, t, wide_start s h, is, keeps, stepped, b)) untrue)
+      none InvNotTrue (
+        s,
+        t,
+        wide_start s h,
+        is,
+        keeps,
+        stepped,
+        wide_not_yes (invariant_narrow (Some w) job t) (λ b. none InvBig (s, t, wide_start s h, is, keeps, stepped, b)) untrue,
+      )

@@ -135,6 +135,7 @@ part_same {w = w} p xs (pos (suc m)) (pos n) = by_order (nat_le (suc m) n)
   where
     some : Outcome
     some = if nat_le n (length xs) then Val (sequence (take (n - m) (drop m xs))) else Wrong p
+
     by_order : (b : Bool) → Narrow w (if b then some else Val (sequence [])) (if b then some else Val (sequence []))
     by_order true = inside_same p (sequence (take (n - m) (drop m xs))) (nat_le n (length xs))
     by_order false = SameValue (sequence [])

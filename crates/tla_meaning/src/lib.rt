@@ -26,9 +26,9 @@ pub use outcome::{Fault, Outcome};
 pub use place::Place;
 pub use questions::Query;
 pub use theorems::{
-    bound_names_may_be_renamed, constants_stand_first, faults_join,
-    nothing_is_big_without_a_width, questions_tell_errors, typed_questions_tell_errors, trees_may_be_put_in, trees_read_their_free_names,
-    values_are_normal, widths_agree,
+    bound_names_may_be_renamed, constants_stand_first, faults_join, nothing_is_big_without_a_width,
+    questions_tell_errors, trees_may_be_put_in, trees_read_their_free_names,
+    typed_questions_tell_errors, values_are_normal, widths_agree,
 };
 
 #[cfg(test)]

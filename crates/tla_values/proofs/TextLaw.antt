@@ -1,7 +1,7 @@
 -- The text of a value can be read back in one way only.
-use Rattle.std.proofs.Common.{◌≡◌, ℕ, zero, suc, ◌+◌, ◌-◌, ◌<◌, ◌≤◌, ◌^◌, Bool, true, false, not, ◌&&◌, ◌||◌, List, [], ◌∷◌, ◌++◌, map, length, flat_map, get_or, Option, Some, None, unwrap_or, refl, ap, ◌∙◌, sym, subst, arith, append_assoc, IsTrue, codes, ℤ, pos, negsuc}
-use Rattle.std.specs.Prelude.{◌==◌, if◌then◌else◌, nat_le, nat_lt, ⊤}
-use Rattle.std.specs.List.{AllByRecursion, join_by, list_all}
+use Rattle.std.proofs.Common.{◌≡◌, ℕ, suc, ◌-◌, ◌<◌, ◌^◌, Bool, true, false, not, ◌||◌, List, [], ◌∷◌, ◌++◌, flat_map, refl, ap, ◌∙◌, sym, subst, arith, append_assoc, IsTrue, ℤ, pos, negsuc}
+use Rattle.std.specs.Prelude.{◌==◌, if◌then◌else◌, nat_lt, ⊤}
+use Rattle.std.specs.List.{AllByRecursion, join_by}
 use Rattle.std.specs.Fmt.{decimal, signed_decimal}
 use Rattle.std.specs.Str.Parse.{AllDigits, IsNumeral, digits_value}
 use Rattle.std.specs.Char.{digit_value}
@@ -229,8 +229,10 @@ number_kind b bs h = pick (b == 84 || b == 70) (letters b h) ∙ ap (λ t. if t 
   where
     letters : (b : ℕ) → is_digit b ≡ true → (b == 84 || b == 70) ≡ false
     letters b h = grind (arith, nat_tests)
+
     rest : ℕ
     rest = if is_digit b || b == 45 then 1 else (if b == 34 then 2 else (if b == 123 then 3 else (if b == 60 || b == 91 || b == 40 then 4 else 9)))
+
     pick : (t : Bool) → t ≡ false → (if t then 0 else rest) ≡ rest
     pick true e = absurd (false≢true (sym e))
     pick false e = refl

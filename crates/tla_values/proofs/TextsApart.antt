@@ -1,5 +1,5 @@
 -- The text of a value can be read back in one way only: for every kind of value.
-use Rattle.std.proofs.Common.{◌≡◌, ℕ, zero, suc, ◌+◌, ◌<◌, Bool, true, false, not, ◌&&◌, List, [], ◌∷◌, ◌++◌, map, flat_map, Option, Some, None, unwrap_or, refl, ap, ap₂, ◌∙◌, sym, ℤ, pos, subst, arith, append_assoc, IsTrue, codes}
+use Rattle.std.proofs.Common.{◌≡◌, ℕ, ◌+◌, ◌<◌, Bool, true, false, not, ◌&&◌, List, [], ◌∷◌, ◌++◌, map, flat_map, Option, Some, None, unwrap_or, refl, ap, ap₂, ◌∙◌, sym, ℤ, pos, subst, arith, append_assoc, IsTrue, codes}
 use Rattle.std.proofs.lemmas.Bool.Decides.{Decides-int_eq}
 use Rattle.std.specs.Ordering.{int_eq}
 use Rattle.std.proofs.lemmas.Bool.{false≢true}
@@ -7,9 +7,9 @@ use Rattle.std.specs.Prelude.{if◌then◌else◌, is_some}
 use Rattle.std.specs.List.{AllByRecursion, join_by, list_all}
 use Rattle.tla_values.specs.Names.{is_name, begins_fairness, is_name_byte, is_word}
 use Rattle.tla_values.specs.Order.{Layer, kind_of}
-use Rattle.tla_values.specs.Show.{Ends, Shown, are_named, counts_from, escaped, field_text, function_text, integers_fit, is_at, is_digit, layer_fits, layer_text, name_of, number_of, pair_text, pairs_shown, pairs_text, quoted, record_text, set_text, shown, text_of, tuple_text}
-use Rattle.tla_values.specs.declared.value.Value.{Value, out-Value, roll-Value, out-roll-Value, roll-out-Value, Bool as Truth, Int, Text, Set, Fun}
-use Rattle.tla_values.specs.declared.value.Value.TheVariants.{rolls-Bool, rolls-Int, rolls-Text, rolls-Set, rolls-Fun}
+use Rattle.tla_values.specs.Show.{Ends, Shown, are_named, counts_from, escaped, field_text, function_text, integers_fit, is_at, is_digit, layer_fits, layer_text, name_of, number_of, pair_text, pairs_text, quoted, record_text, set_text, shown, text_of, tuple_text}
+use Rattle.tla_values.specs.declared.value.Value.{Value, out-Value, roll-Value, out-roll-Value, roll-out-Value, Int, Text}
+use Rattle.tla_values.specs.declared.value.Value.TheVariants.{rolls-Int, rolls-Text}
 use Rattle.tla_values.specs.declared.value.Value.TheOpen as layer
 use Rattle.tla_values.specs.declared.value.Value.TheFolds.{fold_out-Value, ind-Value, map-Value}
 use Rattle.tla_values.proofs.ShowLemmas.{shown_out}
@@ -170,9 +170,10 @@ tuple_opened ps r =
 only_rights : (ys : List (AndOne × AndOne)) → IsTrue (list_all (λ b. b) (map pair_fit (map pair_one ys))) →
     AllByRecursion (Only text_of Fits 44 (32 ∷ []) 62 (62 ∷ []) differ_angle refl refl) (map right (map pair_one ys))
 only_rights [] h = tt
-only_rights (y ∷ ys) h =
-    ((λ u r q k s t e. y.1.1 u r q (and_right (fit y.0.0) (fit y.1.0) (and_left (pair_fit (pair_one y)) _ h)) k s t e),
-    only_rights ys (and_right (pair_fit (pair_one y)) _ h))
+only_rights (y ∷ ys) h = (
+  (λ u r q k s t e. y.1.1 u r q (and_right (fit y.0.0) (fit y.1.0) (and_left (pair_fit (pair_one y)) _ h)) k s t e),
+  only_rights ys (and_right (pair_fit (pair_one y)) _ h),
+)
 
 rights_fit : (ps : List (Value × Value)) → IsTrue (list_all (λ b. b) (map pair_fit ps)) → AllByRecursion Fits (map right ps)
 rights_fit [] h = tt
@@ -184,8 +185,10 @@ number_is v n h = by_layer (out-Value v) refl
   where
     wrong : (o : Option ℤ) → o ≡ None → is_at n o ≡ true → ⊥
     wrong o e h = false≢true (sym (ap (is_at n) e) ∙ h)
+
     number_at : (x : Layer Value) → out-Value v ≡ x → (shown v).number ≡ number_of (map-Value Value Shown shown x)
     number_at x e = ap (λ s. s.number) (shown_out v) ∙ ap (λ y. number_of (map-Value Value Shown shown y)) e
+
     by_layer : (x : Layer Value) → out-Value v ≡ x → v ≡ Int (pos n)
     by_layer (layer.Int z) e =
         let at : int_eq z (pos n) ≡ true = sym (ap (is_at n) (number_at (layer.Int z) e)) ∙ h in
@@ -271,13 +274,16 @@ named_is v h = by_layer (out-Value v) refl
   where
     wrong : (o : Option (List ℕ)) → o ≡ None → is_some o ≡ true → ⊥
     wrong o e k = false≢true (sym (ap is_some e) ∙ k)
+
     name_at : (x : Layer Value) → out-Value v ≡ x → (shown v).name ≡ name_of (map-Value Value Shown shown x)
     name_at x e = ap (λ s. s.name) (shown_out v) ∙ ap (λ y. name_of (map-Value Value Shown shown y)) e
+
     by_name : (t : List ℕ) (b : Bool) → is_name t ≡ b → v ≡ Text t → (shown v).name ≡ (if b then Some t else None) → (v ≡ Text (name_of_value v)) × NameBytes (name_of_value v)
     by_name t true e is k =
         let same : name_of_value v ≡ t = ap (λ o. unwrap_or o []) k in
         (is ∙ ap Text (sym same), subst NameBytes (sym same) (name_bytes t e))
     by_name t false e is k = absurd (wrong (shown v).name k h)
+
     by_layer : (x : Layer Value) → out-Value v ≡ x → (v ≡ Text (name_of_value v)) × NameBytes (name_of_value v)
     by_layer (layer.Text t) e = by_name t (is_name t) refl (sym (roll-out-Value v) ∙ ap roll-Value e ∙ rolls-Text t) (name_at (layer.Text t) e)
     by_layer (layer.Bool b) e = absurd (wrong (shown v).name (name_at (layer.Bool b) e) h)
@@ -288,16 +294,18 @@ named_is v h = by_layer (out-Value v) refl
 only_fields : (ys : List (AndOne × AndOne)) → IsTrue (list_all (λ b. b) (map pair_fit (map pair_one ys))) → are_named (map shown_pair (map pair_one ys)) ≡ true →
     AllByRecursion (Only field_line GoodField 44 (32 ∷ []) 93 [] differ_square refl refl) (map field (map pair_one ys))
 only_fields [] h n = tt
-only_fields (y ∷ ys) h n =
-    (field_apart (name_of_value y.0.0) y.1.0 (named_is y.0.0 (and_left (is_some (shown y.0.0).name) _ n)).1
-    (and_right (fit y.0.0) (fit y.1.0) (and_left (pair_fit (pair_one y)) _ h)) y.1.1,
-    only_fields ys (and_right (pair_fit (pair_one y)) _ h) (and_right (is_some (shown y.0.0).name) _ n))
+only_fields (y ∷ ys) h n = (
+  field_apart (name_of_value y.0.0) y.1.0 (named_is y.0.0 (and_left (is_some (shown y.0.0).name) _ n)).1
+      (and_right (fit y.0.0) (fit y.1.0) (and_left (pair_fit (pair_one y)) _ h)) y.1.1,
+  only_fields ys (and_right (pair_fit (pair_one y)) _ h) (and_right (is_some (shown y.0.0).name) _ n),
+)
 
 fields_good : (ps : List (Value × Value)) → IsTrue (list_all (λ b. b) (map pair_fit ps)) → are_named (map shown_pair ps) ≡ true → AllByRecursion GoodField (map field ps)
 fields_good [] h n = tt
-fields_good (p ∷ ps) h n =
-    (((named_is p.0 (and_left (is_some (shown p.0).name) _ n)).1, and_right (fit p.0) (fit p.1) (and_left (pair_fit p) _ h)),
-    fields_good ps (and_right (pair_fit p) _ h) (and_right (is_some (shown p.0).name) _ n))
+fields_good (p ∷ ps) h n = (
+  ((named_is p.0 (and_left (is_some (shown p.0).name) _ n)).1, and_right (fit p.0) (fit p.1) (and_left (pair_fit p) _ h)),
+  fields_good ps (and_right (pair_fit p) _ h) (and_right (is_some (shown p.0).name) _ n),
+)
 
 fields_unclosed : (bs : List (List ℕ × Value)) → AllByRecursion GoodField bs → AllByRecursion (NoClosing field_line GoodField 44 (32 ∷ []) 93 [] differ_square refl refl) bs
 fields_unclosed [] h = tt
@@ -391,6 +399,7 @@ functions_apart ys zs r q g h e =
   where
     ps : List (Value × Value)
     ps = map pair_one ys
+
     by_forms : (a b c d : Bool) → counts_from 1 (map shown_pair ps) ≡ a → are_named (map shown_pair ps) ≡ b → counts_from 1 (map shown_pair zs) ≡ c →
         are_named (map shown_pair zs) ≡ d → form_text a b (map shown_pair ps) ++ r ≡ form_text c d (map shown_pair zs) ++ q → (ps ≡ zs) × (r ≡ q)
     by_forms true b true d i j k l e = tuples_apart ys zs r q g h i k e

@@ -1,5 +1,5 @@
 -- Bytes added one piece behind another.
-use Rattle.std.proofs.Common.{◌≡◌, ℕ, List, ◌++◌, append_assoc, refl, ap, sym, ◌∙◌, codes}
+use Rattle.std.proofs.Common.{◌≡◌, ℕ, List, ◌++◌, append_assoc, ap, sym, ◌∙◌, codes}
 use Rattle.tla_meaning.specs.declared.place.Place.{Place}
 use Rattle.trace_text.specs.declared.verdict.Fault.{Fault}
 use Rattle.trace_text.specs.declared.verdict.Fault.TheVariants.{InvWrong}
@@ -21,6 +21,6 @@ pub wrong_line : (files : List (List ℕ)) (fault : Fault) (name : List ℕ) (p 
     c ≡ old ++ (fault_text files fault ++ codes "\n")
 wrong_line files fault name p old a b c is e f g =
     let parts : codes "invariant " ++ (name ++ (codes " is outside an operator's domain at " ++ (place_text files p ++ codes "\n")))
-        ≡ (codes "invariant " ++ (name ++ (codes " is outside an operator's domain at " ++ place_text files p))) ++ codes "\n" = simp (append_assoc) in
+    ≡ (codes "invariant " ++ (name ++ (codes " is outside an operator's domain at " ++ place_text files p))) ++ codes "\n" = simp (append_assoc) in
     three_pieces old a b c (codes "invariant ") name (codes " is outside an operator's domain at " ++ (place_text files p ++ codes "\n")) e f g
     ∙ ap (λ w. old ++ w) parts ∙ sym (ap (λ x. old ++ (x ++ codes "\n")) (ap (fault_text files) is ∙ wrong_text files name p))

@@ -163,12 +163,7 @@ fn module_of(files: &[Text], file: u32) -> &[u8]
 // ---- states
 
 // The states of a trace, and its attempt.
-fn states(
-    alloc: Global,
-    trace: &Trace,
-    names: &[Decl],
-    out: &mut Vec<u8>,
-) -> Result<(), AllocError>
+fn states(alloc: Global, trace: &Trace, names: &[Decl], out: &mut Vec<u8>) -> Result<(), AllocError>
     ensures { OnOk result (out.new.items ≡ out.old.items ++ trace_text names.now trace.now) }
 {
     let states = trace.states.as_slice();
@@ -188,12 +183,7 @@ fn states(
 }
 
 // A line for each name.
-fn block(
-    alloc: Global,
-    names: &[Decl],
-    state: &State,
-    out: &mut Vec<u8>,
-) -> Result<(), AllocError>
+fn block(alloc: Global, names: &[Decl], state: &State, out: &mut Vec<u8>) -> Result<(), AllocError>
     ensures { OnOk result (out.new.items ≡ out.old.items ++ block_text names.now state.now) }
 {
     let values = state.vals.as_slice();

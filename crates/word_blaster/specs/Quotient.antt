@@ -1,7 +1,7 @@
 -- Quotients towards minus infinity and their rests, as \div and % of the module Integers: for b
 -- above 0, a = b * (a \div b) + (a % b) with a % b from 0 to b - 1 (Specifying Systems,
 -- section 18.4).
-use Rattle.std.specs.Prelude.{◌≡◌, ℕ, suc, ◌-◌, ◌/◌, ◌%◌, Bool, List, ℤ, pos, negsuc, ◌+ℤ◌, ◌*ℤ◌, ◌≤ℤ◌, ◌<ℤ◌}
+use Rattle.std.specs.Prelude.{◌≡◌, ℕ, suc, Bool, List, ℤ, pos, ◌+ℤ◌, ◌*ℤ◌, ◌≤ℤ◌, ◌<ℤ◌}
 pub use Rattle.tla_values.specs.Integers.{floor_quotient, floor_remainder}
 use Rattle.sat_formula.specs.declared.lit.Lit.{Lit}
 use Rattle.sat_formula.specs.declared.cnf.Cnf.{Cnf}

@@ -1,6 +1,6 @@
 -- Lists of bits, lowest first, as numbers without a sign and in two's complement (Knuth, The Art of
 -- Computer Programming, volume 2, section 4.1).
-use Rattle.std.specs.Prelude.{◌≡◌, ℕ, ◌+◌, ◌-◌, ◌*◌, ◌^◌, Bool, false, not, List, [], ◌∷◌, map, length, All, nat_lt, slice_index_or, if◌then◌else◌, ℤ, pos, negsuc, ◌-ℤ◌}
+use Rattle.std.specs.Prelude.{◌≡◌, ℕ, ◌+◌, ◌-◌, ◌*◌, ◌^◌, Bool, false, not, List, [], ◌∷◌, length, All, slice_index_or, if◌then◌else◌, ℤ, pos, negsuc, ◌-ℤ◌}
 pub use Rattle.tla_values.specs.Integers.{fits_width}
 pub use Rattle.sat_formula.specs.Lit.{values}
 use Rattle.sat_formula.specs.declared.lit.Lit.{Lit}

@@ -1,4 +1,4 @@
-use Rattle.std.proofs.Common.{◌≡◌, ◌≤◌, Bool, false, not, List, take}
+use Rattle.std.proofs.Common.{◌≡◌, Bool, false, not, List, take}
 use Rattle.sat_formula.specs.Lit.{lit_value}
 use Rattle.sat_formula.specs.Formula.{Grows, HasValue, Satisfies}
 use Rattle.word_blaster.specs.Word.{signed, values, fits_width}

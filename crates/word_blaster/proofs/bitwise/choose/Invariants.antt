@@ -1,4 +1,4 @@
-use Rattle.std.proofs.Common.{◌≡◌, ◌≤◌, Bool, List, length, take}
+use Rattle.std.proofs.Common.{◌≡◌, Bool, List, length, take}
 use Rattle.std.specs.Prelude.{if◌then◌else◌}
 use Rattle.sat_formula.specs.Lit.{lit_value}
 use Rattle.sat_formula.specs.Formula.{Grows, Satisfies}

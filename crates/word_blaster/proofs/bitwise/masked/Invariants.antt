@@ -1,4 +1,4 @@
-use Rattle.std.proofs.Common.{◌≡◌, ◌≤◌, Bool, ◌&&◌, List, length, take, map}
+use Rattle.std.proofs.Common.{◌≡◌, Bool, ◌&&◌, List, length, take, map}
 use Rattle.sat_formula.specs.Lit.{lit_value}
 use Rattle.sat_formula.specs.Formula.{Grows, Satisfies}
 use Rattle.word_blaster.specs.Word.{values, WordBelow}

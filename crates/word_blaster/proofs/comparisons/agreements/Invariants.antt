@@ -1,4 +1,4 @@
-use Rattle.std.proofs.Common.{◌≡◌, ◌≤◌, Bool, List, take}
+use Rattle.std.proofs.Common.{◌≡◌, Bool, List, take}
 use Rattle.std.specs.Prelude.{◌==◌}
 use Rattle.std.specs.List.{list_all}
 use Rattle.sat_formula.specs.Lit.{lit_value}

@@ -1,4 +1,4 @@
-use Rattle.std.proofs.Common.{◌≤◌, take}
+use Rattle.std.proofs.Common.{take}
 use Rattle.std.specs.Prelude.{nat_lt}
 use Rattle.sat_formula.specs.Formula.{Grows, HasValue}
 use Rattle.word_blaster.specs.Word.{number, values}

@@ -1,4 +1,4 @@
-use Rattle.std.proofs.Common.{◌≡◌, ◌+◌, ◌*◌, ◌^◌, ◌≤◌, Bool, List, length, take}
+use Rattle.std.proofs.Common.{◌≡◌, ◌+◌, ◌*◌, ◌^◌, Bool, List, length, take}
 use Rattle.sat_formula.specs.Formula.{Grows, Satisfies}
 use Rattle.word_blaster.specs.Word.{number, taken, values, WordBelow}
 use Rattle.word_blaster.proofs.products.wide_product.Given as goal
