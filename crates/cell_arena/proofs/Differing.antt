@@ -15,7 +15,7 @@ text_here (layer.Text t) = t
 text_here (layer.Set xs) = []
 text_here (layer.Fun ps) = []
 
-text_one : (s t : List ℕ) → value.Text s ≡ value.Text t → s ≡ t
+pub text_one : (s t : List ℕ) → value.Text s ≡ value.Text t → s ≡ t
 unfolding text_here
 text_one s t e = sym (ap text_here (outs-Text s)) ∙ ap (λ v. text_here (out-Value v)) e ∙ ap text_here (outs-Text t)
 

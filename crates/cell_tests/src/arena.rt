@@ -84,8 +84,9 @@ fn places(alloc: Global, b: &mut Build, count: usize) -> Result<CellId, AllocErr
 
 // A free bit.
 #[tactic(auto, using(cell_arena::proofs::Growing::growing))]
-fn free(b: &mut Build) -> Result<Lit, AllocError>
+pub fn free(b: &mut Build) -> Result<Lit, AllocError>
     ensures arena { b.new.arena ≡ b.old.arena }
+    ensures grows { Grows b.old b.new }
     ensures below { IfOk result (λ l. l.var < b.new.formula.vars) }
     ensures more { b.old.formula.vars ≤ b.new.formula.vars }
 {

@@ -7,3 +7,5 @@ mod arena;
 mod constants;
 #[cfg(test)]
 mod decoding;
+#[cfg(test)]
+mod equality;

@@ -1,0 +1,59 @@
+-- Sorts in a longer arena, and of a new set.
+use Rattle.std.proofs.Common.{◌≡◌, ◌<◌, false, List, length, All, sym, subst, arith}
+use Rattle.std.proofs.lemmas.List.{get_or_push, length_push}
+use Rattle.std.proofs.lemmas.List.Elements.{All-weaker}
+use Rattle.sat_formula.specs.declared.lit.Lit.{Lit}
+use Rattle.cell_arena.specs.declared.build.Build.{Build}
+use Rattle.cell_arena.specs.declared.kinds.CellId.{CellId}
+use Rattle.cell_arena.specs.declared.kinds.CellKind.{CellKind}
+use Rattle.cell_arena.specs.declared.kinds.CellKind.TheVariants.{Bit, Word, Text, Set, Fun, Rec, Tup, Seq}
+use Rattle.cell_arena.specs.Cells.{kind_at}
+use Rattle.cell_arena.specs.Growth.{Grows, Adds}
+use Rattle.cell_arena.proofs.Growing.{kind-before}
+use Rattle.cell_merge.specs.Sorts.{Sort, truth, number, name, set_of, OfSort, IsBit, IsWord, IsText, IsSet}
+
+IsSet-weaker : (P Q : CellId → Type 0) → ((id : CellId) → P id → Q id) → (k : CellKind) → IsSet P k → IsSet Q k
+IsSet-weaker P Q f (Bit l) h = h
+IsSet-weaker P Q f (Word w) h = h
+IsSet-weaker P Q f (Text w) h = h
+IsSet-weaker P Q f (Set es) h = All-weaker (λ e. P e.1) (λ e. Q e.1) (λ e p. f e.1 p) es h
+IsSet-weaker P Q f (Fun es) h = h
+IsSet-weaker P Q f (Rec fs) h = h
+IsSet-weaker P Q f (Tup ps) h = h
+IsSet-weaker P Q f (Seq w ps) h = h
+
+-- a cell keeps its sorts
+pub OfSort-later : (b c : Build) (s : Sort) (id : CellId) → OfSort b.arena.kinds s id → Grows b c → OfSort c.arena.kinds s id
+OfSort-later b c truth id h g = (let p = h.0 in let q = g.longer in omega arith, subst IsBit (sym (kind-before b c id g h.0)) h.1)
+OfSort-later b c number id h g = (let p = h.0 in let q = g.longer in omega arith, subst IsWord (sym (kind-before b c id g h.0)) h.1)
+OfSort-later b c name id h g = (let p = h.0 in let q = g.longer in omega arith, subst IsText (sym (kind-before b c id g h.0)) h.1)
+OfSort-later b c (set_of s) id h g = (
+  let p = h.0 in let q = g.longer in omega arith,
+  subst (λ k. IsSet (OfSort c.arena.kinds s) k) (sym (kind-before b c id g h.0))
+      (IsSet-weaker (OfSort b.arena.kinds s) (OfSort c.arena.kinds s) (λ e p. OfSort-later b c s e p g) (kind_at b.arena.kinds id) h.1),
+)
+
+added-kind : (b c : Build) (k : CellKind) (id : CellId) → Adds b c k id → kind_at c.arena.kinds id ≡ k
+added-kind b c k id h = rw h.kinds (get_or_push b.arena.kinds k (Bit (record { var = 0; neg = false })) id.index (sym h.newest))
+
+added-there : (b c : Build) (k : CellKind) (id : CellId) → Adds b c k id → id.index < length c.arena.kinds
+added-there b c k id h = rw h.kinds (let p = length_push b.arena.kinds k in let q = h.newest in omega arith)
+
+-- the sorts of new cells
+pub sort-bit : (b c : Build) (l : Lit) (id : CellId) → Adds b c (Bit l) id → OfSort c.arena.kinds truth id
+sort-bit b c l id h = (added-there b c (Bit l) id h, subst IsBit (sym (added-kind b c (Bit l) id h)) tt)
+
+pub sort-word : (b c : Build) (w : List Lit) (id : CellId) → Adds b c (Word w) id → OfSort c.arena.kinds number id
+sort-word b c w id h = (added-there b c (Word w) id h, subst IsWord (sym (added-kind b c (Word w) id h)) tt)
+
+pub sort-text : (b c : Build) (w : List Lit) (id : CellId) → Adds b c (Text w) id → OfSort c.arena.kinds name id
+sort-text b c w id h = (added-there b c (Text w) id h, subst IsText (sym (added-kind b c (Text w) id h)) tt)
+
+pub sort-set : (b c : Build) (es : List (Lit × CellId)) (s : Sort) (id : CellId) → Adds b c (Set es) id → Grows b c → All (λ e. OfSort b.arena.kinds s e.1) es → OfSort c.arena.kinds (set_of s) id
+sort-set b c es s id h g all = (
+  added-there b c (Set es) id h,
+  subst (λ k. IsSet (OfSort c.arena.kinds s) k) (sym (added-kind b c (Set es) id h))
+      (All-weaker (λ e. OfSort b.arena.kinds s e.1) (λ e. OfSort c.arena.kinds s e.1) (λ e p. OfSort-later b c s e.1 p g) es all),
+)
+
+pub ruleset sorts = (OfSort-later, sort-bit, sort-word, sort-text)

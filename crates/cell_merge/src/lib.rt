@@ -1,0 +1,10 @@
+//! Equality of cells.
+//!
+//! The cells of one call have one sort. Equality makes no cell: it adds gates alone. Two sets are
+//! equal where each is within the other, which compares each member of one with each of the other.
+//! (Konnov, Kukovec and Tran, "TLA+ Model Checking Made Symbolic", OOPSLA 2019.)
+#![tactic(auto)]
+
+mod equality;
+
+pub use equality::{member_in, same, same_in, subset_in};
