@@ -1,11 +1,15 @@
 -- Meanings of small trees, by computation.
-use Rattle.std.proofs.Common.{◌≡◌, ◌∙◌, ap, ℕ, true, false, List, [], ◌∷◌, pos, Some, None}
+use Rattle.std.proofs.Common.{◌≡◌, ◌∙◌, ap, ℕ, true, false, Bool, List, [], ◌∷◌, pos, Some, None, refl, sym, subst, arith}
+use Rattle.std.proofs.lemmas.List.Elements.{All-nil}
+use Rattle.tla_values.specs.Sets.{Normal}
 use Rattle.tla_values.proofs.OrderLemmas.{value_cmp_out}
 use Rattle.tla_values.specs.declared.value.Value.{Value}
 use Rattle.tla_values.specs.declared.value.Value.TheVariants as value
 use Rattle.tla_meaning.specs.declared.actions.Assignable.TheVariants.{Primed}
+use Rattle.tla_meaning.specs.declared.expr.Decl.{Decl}
 use Rattle.tla_meaning.specs.declared.expr.Def.{Def}
 use Rattle.tla_meaning.specs.declared.expr.Expr.{Expr, out-roll-Expr, roll-Expr}
+use Rattle.tla_meaning.specs.declared.job.Job.{Job}
 use Rattle.tla_meaning.specs.declared.job.State.{State}
 use Rattle.tla_meaning.specs.declared.forms.SetForm.TheVariants as form
 use Rattle.tla_meaning.specs.declared.modules.Flat.{Flat}
@@ -15,13 +19,16 @@ use Rattle.tla_meaning.specs.declared.op.Op.TheVariants as op
 use Rattle.tla_values.specs.declared.value.Value.TheOpen as layer
 use Rattle.tla_meaning.specs.declared.outcome.Outcome.{Outcome}
 use Rattle.tla_meaning.specs.declared.outcome.Outcome.TheVariants.{Val, Wrong, Big}
-use Rattle.tla_meaning.specs.Executions.{no_scope}
-use Rattle.tla_meaning.specs.Actions.{act, meaning, val}
+use Rattle.tla_meaning.specs.declared.questions.Query.TheVariants.{StepWrong}
+use Rattle.tla_meaning.specs.Executions.{no_scope, start, IsState, IsWrongOutcome}
+use Rattle.tla_meaning.specs.Jobs.{names_of}
+use Rattle.tla_meaning.specs.Questions.{Holds, IsFirst}
+use Rattle.tla_meaning.specs.Actions.{act, effect_of, effects_and, meaning, outcome_of, val}
 use Rattle.tla_meaning.specs.Definitions.{defined_as}
 use Rattle.tla_meaning.specs.Folds.{with_lambdas}
 use Rattle.tla_meaning.specs.Forms.{belongs}
 use Rattle.tla_meaning.specs.Meaning.{fold_over, folded}
-use Rattle.tla_meaning.specs.Operators.{on_items}
+use Rattle.tla_meaning.specs.Operators.{on_items, yes_no}
 use Rattle.tla_meaning.specs.Scopes.{Scope, bind, define, pass}
 use Rattle.tla_meaning.specs.Shapes.{items_of, sequence}
 use Rattle.tla_meaning.proofs.MeaningLemmas.{belongs-out, denotation-roll, val-roll, with_lambdas-roll}
@@ -176,3 +183,75 @@ empty_belongs = simp (belongs-out, form.outs-Sequences, form.outs-AllInts, value
 
 in_primed_definition : val None in_defined with_sequences (state_at (value.Bool true)) (state_at (sequence [])) ≡ Val (value.Bool true)
 in_primed_definition = simp (val-roll, denotation-roll, form.outs-Sequences, form.outs-AllInts) (ap (λ b. Val (value.Bool b)) empty_belongs)
+
+-- ---- names, assumptions and questions
+
+abbrev declaration : ℕ → Bool → Decl
+declaration x constant = record { name = x ∷ []; constant = constant; place = at x; note = [] }
+
+-- VARIABLE x; CONSTANT N; VARIABLE y; CONSTANT M
+abbrev declaring : Flat
+declaring = record {
+  files = [];
+  decls = declaration 120 false ∷ declaration 78 true ∷ declaration 121 false ∷ declaration 77 true ∷ [];
+  defs = [];
+  assumes = [];
+  aliases = [];
+}
+
+constants_first : names_of declaring ≡ declaration 78 true ∷ declaration 77 true ∷ declaration 120 false ∷ declaration 121 false ∷ []
+constants_first = refl
+
+-- a job whose one assumption is e
+abbrev always : Expr
+always = leaf 1 (op.Bool true)
+
+abbrev assuming : Expr → Job
+assuming e = record {
+  files = [];
+  names = [];
+  aliases = [];
+  cinit = always;
+  assume = e;
+  init = always;
+  next = always;
+  invs = [];
+}
+
+abbrev nothing : State
+nothing = record { vals = [] }
+
+module _ (e : Expr) (o : Outcome) where
+  start_of : val None e no_scope nothing nothing ≡ o →
+      start None (assuming e) nothing ≡ outcome_of (effects_and (effect_of (yes_no true) ∷ effect_of o ∷ effect_of (yes_no true) ∷ []))
+  start_of h = simp (h, denotation-roll, value.outs-Bool)
+
+-- FALSE /\ 1 \div 0 is one operand, which stops at FALSE
+abbrev one_assumption : Expr
+one_assumption = tree 5 op.And (leaf 3 (op.Bool false) ∷ tree 12 op.Div (leaf 10 (op.Int (pos 1)) ∷ leaf 14 (op.Int (pos 0)) ∷ []) ∷ [])
+
+stops : val None one_assumption no_scope nothing nothing ≡ Val (value.Bool false)
+stops = simp (val-roll, denotation-roll, value.outs-Bool)
+
+assumption_stops : start None (assuming one_assumption) nothing ≡ Val (value.Bool false)
+assumption_stops = start_of one_assumption (Val (value.Bool false)) stops ∙ simp (value.outs-Bool)
+
+-- 1 \div 0 = 1 makes the start Wrong, and that is the first question
+abbrev wrong_assumption : Expr
+wrong_assumption = tree 7 op.Eq (tree 3 op.Div (leaf 1 (op.Int (pos 1)) ∷ leaf 5 (op.Int (pos 0)) ∷ []) ∷ leaf 9 (op.Int (pos 1)) ∷ [])
+
+divides_by_zero : val None wrong_assumption no_scope nothing nothing ≡ Wrong (at 3)
+divides_by_zero = simp (val-roll, denotation-roll, value.outs-Int)
+
+wrong_start : start None (assuming wrong_assumption) nothing ≡ Wrong (at 3)
+wrong_start = start_of wrong_assumption (Wrong (at 3)) divides_by_zero ∙ simp (value.outs-Bool)
+
+empty_state : IsState (assuming wrong_assumption) nothing
+empty_state = record { fills = refl; normal = All-nil Normal }
+
+first_is_wrong : IsFirst None (assuming wrong_assumption) 0 StepWrong
+first_is_wrong = record {
+  holds = (nothing, empty_state, subst IsWrongOutcome (sym wrong_start) tt);
+  before = All-nil (λ r. Holds r None (assuming wrong_assumption) 0 → ⊥);
+  below = λ m less. omega arith;
+}

@@ -1,14 +1,12 @@
 -- What the questions of the levels tell of their errors: executions under a width and without one.
 use Rattle.std.proofs.Common.{Bool, ℕ, zero, suc, ◌+◌, ◌≤◌, ◌<◌, ◌≡◌, ◌↔◌, List, [], ◌∷◌, ◌++◌, length, length-append, Some, None, refl, ap, ◌∙◌, sym, subst, arith}
-use Rattle.tla_values.specs.declared.value.Value.{Value}
 use Rattle.tla_meaning.specs.declared.job.Job.{Job}
 use Rattle.tla_meaning.specs.declared.job.State.{State}
-use Rattle.tla_meaning.specs.declared.questions.Query.{Query}
 use Rattle.tla_meaning.specs.declared.questions.Query.TheVariants.{StepWrong, StepBig, InvNotTrue, InvBig, AssumeBig}
 use Rattle.tla_meaning.specs.declared.outcome.Outcome.{Outcome}
-use Rattle.tla_meaning.specs.declared.outcome.Outcome.TheVariants.{Val, Wrong, Big}
-use Rattle.tla_meaning.specs.Executions.{IsState, AreSteps, Errs, StartIsWrong, StepIsWrong, InvariantIsNotTrue, IsExecution, IsStep, IsWrongOutcome, IsYes, Reaches, last_of, next, start}
-use Rattle.tla_meaning.specs.Inductive.{IsInductiveError, StartErrs, TypedStepErrs, TypedInvariantErrs, IsTypedStart, NoneHoldsTyped, TypedHolds, hypothesis}
+use Rattle.tla_meaning.specs.declared.outcome.Outcome.TheVariants.{Wrong}
+use Rattle.tla_meaning.specs.Executions.{AreSteps, Errs, StartIsWrong, StepIsWrong, InvariantIsNotTrue, IsExecution, IsStep, IsWrongOutcome, IsYes, Reaches, last_of, next, start}
+use Rattle.tla_meaning.specs.Inductive.{IsInductiveError, StartErrs, TypedStepErrs, TypedInvariantErrs, IsTypedStart, NoneHoldsTyped, TypedHolds}
 use Rattle.tla_meaning.specs.Numbers.{Width}
 use Rattle.tla_meaning.specs.Questions.{Holds, IsBigOutcome, IsNotTrue, NoneBelow, NoneHolds}
 use Rattle.tla_meaning.specs.Widths.{Narrow, SameValue, BothWrong, TooBig}

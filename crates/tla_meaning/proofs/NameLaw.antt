@@ -1,5 +1,5 @@
 -- Which numbers are those of constants.
-use Rattle.std.proofs.Common.{ℕ, zero, suc, ◌≡◌, ◌++◌, Bool, true, false, not, cond, nat_lt, List, [], ◌∷◌, filter, length, Option, Some, None, slice_get, refl, ap, ◌∙◌, sym, subst, arith}
+use Rattle.std.proofs.Common.{ℕ, zero, suc, ◌≡◌, ◌++◌, Bool, true, false, not, cond, nat_lt, List, [], ◌∷◌, filter, length, Some, slice_get, refl, ap, ◌∙◌, sym, arith}
 use Rattle.std.proofs.lemmas.Bool.Decides.{nat_tests}
 use Rattle.std.specs.List.{AllByRecursion}
 use Rattle.tla_meaning.specs.declared.expr.Decl.{Decl}

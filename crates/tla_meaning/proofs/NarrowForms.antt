@@ -10,8 +10,8 @@ use Rattle.tla_meaning.specs.declared.outcome.Fault.TheVariants.{NoFault, IsWron
 use Rattle.tla_meaning.specs.declared.outcome.Outcome.{Outcome}
 use Rattle.tla_meaning.specs.declared.outcome.Outcome.TheVariants.{Val, Wrong, Big}
 use Rattle.tla_meaning.specs.Outcomes.{join_faults, least, fault_of, with_value}
-use Rattle.tla_meaning.specs.Shapes.{all_set_items, set_items, items_of, truth}
-use Rattle.tla_meaning.specs.Operators.{on_all_sets, on_items, yes_no}
+use Rattle.tla_meaning.specs.Shapes.{set_items, items_of, truth}
+use Rattle.tla_meaning.specs.Operators.{on_items}
 use Rattle.tla_meaning.specs.declared.forms.SetForm.{SetForm}
 use Rattle.tla_meaning.specs.declared.forms.SetForm.TheVariants as form
 use Rattle.tla_meaning.specs.Forms.{Formed, Made, Broken, form_fault, form_faults, made, is_set_form, all_set_forms, fault_or_form}

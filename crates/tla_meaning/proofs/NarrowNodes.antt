@@ -19,7 +19,7 @@ use Rattle.tla_meaning.specs.Forms.{belongs}
 use Rattle.tla_meaning.specs.declared.actions.Assignable.{Assignable}
 use Rattle.tla_meaning.specs.declared.actions.Effect.{Effect}
 use Rattle.tla_meaning.specs.Scopes.{Denotation, value_found}
-use Rattle.tla_meaning.specs.Meaning.{View, outcomes, child, truths, kept, argument, bound_table, over_members, Update, all_indexes, updates, first_updated, except, fold_over, all_in, read, changed, value_of, form_of, kept_value, unchanged_of}
+use Rattle.tla_meaning.specs.Meaning.{View, outcomes, child, truths, kept, argument, bound_table, over_members, Update, all_indexes, updates, first_updated, except, fold_over, all_in, changed, value_of, form_of, kept_value, unchanged_of}
 use Rattle.tla_meaning.specs.Actions.{any_mentions, mentions_of, act_of, meant, denotation_of, under_prime}
 use Rattle.tla_meaning.specs.Numbers.{Width}
 use Rattle.tla_meaning.specs.Widths.{Narrow, SameValue, BothWrong}

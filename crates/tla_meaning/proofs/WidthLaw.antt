@@ -1,6 +1,6 @@
 -- The law of widths, for every tree.
-use Rattle.std.proofs.Common.{ℕ, Bool, true, false, List, [], ◌∷◌, ◌++◌, map, length, Some, None, refl, sym, subst}
-use Rattle.tla_meaning.specs.declared.expr.Expr.{Expr, out-Expr, roll-Expr}
+use Rattle.std.proofs.Common.{Bool, true, false, List, [], ◌∷◌, map, length, None, refl, sym, subst}
+use Rattle.tla_meaning.specs.declared.expr.Expr.{Expr, roll-Expr}
 use Rattle.tla_meaning.specs.declared.expr.Expr.TheOpen.{Expr-F}
 use Rattle.tla_meaning.specs.declared.expr.Expr.TheFolds.{map-Expr, ind-Expr}
 use Rattle.tla_meaning.specs.declared.job.Env.{Env}
@@ -8,9 +8,7 @@ use Rattle.tla_meaning.specs.declared.job.Job.{Job}
 use Rattle.tla_meaning.specs.declared.job.State.{State}
 use Rattle.tla_meaning.specs.declared.outcome.Outcome.{Outcome}
 use Rattle.tla_meaning.specs.declared.outcome.Outcome.TheVariants.{Val}
-use Rattle.tla_meaning.specs.Operators.{yes_no}
 use Rattle.tla_meaning.specs.declared.actions.Assignable.{Assignable}
-use Rattle.tla_meaning.specs.declared.actions.Effect.{Effect}
 use Rattle.tla_meaning.specs.Meaning.{Meaning, role}
 use Rattle.tla_meaning.specs.Actions.{val, act, meaning, node, effect_of}
 use Rattle.tla_meaning.specs.Executions.{scope_of, no_scope, in_cinit, in_init, in_next, start, next, is_yes, IsYes, first_not_yes, invariant, AreSteps, IsExecution}
@@ -21,7 +19,7 @@ use Rattle.tla_meaning.specs.Widths.{Narrow, SameValue, BothWrong, TooBig}
 use Rattle.tla_meaning.proofs.MeaningLemmas.{meaning-roll}
 use Rattle.tla_meaning.proofs.Views.{false≢true}
 use Rattle.tla_meaning.proofs.Narrow.{AllNarrow, none_narrow, more_narrow, each_narrow}
-use Rattle.tla_meaning.proofs.NarrowEffects.{AllEffects, NarrowEffect, no_effects, more_effects, all_effects, effect_of_narrow, outcome_of_narrow, effects_and_narrow}
+use Rattle.tla_meaning.proofs.NarrowEffects.{NarrowEffect, no_effects, more_effects, all_effects, effect_of_narrow, outcome_of_narrow, effects_and_narrow}
 use Rattle.tla_meaning.proofs.NarrowViews.{NarrowDenotation, NarrowScope, no_named, NarrowMeaning, AllMeanings, no_meanings, more_meanings, view_narrow}
 use Rattle.tla_meaning.proofs.NarrowNodes.{denotation_narrow}
 

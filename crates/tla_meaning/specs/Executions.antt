@@ -1,19 +1,13 @@
 -- The start, the executions and the errors of a job (Specifying Systems, sections 2.3 and 8.1).
-use Rattle.std.specs.Prelude.{ℕ, suc, ◌+◌, ◌≡◌, Bool, true, false, List, [], ◌∷◌, ◌++◌, map, filter, length, take, Option, Some, None, IsTrue, ⊤, All}
+use Rattle.std.specs.Prelude.{ℕ, suc, ◌+◌, ◌≡◌, Bool, true, false, List, [], ◌∷◌, map, filter, length, take, Option, Some, None, IsTrue, ⊤, All}
 use Rattle.tla_values.specs.Sets.{Normal}
 use Rattle.tla_values.specs.declared.value.Value.{out-Value}
 use Rattle.tla_meaning.specs.declared.actions.Assignable.{Assignable}
 use Rattle.tla_meaning.specs.declared.actions.Assignable.TheVariants.{Constants, Variables, PrimedVariables}
-use Rattle.tla_meaning.specs.declared.actions.Effect.{Effect}
 use Rattle.tla_meaning.specs.declared.expr.Decl.{Decl}
 use Rattle.tla_meaning.specs.declared.job.Env.{Env}
-use Rattle.tla_meaning.specs.declared.expr.Expr.{Expr}
-use Rattle.tla_meaning.specs.declared.expr.Expr.TheViews.{out-Expr}
 use Rattle.tla_meaning.specs.declared.job.Job.{Job}
-use Rattle.tla_meaning.specs.declared.op.Op.{Op}
-use Rattle.tla_meaning.specs.declared.op.Op.TheVariants as op
 use Rattle.tla_meaning.specs.declared.job.State.{State}
-use Rattle.tla_meaning.specs.declared.place.Place.{Place}
 use Rattle.tla_meaning.specs.declared.outcome.Outcome.{Outcome}
 use Rattle.tla_meaning.specs.declared.outcome.Outcome.TheVariants.{Val, Wrong, Big}
 use Rattle.tla_meaning.specs.Numbers.{Width}
