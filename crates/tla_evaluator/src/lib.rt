@@ -17,8 +17,6 @@ mod outcomes;
 mod records;
 mod sequences;
 mod sets;
-#[cfg(test)]
-mod tests;
 mod tops;
 mod trees;
 

@@ -30,6 +30,3 @@ pub use theorems::{
     questions_tell_errors, trees_may_be_put_in, trees_read_their_free_names,
     typed_questions_tell_errors, values_are_normal, widths_agree,
 };
-
-#[cfg(test)]
-mod tests;

@@ -1,6 +1,6 @@
 use Rattle.std.specs.List.{All}
 use Rattle.tla_values.specs.Sets.{Normal}
-use Rattle.tla_evaluator.proofs.tests.values.Given as goal
+use Rattle.evaluator_tests.proofs.asking.values.Given as goal
 
 abbrev pub invariant-loop-e : goal.invariant-loop-e
 invariant-loop-e l = All Normal l.vals.items

@@ -1,7 +1,8 @@
 // The calls on values, asked directly.
-use super::{place, shown};
-use crate::{all_belong, belongs, is_set_form, table};
+use crate::asking::shown;
+use crate::reader::place;
 use std::test::Fail;
+use tla_evaluator::{all_belong, belongs, is_set_form, table};
 use tla_meaning::{Op, SetForm};
 use tla_values::Value;
 

@@ -1,7 +1,6 @@
-use crate::{Decl, Expr, Job, Op, Place, State};
 use std::alloc::{AllocError, Global};
-use std::process::Abort;
 use std::test::Fail;
+use tla_meaning::{Decl, Expr, Job, Op, Place, State};
 use tla_values::{List, Text, Value, same_value};
 
 const PLACE: Place = Place {
