@@ -26,7 +26,8 @@ use Rattle.tla_meaning.specs.Actions.{val}
 use Rattle.tla_meaning.specs.Executions.{no_scope, start, next, invariant, is_yes, IsYes, IsWrongOutcome, IsState, AreSteps, IsExecution, last_of, Reaches, Errs, StartIsWrong, StepIsWrong, InvariantIsNotTrue}
 use Rattle.tla_meaning.specs.BooleanLayout.{leaf, tree, operator, operand, job_of, gives_each, is_guard, is_branch, IsBooleanModule}
 use Rattle.tla_meaning.proofs.MeaningLemmas.{belongs-out, val-roll, denotation-roll}
-use Rattle.symbolic_mc.specs.inner.Boolean.{state_of, inv_holds, SpeakOf, RunsOn, IsRun}
+use Rattle.symbolic_mc.specs.inner.Boolean.{inv_holds, SpeakOf, RunsOn, IsRun}
+use Rattle.symbolic_mc.specs.States.{state_of}
 use Rattle.symbolic_mc.proofs.Meaning.{Says, AllSay, start_says, next_says, start_is, next_is, invariant_is, is_yes_as, yes_or_no, length-declarations, last_is}
 use Rattle.symbolic_mc.proofs.Shapes.{init_below, next_below, inv_below}
 
@@ -165,17 +166,17 @@ as_bits m s size truths =
 holds_by : (o : Outcome) (b : Bool) → o ≡ yes_no b → IsYes o → b ≡ true
 holds_by o b e h = sym (yes_or_no b) ∙ ap is_yes (sym e) ∙ h
 
-never_wrong : (o : Outcome) (b : Bool) → o ≡ yes_no b → IsWrongOutcome o → ⊥
+pub never_wrong : (o : Outcome) (b : Bool) → o ≡ yes_no b → IsWrongOutcome o → ⊥
 never_wrong o b e wrong = subst IsWrongOutcome e wrong
 
-size_is : (file : List ℕ) (m : BooleanModule) (s : State) → IsState (job_of file m) s → length s.vals ≡ length m.vars
+pub size_is : (file : List ℕ) (m : BooleanModule) (s : State) → IsState (job_of file m) s → length s.vals ≡ length m.vars
 size_is file m s st = st.fills ∙ length-declarations 3 m.vars
 
-start_at : (w : Width) (file : List ℕ) (m : BooleanModule) (s : State) → IsBooleanModule m → length s.vals ≡ length m.vars
+pub start_at : (w : Width) (file : List ℕ) (m : BooleanModule) (s : State) → IsBooleanModule m → length s.vals ≡ length m.vars
     → start w (job_of file m) s ≡ yes_no (list_all (holds_in s s) m.init)
 start_at w file m s wf size = start_says w file m s (holds_in s s) (conjuncts_say w m.vars m.init s s (init_below m m.init (length s.vals) wf refl size) refl)
 
-next_at : (w : Width) (file : List ℕ) (m : BooleanModule) (s t : State) → IsBooleanModule m → length s.vals ≡ length m.vars → length t.vals ≡ length m.vars
+pub next_at : (w : Width) (file : List ℕ) (m : BooleanModule) (s t : State) → IsBooleanModule m → length s.vals ≡ length m.vars → length t.vals ≡ length m.vars
     → next w (job_of file m) s t ≡ yes_no (list_any (λ cs. list_all (holds_in s t) cs) m.next)
 next_at w file m s t wf size later =
     next_says w file m s t (holds_in s t) (branches_say w m.vars m.next s t (next_below m m.next (length s.vals) wf refl size) (later ∙ sym size))
@@ -232,23 +233,24 @@ run_size m [] i run lt = absurd run
 run_size m (first ∷ rest) zero run lt = run.0
 run_size m (first ∷ rest) (suc i) run lt = steps_size m first rest i run.2 (omega arith)
 
--- a run of n steps, with its last state
-record RunTo (m : BooleanModule) (n : ℕ) (s : State) : Type 0 where
-  runs : List (List Bool)
-  run : IsRun m runs
-  steps : length runs ≡ n + 1
-  ends : state_of (get_or runs n []) ≡ s
-  size : length (get_or runs n []) ≡ length m.vars
+-- a run of n steps, with its states and the last of them
+pub record RunTo (m : BooleanModule) (n : ℕ) (states : List State) (s : State) : Type 0 where
+  pub runs : List (List Bool)
+  pub run : IsRun m runs
+  pub steps : length runs ≡ n + 1
+  pub same : map state_of runs ≡ states
+  pub ends : state_of (get_or runs n []) ≡ s
+  pub size : length (get_or runs n []) ≡ length m.vars
 
-reached : (w : Width) (file : List ℕ) (m : BooleanModule) (n : ℕ) (s : State) → IsBooleanModule m → Reaches w (job_of file m) n s → RunTo m n s
+pub reached : (w : Width) (file : List ℕ) (m : BooleanModule) (n : ℕ) (s : State) → IsBooleanModule m → (r : Reaches w (job_of file m) n s) → RunTo m n r.states s
 reached w file m n s wf r =
     let found = execution_run w file m r.states wf r.execution in
     let steps : length found.0 ≡ n + 1 = sym (length-map found.0 state_of) ∙ ap length found.1 ∙ r.steps in
     let last : last_of (map state_of found.0) ≡ Some (state_of (get_or found.0 n [])) = last_is state_of found.0 n [] steps in
     let ends : Some (state_of (get_or found.0 n [])) ≡ Some s = sym last ∙ ap last_of found.1 ∙ r.ends in
-    record { runs = found.0; run = found.2; steps = steps; ends = cc; size = run_size m found.0 n found.2 (omega arith) }
+    record { runs = found.0; run = found.2; steps = steps; same = found.1; ends = cc; size = run_size m found.0 n found.2 (omega arith) }
 
-not_true : (b : Bool) → (b ≡ true → ⊥) → b ≡ false
+pub not_true : (b : Bool) → (b ≡ true → ⊥) → b ≡ false
 not_true true h = absurd (h refl)
 not_true false h = refl
 
@@ -257,11 +259,11 @@ pub errs_run : (file : List ℕ) (m : BooleanModule) (k : ℕ) → IsBooleanModu
     → (runs : List (List Bool)) × IsRun m runs × (length runs ≡ k + 1) × (inv_holds m (get_or runs k []) ≡ false)
 errs_run file m zero wf (StartIsWrong s st wrong) = absurd (never_wrong _ _ (start_at None file m s wf (size_is file m s st)) wrong)
 errs_run file m (suc n) wf (StepIsWrong s t r st keeps wrong) =
-    let to : RunTo m n s = reached None file m n s wf r in
+    let to : RunTo m n r.states s = reached None file m n s wf r in
     let size : length s.vals ≡ length m.vars = ap (λ (x : State). length x.vals) (sym to.ends) ∙ length-map (get_or to.runs n []) (λ b. value.Bool b) ∙ to.size in
     absurd (never_wrong _ _ (next_at None file m s t wf size (size_is file m t st)) wrong)
 errs_run file m k wf (InvariantIsNotTrue s r not_yes) =
-    let to : RunTo m k s = reached None file m k s wf r in
+    let to : RunTo m k r.states s = reached None file m k s wf r in
     let last : List Bool = get_or to.runs k [] in
     let broken : IsYes (invariant None (job_of file m) (state_of last)) → ⊥ = subst (λ (x : State). IsYes (invariant None (job_of file m) x) → ⊥) (sym to.ends) not_yes in
     let says : invariant None (job_of file m) (state_of last) ≡ yes_no (inv_holds m last) = invariant_is None file m last (inv_below m m.inv (length last) wf refl to.size) in

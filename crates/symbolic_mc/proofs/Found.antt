@@ -1,35 +1,37 @@
--- An assignment that answers the question of a level is an execution that breaks the invariant.
+-- Assignments of a level and executions: each stands for the other.
 use Rattle.std.proofs.Common.{◌≡◌, ℕ, ◌+◌, ◌<◌, ◌≤◌, inl, inr, Bool, true, false, List, [], ◌∷◌, ◌++◌, map, length, get_or, Some, None, refl, sym, ◌∙◌, ap, subst, arith}
-use Rattle.std.specs.Prelude.{not, if◌then◌else◌, Option, IfSome, IfNone}
+use Rattle.std.specs.Prelude.{not, Option, IfSome, IfNone}
+use Rattle.std.specs.Bool.{OnTrue, OnFalse}
 use Rattle.sat_formula.specs.declared.lit.Lit.{Lit}
 use Rattle.sat_formula.specs.declared.cnf.Cnf.{Cnf}
 use Rattle.sat_formula.specs.Lit.{lit_value}
 use Rattle.sat_formula.specs.Clause.{AllTrue}
-use Rattle.sat_formula.specs.Formula.{Satisfies, Grows, HasValue}
-use Rattle.sat_formula.proofs.Extension.{Satisfies-older}
+use Rattle.sat_formula.specs.Formula.{Satisfies}
+use Rattle.cdcl_solver.specs.Answers.{clauses_with, IsModel}
+use Rattle.refutation_checker.specs.Follows.{IsUnsatisfiable}
 use Rattle.tla_meaning.specs.declared.boolean.BooleanModule.{BooleanModule}
-use Rattle.tla_meaning.specs.declared.boolean.Conjunct.{Conjunct}
 use Rattle.tla_meaning.specs.declared.job.State.{State}
-use Rattle.tla_meaning.specs.Executions.{IsExecution, last_of}
+use Rattle.tla_meaning.specs.Executions.{IsExecution, invariant, last_of}
 use Rattle.tla_meaning.specs.BooleanLayout.{IsBooleanModule, job_of}
+use Rattle.tla_meaning.specs.Numbers.{Width}
 use Rattle.tla_meaning.specs.Operators.{yes_no}
-use Rattle.std.proofs.lemmas.Bool.{cases_lt}
 use Rattle.std.proofs.lemmas.List.{length-map, get_or-map}
-use Rattle.symbolic_mc.specs.inner.Boolean.{state_of, all_hold, inv_holds}
-use Rattle.symbolic_mc.specs.inner.Levels.{values_of, IsLevel}
-use Rattle.symbolic_mc.specs.Verdicts.{Breaks, NoError}
-use Rattle.symbolic_mc.proofs.Errors.{errs_run}
-use Rattle.symbolic_mc.proofs.Literals.{one_more_clause}
+use Rattle.symbolic_mc.specs.Encodings.{Decodes}
+use Rattle.symbolic_mc.specs.States.{state_of}
+use Rattle.symbolic_mc.specs.inner.Boolean.{IsRun, inv_holds}
+use Rattle.symbolic_mc.specs.inner.Checking.{Breaks, NoError}
+use Rattle.symbolic_mc.specs.inner.Levels.{values_of, HasRuns, IsBroken, IsLevel}
+use Rattle.symbolic_mc.proofs.Errors.{errs_run, execution_run}
 use Rattle.symbolic_mc.proofs.Meaning.{execution_is, invariant_is, last_is}
-use Rattle.symbolic_mc.proofs.Reaching.{extended, code_kept, required_more}
-use Rattle.symbolic_mc.proofs.Runs.{values_length}
+use Rattle.symbolic_mc.proofs.Reaching.{required_more}
+use Rattle.symbolic_mc.proofs.Runs.{runs_of, values_length}
 use Rattle.symbolic_mc.proofs.Shapes.{init_below, next_below, inv_below}
 
-satisfied : (a : List Bool) (f : Cnf) → AllTrue a f.clauses → Satisfies a f
+pub satisfied : (a : List Bool) (f : Cnf) → AllTrue a f.clauses → Satisfies a f
 unfolding Satisfies
 satisfied a f all = all
 
-clauses_of : (a : List Bool) (f : Cnf) → Satisfies a f → AllTrue a f.clauses
+pub clauses_of : (a : List Bool) (f : Cnf) → Satisfies a f → AllTrue a f.clauses
 unfolding Satisfies
 clauses_of a f sat = sat
 
@@ -37,83 +39,122 @@ map_twice : (a : List Bool) (codes : List (List Lit)) → map state_of (map (val
 map_twice a [] = refl
 map_twice a (code ∷ codes) = ap (λ (x : List State). state_of (values_of a code) ∷ x) (map_twice a codes)
 
--- a literal is false where its negation is true
-false_there : (l n : Lit) (a : List Bool) → n ≡ record { var = l.var; neg = not l.neg } → lit_value n a ≡ true → lit_value l a ≡ false
-false_there l n a same holds = flip l.neg (get_or a l.var false) (sym (ap (λ (x : Lit). lit_value x a) same) ∙ holds)
-  where
-    flip : (s b : Bool) → (if not s then not b else b) ≡ true → (if s then not b else b) ≡ false
-    flip true true h = refl
-    flip true false h = sym h
-    flip false true h = sym h
-    flip false false h = refl
+turned : (b c : Bool) → b ≡ not c → b ≡ true → c ≡ false
+turned b true e h = sym h ∙ e
+turned b false e h = refl
 
-pub found : (m : BooleanModule) (steps : ℕ) (f g question : Cnf) (codes seen : List (List Lit)) (last index d : List Lit) (inv : List Conjunct) (holds negated : Lit)
-    (a : List Bool) (states : List State) → IsBooleanModule m
-    → IsLevel m f codes → length codes ≡ steps + 1 → last ≡ index → index ≡ get_or seen steps d → seen ≡ codes → inv ≡ m.inv
-    → Grows f g → HasValue g holds (λ x. all_hold inv (values_of x last) (values_of x last))
-    → negated ≡ record { var = holds.var; neg = not holds.neg }
-    → question ≡ record { vars = g.vars; clauses = g.clauses ++ (negated ∷ []) ∷ [] }
-    → AllTrue a question.clauses → states ≡ map (λ code. state_of (values_of a code)) codes → Breaks m steps states
-found m steps f g question codes seen last index d inv holds negated a states wf level count is_slice is_index is_seen is_inv grown value opposite asked all decoded = λ file.
-    let answered = one_more_clause g question negated a asked (satisfied a question all) in
-    let run = level.real a (Satisfies-older f g a grown answered.0) in
-    let lt : steps < length codes = omega arith in
-    let is_last : last ≡ get_or codes steps d = is_slice ∙ is_index ∙ ap (λ (x : List (List Lit)). get_or x steps d) is_seen in
-    let broken : all_hold inv (values_of a last) (values_of a last) ≡ false = sym (value.value a answered.0) ∙ false_there holds negated a opposite answered.1 in
-    let size : length (values_of a (get_or codes steps d)) ≡ length m.vars = values_length a (get_or codes steps d) (length m.vars) (level.each steps d lt).fills in
-    let here : inv_holds m (values_of a (get_or codes steps d)) ≡ false =
-    subst (λ (x : List Conjunct). all_hold x (values_of a (get_or codes steps d)) (values_of a (get_or codes steps d)) ≡ false) is_inv
-    (subst (λ (x : List Lit). all_hold inv (values_of a x) (values_of a x) ≡ false) is_last broken) in
+turned_back : (b c : Bool) → b ≡ not c → c ≡ false → b ≡ true
+turned_back b c e h = e ∙ ap not h
+
+-- ---- what an assignment stands for
+
+-- an execution, at whose last state the invariant is FALSE
+pub record IsBrokenRun (w : Width) (file : List ℕ) (m : BooleanModule) (n : ℕ) (states : List State) : Type 0 where
+  pub execution : IsExecution w (job_of file m) states
+  pub count : length states ≡ n + 1
+  pub last : State
+  pub ends : last_of states ≡ Some last
+  pub broken : invariant w (job_of file m) last ≡ yes_no false
+
+pub broken_run : (w : Width) (file : List ℕ) (m : BooleanModule) (n : ℕ) (f : Cnf) (codes : List (List Lit)) (l : Lit) (a : List Bool) → IsBooleanModule m
+    → IsLevel m f codes → length codes ≡ n + 1 → IsBroken m f codes n l → Satisfies a f → lit_value l a ≡ true
+    → IsBrokenRun w file m n (map (λ code. state_of (values_of a code)) codes)
+broken_run w file m n f codes l a wf level count is_broken sat asked =
+    let runs = runs_of m f codes n count level in
+    let last : List Bool = values_of a (get_or codes n []) in
+    let size : length last ≡ length m.vars = values_length a (get_or codes n []) (length m.vars) (runs.each n [] (omega arith)).fills in
+    let here : inv_holds m last ≡ false = turned (lit_value l a) (inv_holds m last) (is_broken.value a sat) asked in
     record {
-      execution = subst (λ (x : List State). IsExecution None (job_of file m) x) (map_twice a codes ∙ sym decoded)
-          (execution_is None file m (map (values_of a) codes) (init_below m m.init (length m.vars) wf refl refl) (next_below m m.next (length m.vars) wf refl refl) run);
-      count = ap length decoded ∙ length-map codes (λ code. state_of (values_of a code)) ∙ count;
-      last = state_of (values_of a (get_or codes steps d));
-      ends = ap last_of decoded ∙ last_is (λ code. state_of (values_of a code)) codes steps d count;
-      broken = invariant_is None file m (values_of a (get_or codes steps d)) (inv_below m m.inv (length (values_of a (get_or codes steps d))) wf refl size) ∙ ap yes_no here;
+      execution = subst (λ (x : List State). IsExecution w (job_of file m) x) (map_twice a codes)
+          (execution_is w file m (map (values_of a) codes) (init_below m m.init (length m.vars) wf refl refl) (next_below m m.next (length m.vars) wf refl refl) (runs.real a sat));
+      count = length-map codes (λ code. state_of (values_of a code)) ∙ count;
+      last = state_of last;
+      ends = last_is (λ code. state_of (values_of a code)) codes n [] count;
+      broken = invariant_is w file m last (inv_below m m.inv (length last) wf refl size) ∙ ap yes_no here;
     }
+
+pub breaks_here : (m : BooleanModule) (n : ℕ) (f : Cnf) (codes : List (List Lit)) (l : Lit) (a : List Bool) (states : List State) → IsBooleanModule m
+    → IsLevel m f codes → length codes ≡ n + 1 → IsBroken m f codes n l → IsModel f l a → states ≡ map (λ code. state_of (values_of a code)) codes → Breaks m n states
+breaks_here m n f codes l a states wf level count is_broken model same = λ file.
+    let run = broken_run None file m n f codes l a wf level count is_broken model.satisfies model.assumed in
+    record {
+      execution = subst (λ (x : List State). IsExecution None (job_of file m) x) (sym same) run.execution;
+      count = ap length same ∙ run.count;
+      last = run.last;
+      ends = ap last_of same ∙ run.ends;
+      broken = run.broken;
+    }
+
+-- ---- what stands for an execution
+
+runs_decoded : (m : BooleanModule) (f : Cnf) (codes : List (List Lit)) (n : ℕ) (runs : List (List Bool)) (states : List State) → IsLevel m f codes → length codes ≡ n + 1
+    → IsRun m runs → length runs ≡ n + 1 → map state_of runs ≡ states
+    → (a : List Bool) × Decodes f.vars f.clauses codes states a × (values_of a (get_or codes n []) ≡ get_or runs n [])
+runs_decoded m f codes n runs states level count run long same =
+    let reach = (runs_of m f codes n count level).reached runs run (long ∙ sym count) in
+    let a : List Bool = reach.assignment in (
+      a,
+      record {
+        fills = reach.size;
+        satisfies = clauses_of a f reach.satisfied;
+        stands_for = sym (map_twice a codes) ∙ ap (map state_of) reach.decodes ∙ same;
+      },
+      sym (get_or-map (values_of a) codes n [] [] (omega arith)) ∙ ap (λ (x : List (List Bool)). get_or x n []) reach.decodes,
+    )
+
+-- of as many states as the level has
+pub execution_decoded : (w : Width) (file : List ℕ) (m : BooleanModule) (f : Cnf) (codes : List (List Lit)) (states : List State) → IsBooleanModule m → IsLevel m f codes
+    → IsExecution w (job_of file m) states → length states ≡ length codes → (a : List Bool) × Decodes f.vars f.clauses codes states a
+execution_decoded w file m f codes [] wf level execution long = absurd execution
+execution_decoded w file m f codes (s ∷ states) wf level execution long =
+    let found = execution_run w file m (s ∷ states) wf execution in
+    let n = length states in
+    let count : length codes ≡ n + 1 = omega arith in
+    let size : length found.0 ≡ n + 1 = sym (length-map found.0 state_of) ∙ ap length found.1 ∙ omega arith in
+    let to = runs_decoded m f codes n found.0 (s ∷ states) level count found.2 size found.1 in
+    (to.0, to.1)
+
+-- an execution at whose last state the invariant is FALSE
+pub broken_decoded : (m : BooleanModule) (n : ℕ) (f : Cnf) (codes : List (List Lit)) (l : Lit) (runs : List (List Bool)) (states : List State) → IsLevel m f codes
+    → length codes ≡ n + 1 → IsBroken m f codes n l → IsRun m runs → length runs ≡ n + 1 → map state_of runs ≡ states → inv_holds m (get_or runs n []) ≡ false
+    → (a : List Bool) × Decodes f.vars f.clauses codes states a × (lit_value l a ≡ true)
+broken_decoded m n f codes l runs states level count is_broken run long same broken =
+    let to = runs_decoded m f codes n runs states level count run long same in
+    let a : List Bool = to.0 in
+    let here : inv_holds m (values_of a (get_or codes n [])) ≡ false = ap (inv_holds m) to.2 ∙ broken in
+    (a, to.1, turned_back (lit_value l a) (inv_holds m (values_of a (get_or codes n []))) (is_broken.value a (satisfied a f to.1.satisfies)) here)
+
+-- where no assignment makes the literal true, the level does not err
+pub none_found : (m : BooleanModule) (n : ℕ) (f : Cnf) (codes : List (List Lit)) (l : Lit) → IsBooleanModule m → IsLevel m f codes → length codes ≡ n + 1
+    → IsBroken m f codes n l → IsUnsatisfiable (clauses_with f l) → NoError m n
+none_found m n f codes l wf level count is_broken none = λ file error.
+    let run = errs_run file m n wf error in
+    let to = broken_decoded m n f codes l run.0 (map state_of run.0) level count is_broken run.1 run.2 refl run.3 in
+    let asked : Cnf = record { vars = f.vars; clauses = clauses_with f l } in
+    none to.0 (clauses_of to.0 asked (required_more f asked l to.0 refl (satisfied to.0 f to.1.satisfies) to.2))
+
+-- ---- options
 
 pub some_of : {X : Type 0} (o : Option X) (x : X) (P : X → Type 0) → o ≡ Some x → IfSome o P → P x
 some_of {X = X} o x P e h = subst (λ (y : Option X). IfSome y P) e h
 
--- an error of the level would be decoded by an assignment that answers its question
-pub not_found : (m : BooleanModule) (steps : ℕ) (f g question : Cnf) (codes seen : List (List Lit)) (last index d : List Lit) (inv : List Conjunct) (holds negated : Lit)
-    → IsBooleanModule m → IsLevel m f codes → length codes ≡ steps + 1 → last ≡ index → index ≡ get_or seen steps d → seen ≡ codes → inv ≡ m.inv
-    → Grows f g → HasValue g holds (λ x. all_hold inv (values_of x last) (values_of x last))
-    → negated ≡ record { var = holds.var; neg = not holds.neg }
-    → question ≡ record { vars = g.vars; clauses = g.clauses ++ (negated ∷ []) ∷ [] }
-    → ((a : List Bool) → length a ≡ question.vars → AllTrue a question.clauses → ⊥) → NoError m steps
-not_found m steps f g question codes seen last index d inv holds negated wf level count is_slice is_index is_seen is_inv grown value opposite asked none = λ file error.
-    let run = errs_run file m steps wf error in
-    let reach = level.reached run.0 run.1 (run.2 ∙ sym count) in
-    let more = extended f g reach.assignment grown reach.size reach.satisfied in
-    let a : List Bool = reach.assignment ++ more.0 in
-    let lt : steps < length codes = omega arith in
-    let is_last : last ≡ get_or codes steps d = is_slice ∙ is_index ∙ ap (λ (x : List (List Lit)). get_or x steps d) is_seen in
-    let here : values_of a last ≡ get_or run.0 steps [] =
-    ap (values_of a) is_last ∙ code_kept f (length m.vars) reach.assignment more.0 (get_or codes steps d) reach.size (level.each steps d lt)
-    ∙ sym (get_or-map (values_of reach.assignment) codes steps d [] lt) ∙ ap (λ (x : List (List Bool)). get_or x steps []) reach.decodes in
-    let broken : lit_value holds a ≡ false =
-    value.value a more.2 ∙ ap (λ (x : List Conjunct). all_hold x (values_of a last) (values_of a last)) is_inv
-    ∙ ap (λ (x : List Bool). all_hold m.inv x x) here ∙ run.3 in
-    let answered : lit_value negated a ≡ true = ap (λ (x : Lit). lit_value x a) opposite ∙ true_there holds a broken in
-    none a (more.1 ∙ sym (ap (λ (x : Cnf). x.vars) asked)) (clauses_of a question (required_more g question negated a asked more.2 answered))
-  where
-    true_there : (l : Lit) (a : List Bool) → lit_value l a ≡ false → lit_value (record { var = l.var; neg = not l.neg }) a ≡ true
-    true_there l a h = flip l.neg (get_or a l.var false) h
-      where
-        flip : (s b : Bool) → (if s then not b else b) ≡ false → (if not s then not b else b) ≡ true
-        flip true true h = refl
-        flip true false h = sym h
-        flip false true h = sym h
-        flip false false h = refl
-
 pub none_of : {X : Type 0} (o : Option X) (P : Type 0) → o ≡ None → IfNone o P → P
 none_of o P e h = subst (λ y. IfNone y P) e h
 
--- what holds below and here holds up to here
-pub up_to : (P : ℕ → Type 0) (here longest : ℕ) → ((k : ℕ) → k < here → P k) → P here → longest ≤ here → (k : ℕ) → k ≤ longest → P k
-up_to P here longest below there le k within = elim (cases_lt k here) [
-  | inl before ↦ below k before
-  | inr after ↦ let same : here ≡ k = omega arith in subst P same there
-]
+-- ---- tests
+
+pub where_true : (b : Bool) (P : Type 0) → OnTrue b P → b ≡ true → P
+where_true true P h e = h
+where_true false P h e = absurd cc
+
+pub where_false : (b : Bool) (P : Type 0) → OnFalse b P → b ≡ false → P
+where_false true P h e = absurd cc
+where_false false P h e = h
+
+pub still_true : (b : Bool) (P Q : Type 0) → (P → Q) → OnTrue b P → OnTrue b Q
+still_true true P Q f h = f h
+still_true false P Q f h = tt
+
+pub still_false : (b : Bool) (P Q : Type 0) → (P → Q) → OnFalse b P → OnFalse b Q
+still_false true P Q f h = tt
+still_false false P Q f h = f h

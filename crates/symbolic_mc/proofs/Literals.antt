@@ -16,7 +16,8 @@ use Rattle.tla_values.specs.declared.value.Value.{Value}
 use Rattle.tla_values.specs.declared.value.Value.TheVariants as value
 use Rattle.tla_meaning.specs.declared.boolean.Conjunct.{Conjunct}
 use Rattle.tla_meaning.specs.declared.job.State.{State}
-use Rattle.symbolic_mc.specs.inner.Boolean.{allows, holds_at, all_hold, state_of}
+use Rattle.symbolic_mc.specs.inner.Boolean.{allows, holds_at, all_hold}
+use Rattle.symbolic_mc.specs.States.{state_of}
 use Rattle.symbolic_mc.specs.inner.Levels.{values_of}
 
 pub and_true : (b : Bool) → (b && true) ≡ b

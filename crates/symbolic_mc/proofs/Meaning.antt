@@ -32,7 +32,8 @@ use Rattle.tla_meaning.specs.Actions.{val, meaning, effects, effects_and, effect
 use Rattle.tla_meaning.specs.Executions.{no_scope, start, next, invariant, first_not_yes, is_yes, IsYes, IsState, AreSteps, IsExecution, last_of, in_init, in_cinit, in_next}
 use Rattle.tla_meaning.specs.BooleanLayout.{behind, leaf, tree, operator, operand, conjunct_text, conjunct_tree, conjunct_trees, conjunction_tree, branch_trees, next_tree, declarations, job_of, no_part, place_at, init_line}
 use Rattle.tla_meaning.proofs.MeaningLemmas.{belongs-out, val-roll, denotation-roll}
-use Rattle.symbolic_mc.specs.inner.Boolean.{state_of, allows, holds_at, all_hold, some_holds, init_holds, next_holds, inv_holds, SpeakOf, RunsOn, IsRun}
+use Rattle.symbolic_mc.specs.inner.Boolean.{allows, holds_at, all_hold, some_holds, init_holds, next_holds, inv_holds, SpeakOf, RunsOn, IsRun}
+use Rattle.symbolic_mc.specs.States.{state_of}
 
 -- ---- one conjunct
 

@@ -29,7 +29,7 @@ values_kept a more (l ∷ ls) below =
 pub code_kept : (f : Cnf) (n : ℕ) (a more : List Bool) (code : List Lit) → length a ≡ f.vars → IsCode f n code → values_of (a ++ more) code ≡ values_of a code
 code_kept f n a more code size is = values_kept a more code (subst (λ (k : ℕ). All (IsBelow k) code) (sym size) is.below)
 
-codes_kept : (f : Cnf) (n : ℕ) (a more : List Bool) (codes : List (List Lit)) → length a ≡ f.vars → All (IsCode f n) codes → map (values_of (a ++ more)) codes ≡ map (values_of a) codes
+pub codes_kept : (f : Cnf) (n : ℕ) (a more : List Bool) (codes : List (List Lit)) → length a ≡ f.vars → All (IsCode f n) codes → map (values_of (a ++ more)) codes ≡ map (values_of a) codes
 codes_kept f n a more [] size each = refl
 codes_kept f n a more (code ∷ codes) size each =
     ap (λ (b : List Bool). b ∷ map (values_of (a ++ more)) codes) (code_kept f n a more code size (All-head (IsCode f n) code codes each))

@@ -1,19 +1,23 @@
 -- What the status says of the answer and of what was written.
-use Rattle.std.proofs.Common.{◌≡◌, ℕ, ◌<◌, inl, inr, ◌⊎◌, List, length, Option, None, Some, Result, Ok, Err, refl, sym, ◌∙◌, ap, subst, arith}
-use Rattle.std.specs.Prelude.{OnOk, OnErr, String, unwrap_or}
-use Rattle.std.specs.declared.alloc.Global.{Global}
+use Rattle.std.proofs.Common.{◌≡◌, ℕ, ◌<◌, ◌≤◌, inl, inr, ◌⊎◌, List, length, Option, None, Some, Result, Ok, Err, refl, sym, ◌∙◌, ap, subst, arith}
+use Rattle.std.specs.Prelude.{OnOk, OnErr, unwrap_or}
 use Rattle.std.specs.Io.KnownBytes.{Appends}
+use Rattle.refutation_checker.specs.declared.answers.Recheck.{Recheck}
+use Rattle.refutation_checker.specs.declared.answers.Recheck.TheVariants.{Accepted, BadLine, BadStep}
 use Rattle.tool_outside.specs.Causes.{Holds, IsLong, WritesPrefix, Stayed}
 use Rattle.tool_outside.specs.Outside.{Folder, Rose, file_at}
 use Rattle.tool_outside.proofs.Prefixes.{all_of}
+use Rattle.tla_meaning.specs.declared.job.Job.{Job}
 use Rattle.tla_meaning.specs.BooleanLayout.{IsBooleanLayout}
+use Rattle.trace_text.specs.declared.verdict.Verdict.{Verdict}
+use Rattle.trace_text.specs.declared.verdict.Verdict.TheVariants.{Clean, Inductive, Error, Overflow, Spent, NotInductive}
 use Rattle.symbolic_mc.specs.declared.answer.Answer.{Answer}
-use Rattle.symbolic_mc.specs.declared.answer.Answer.TheVariants.{Usage, ReadFault, TooLong, Missing, NotBuilt, Checked}
-use Rattle.symbolic_mc.specs.declared.checking.Verdict.TheVariants.{Clean, Error}
-use Rattle.symbolic_mc.specs.Report.{status_of, report_of, memory_line}
-use Rattle.symbolic_mc.specs.inner.Told.{IsTold}
-use Rattle.symbolic_mc.specs.Top.{IsRefusal, NoFile, NoForm, IsReadFault, Failed, Longer, IsAnswer, AsksForBooleanLayout, WritesError, WritesClean, WritesPart, module_limit}
-use Rattle.symbolic_mc.specs.Words.{request_of}
+use Rattle.symbolic_mc.specs.declared.answer.Answer.TheVariants.{Usage, ReadFault, TooLong, Missing, NotBuilt, WriteFault, Checked, NoCertificate, Rechecked}
+use Rattle.symbolic_mc.specs.Report.{status_of, verdict_status, recheck_status, report_of, memory_line}
+use Rattle.symbolic_mc.specs.Top.{IsAnswer, NoCommand, ReadFailed, IsTooLong, NoModule, NotInLayout, WriteFailed, Found, NoFile, Reread, Names, Checks, AsksForBooleanLayout, AsksToRecheck, IsStatus, IsVerdictStatus, IsCutStatus, Tells, TellsPart, WritesError, WritesClean, WritesAccepted, module_limit, certificate_limit}
+use Rattle.symbolic_mc.specs.Verdicts.{IsVerdict}
+use Rattle.symbolic_mc.specs.Words.{Command, Request}
+use Rattle.symbolic_mc.specs.inner.Told.{IsCalm, IsTold}
 
 -- a report, whole or in part
 pub in_part : {T E : Type 0} (r : Result T E) (old new : Option (List ℕ)) (report : List ℕ) → OnOk r (Appends old new report) → OnErr r (WritesPrefix old new report)
@@ -21,130 +25,224 @@ pub in_part : {T E : Type 0} (r : Result T E) (old new : Option (List ℕ)) (rep
 in_part (Ok x) old new report whole cut = all_of old new report whole
 in_part (Err e) old new report whole cut = cut
 
--- a status that no cut has comes with the whole report
-whole : (answer : Answer) (old new : Option (List ℕ)) (before now result code : ℕ) → IsTold answer old new before now result → result ≡ code → code < 41
-    → (status_of answer ≡ code) × Appends old new (report_of answer)
-whole answer old new before now result code (inl is) coded small = (sym is.0 ∙ coded, is.1)
-whole answer old new before now result code (inr (inl is)) coded small = absurd (let cut = is.0 in omega arith)
-whole answer old new before now result code (inr (inr is)) coded small = absurd (let cut = is.0 in omega arith)
+-- ---- the statuses of the answers
 
-error_written : (words : List (String Global)) (held : Option Folder) (before now : ℕ) (old new : Option (List ℕ)) (answer : Answer)
-    → IsAnswer words held before now answer → status_of answer ≡ 12 → Appends old new (report_of answer) → WritesError words held old new
-error_written words held before now old new Usage is coded added = absurd (omega arith)
-error_written words held before now old new (ReadFault file) is coded added = absurd (omega arith)
-error_written words held before now old new (TooLong file) is coded added = absurd (omega arith)
-error_written words held before now old new (Missing name) is coded added = absurd (omega arith)
-error_written words held before now old new NotBuilt is coded added = absurd (omega arith)
-error_written words held before now old new (Checked names (Clean n)) is coded added = absurd (omega arith)
-error_written words held before now old new (Checked names (Error n states)) is coded added = (report_of (Checked names (Error n states)), is, added)
+found_status : (job : Job) (longest : ℕ) (budget : Option ℕ) (v : Verdict) → IsVerdict job longest budget v → IsVerdictStatus (verdict_status v) × (verdict_status v ≤ 41)
+found_status job longest budget (Clean n) is = (inl refl, omega arith)
+found_status job longest budget (Error n fault trace) is = (inr (inl refl), omega arith)
+found_status job longest budget (Spent n at) is = (inr (inr refl), omega arith)
+found_status job longest budget Inductive is = absurd is
+found_status job longest budget (Overflow w part place trace) is = absurd is
+found_status job longest budget (NotInductive fault trace) is = absurd is
 
-clean_written : (words : List (String Global)) (held : Option Folder) (before now : ℕ) (old new : Option (List ℕ)) (answer : Answer)
-    → IsAnswer words held before now answer → status_of answer ≡ 0 → Appends old new (report_of answer) → WritesClean words held old new
-clean_written words held before now old new Usage is coded added = absurd (omega arith)
-clean_written words held before now old new (ReadFault file) is coded added = absurd (omega arith)
-clean_written words held before now old new (TooLong file) is coded added = absurd (omega arith)
-clean_written words held before now old new (Missing name) is coded added = absurd (omega arith)
-clean_written words held before now old new NotBuilt is coded added = absurd (omega arith)
-clean_written words held before now old new (Checked names (Clean n)) is coded added = (report_of (Checked names (Clean n)), is, added)
-clean_written words held before now old new (Checked names (Error n states)) is coded added = absurd (omega arith)
+-- of an answer with its cause
+pub answer_status : (c : Command) (old new : Option Folder) (before now : ℕ) (answer : Answer) → IsAnswer c old new before now answer
+    → IsStatus (status_of answer) × (status_of answer ≤ 41)
+answer_status c old new before now _ (NoCommand none again stay) = (inr (inr (inr (inl refl))), omega arith)
+answer_status c old new before now _ (ReadFailed file limit names rose stay) = (inr (inr (inr (inr (inl refl)))), omega arith)
+answer_status c old new before now _ (IsTooLong file limit names long stay) = (inr (inr (inr (inr (inl refl)))), omega arith)
+answer_status c old new before now _ (NoModule file name longest budget asked none is stay) = (inr (inr (inl refl)), omega arith)
+answer_status c old new before now _ (NotInLayout file bytes longest budget asked handed none stay) = (inr (inr (inl refl)), omega arith)
+answer_status c old new before now _ (WriteFailed verdict sections k rose saved) = (inr (inr (inr (inr (inr (inl refl))))), omega arith)
+answer_status c old new before now _ (Found verdict sections k saved) =
+    let of = found_status k.job k.longest k.budget verdict k.checked.verdict_is in
+    (inl of.0, omega (arith, of.1))
+answer_status c old new before now _ (NoFile cert asked none stay) = (inr (inl refl), omega arith)
+answer_status c old new before now _ (Reread cert bytes (Accepted r o) asked handed is stay) = (inl (inl refl), omega arith)
+answer_status c old new before now _ (Reread cert bytes (BadLine n) asked handed is stay) = (inr (inl refl), omega arith)
+answer_status c old new before now _ (Reread cert bytes (BadStep q s) asked handed is stay) = (inr (inl refl), omega arith)
 
-pub error_told : (words : List (String Global)) (held : Option Folder) (before now : ℕ) (old new : Option (List ℕ)) (sink_before sink_now result : ℕ) (answer : Answer)
-    → IsAnswer words held before now answer → IsTold answer old new sink_before sink_now result → result ≡ 12 → WritesError words held old new
-error_told words held before now old new sink_before sink_now result answer is told coded =
-    let all = whole answer old new sink_before sink_now result 12 told coded (omega arith) in
-    error_written words held before now old new answer is all.0 all.1
+-- a check and a recheck are asked for by different words
+abbrev pub AreApart : Command → Type 0
+AreApart c = (r : Request) (cert : List ℕ) → c.0 ≡ Some r → c.1 ≡ Some cert → ⊥
 
-pub clean_told : (words : List (String Global)) (held : Option Folder) (before now : ℕ) (old new : Option (List ℕ)) (sink_before sink_now result : ℕ) (answer : Answer)
-    → IsAnswer words held before now answer → IsTold answer old new sink_before sink_now result → result ≡ 0 → WritesClean words held old new
-clean_told words held before now old new sink_before sink_now result answer is told coded =
-    let all = whole answer old new sink_before sink_now result 0 told coded (omega arith) in
-    clean_written words held before now old new answer is all.0 all.1
+none_some : {X : Type 0} {x : X} → None ≡ Some x → ⊥
+none_some e = cc
 
-small_status : (answer : Answer) → status_of answer < 41
-small_status Usage = omega arith
-small_status (ReadFault file) = omega arith
-small_status (TooLong file) = omega arith
-small_status (Missing name) = omega arith
-small_status NotBuilt = omega arith
-small_status (Checked names (Clean n)) = omega arith
-small_status (Checked names (Error n states)) = omega arith
+the_same : {X : Type 0} (a b : X) → Some a ≡ Some b → a ≡ b
+the_same {X = X} a b e = ap (λ (o : Option X). unwrap_or o a) e
 
-pub cut_told : (words : List (String Global)) (held : Option Folder) (before now : ℕ) (old new : Option (List ℕ)) (sink_before sink_now result : ℕ) (answer : Answer)
-    → IsAnswer words held before now answer → IsTold answer old new sink_before sink_now result → result ≡ 41
-    → Rose sink_before sink_now × WritesPart words held before now old new
-cut_told words held before now old new sink_before sink_now result answer is (inl all) coded =
-    absurd (let status = all.0 in let small = small_status answer in omega arith)
-cut_told words held before now old new sink_before sink_now result answer is (inr (inl cut)) coded = (cut.1, (answer, is, cut.2))
-cut_told words held before now old new sink_before sink_now result answer is (inr (inr none)) coded = absurd (let status = none.0 in omega arith)
+same_file : (c : Command) (file other : List ℕ) (n m : ℕ) (b d : Option ℕ) → c.0 ≡ Some (file, n, b) → c.0 ≡ Some (other, m, d) → file ≡ other
+same_file c file other n m b d asked again = ap (λ (r : Request). r.0) (the_same (file, n, b) (other, m, d) (sym asked ∙ again))
 
-pub memory_told : (words : List (String Global)) (held : Option Folder) (before now : ℕ) (old new : Option (List ℕ)) (sink_before sink_now result : ℕ) (answer : Answer)
-    → IsAnswer words held before now answer → IsTold answer old new sink_before sink_now result → result ≡ 50
-    → WritesPart words held before now old new ⊎ WritesPrefix old new memory_line
-memory_told words held before now old new sink_before sink_now result answer is (inl all) coded =
-    absurd (let status = all.0 in let small = small_status answer in omega arith)
-memory_told words held before now old new sink_before sink_now result answer is (inr (inl cut)) coded = absurd (let status = cut.0 in omega arith)
-memory_told words held before now old new sink_before sink_now result answer is (inr (inr (_, inl part))) coded = inl (answer, is, part)
-memory_told words held before now old new sink_before sink_now result answer is (inr (inr (_, inr line))) coded = inr line
+-- ---- what the files are told to hold
 
--- ---- a file in the layout
+held_there : (held : Option Folder) (folder : Folder) (file other : List ℕ) (there bytes : Option (List ℕ)) → held ≡ Some folder → other ≡ file
+    → file_at folder file ≡ bytes → Holds held other there → there ≡ bytes
+held_there held folder file other there bytes told same at holds =
+    let known : file_at folder other ≡ there = subst (λ (h : Option Folder). Holds h other there) told holds in
+    sym known ∙ ap (file_at folder) same ∙ at
 
-the_same : (a b : List ℕ) → Some a ≡ Some b → a ≡ b
-the_same a b e = ap (λ (o : Option (List ℕ)). unwrap_or o a) e
-
-same_file : (words : List (String Global)) (held : Option Folder) (form : AsksForBooleanLayout words held) (file : List ℕ) (longest : ℕ)
-    → request_of words ≡ Some (file, longest) → form.file ≡ file
-same_file words held form file longest asked = ap (λ (r : Option (List ℕ × ℕ)). (unwrap_or r (file, longest)).0) (sym form.asked ∙ asked)
-
-held_there : (words : List (String Global)) (held : Option Folder) (form : AsksForBooleanLayout words held) (file : List ℕ) (there : Option (List ℕ))
-    → form.file ≡ file → Holds held file there → there ≡ Some form.bytes
-held_there words held form file there same holds =
-    let known : file_at form.folder file ≡ there = subst (λ (h : Option Folder). Holds h file there) form.told holds in
-    sym known ∙ ap (file_at form.folder) (sym same) ∙ form.there
-
-refused_not : (words : List (String Global)) (held : Option Folder) (answer : Answer) → AsksForBooleanLayout words held → IsRefusal words held answer → ⊥
-refused_not words held _ form (NoFile file name longest asked none is) =
-    none_is (held_there words held form file None (same_file words held form file longest asked) none)
-  where
-    none_is : {x : List ℕ} → None ≡ Some x → ⊥
-    none_is e = cc
-refused_not words held _ form (NoForm file bytes longest asked handed none) =
-    let same = same_file words held form file longest asked in
-    let read : bytes ≡ form.bytes = the_same bytes form.bytes (held_there words held form file (Some bytes) same handed.told) in
-    none form.job (subst (λ (x : List ℕ). IsBooleanLayout x form.job bytes) same (subst (λ (x : List ℕ). IsBooleanLayout form.file form.job x) (sym read) form.form))
-
-fault_not : (words : List (String Global)) (held : Option Folder) (before now : ℕ) (answer : Answer) → AsksForBooleanLayout words held → Stayed before now
-    → IsReadFault words held before now answer → ⊥
-fault_not words held before now _ form stayed (Failed file longest asked rose) = omega arith
-fault_not words held before now _ form stayed (Longer file longest asked long) =
-    let same = same_file words held form file longest asked in
-    let known : (bytes : List ℕ) × (file_at form.folder file ≡ Some bytes) × (module_limit < length bytes) =
-    subst (λ (h : Option Folder). IsLong h file module_limit) form.told long in
-    let read : known.0 ≡ form.bytes = the_same known.0 form.bytes (sym known.1 ∙ ap (file_at form.folder) (sym same) ∙ form.there) in
-    let longer : module_limit < length form.bytes = subst (λ (x : List ℕ). module_limit < length x) read known.2 in
-    let short = form.short in
+too_long_not : (held : Option Folder) (folder : Folder) (file : List ℕ) (limit : ℕ) → held ≡ Some folder → ((bytes : List ℕ) → file_at folder file ≡ Some bytes → length bytes ≤ limit)
+    → IsLong held file limit → ⊥
+too_long_not held folder file limit told short long =
+    let known : (bytes : List ℕ) × (file_at folder file ≡ Some bytes) × (limit < length bytes) = subst (λ (h : Option Folder). IsLong h file limit) told long in
+    let fits = short known.0 known.1 in
+    let longer = known.2 in
     omega arith
 
-verdict_status : (words : List (String Global)) (held : Option Folder) (before now : ℕ) (answer : Answer) → AsksForBooleanLayout words held → Stayed before now
-    → IsAnswer words held before now answer → (status_of answer ≡ 0) ⊎ (status_of answer ≡ 12)
-verdict_status words held before now Usage form stayed is = absurd (none_some (sym is ∙ form.asked))
-  where
-    none_some : {X : Type 0} {x : X} → None ≡ Some x → ⊥
-    none_some e = cc
-verdict_status words held before now (ReadFault file) form stayed is = absurd (fault_not words held before now (ReadFault file) form stayed is)
-verdict_status words held before now (TooLong file) form stayed is = absurd (fault_not words held before now (TooLong file) form stayed is)
-verdict_status words held before now (Missing name) form stayed is = absurd (refused_not words held (Missing name) form is)
-verdict_status words held before now NotBuilt form stayed is = absurd (refused_not words held NotBuilt form is)
-verdict_status words held before now (Checked names (Clean n)) form stayed is = inl refl
-verdict_status words held before now (Checked names (Error n states)) form stayed is = inr refl
+-- ---- an answer in the layout, and of a certificate
 
-pub in_form_told : (words : List (String Global)) (held : Option Folder) (before now : ℕ) (old new : Option (List ℕ)) (sink_before sink_now result : ℕ) (answer : Answer)
-    → IsAnswer words held before now answer → IsTold answer old new sink_before sink_now result → AsksForBooleanLayout words held → Stayed before now
-    → Stayed sink_before sink_now → (result ≡ 0) ⊎ (result ≡ 12) ⊎ (result ≡ 50)
-in_form_told words held before now old new sink_before sink_now result answer is (inl all) form stayed sink_stayed =
-    elim (verdict_status words held before now answer form stayed is) [
-      | inl zero ↦ inl (all.0 ∙ zero)
-      | inr twelve ↦ inr (inl (all.0 ∙ twelve))
-    ]
-in_form_told words held before now old new sink_before sink_now result answer is (inr (inl cut)) form stayed sink_stayed =
-    absurd (let rose = cut.1 in omega arith)
-in_form_told words held before now old new sink_before sink_now result answer is (inr (inr none)) form stayed sink_stayed = inr (inr none.0)
+form_answer : (c : Command) (old new : Option Folder) (before now : ℕ) (answer : Answer) → AreApart c → AsksForBooleanLayout c old → Stayed before now
+    → IsAnswer c old new before now answer → IsVerdictStatus (status_of answer)
+form_answer c old new before now _ apart form stayed (NoCommand none again stay) = absurd (none_some (sym none ∙ form.asked))
+form_answer c old new before now _ apart form stayed (ReadFailed file limit names rose stay) = absurd (omega arith)
+form_answer c old new before now _ apart form stayed (IsTooLong file limit (inl names) long stay) =
+    let same : file ≡ form.file = same_file c _ _ _ _ _ _ names.2 form.asked in
+    absurd (too_long_not old form.folder file limit form.told (λ bytes at.
+    let here : bytes ≡ form.bytes = the_same _ _ (sym at ∙ ap (file_at form.folder) same ∙ form.there) in
+    subst (λ (n : ℕ). length bytes ≤ n) (sym names.3) (subst (λ (x : List ℕ). length x ≤ module_limit) (sym here) form.short)) long)
+form_answer c old new before now _ apart form stayed (IsTooLong file limit (inr names) long stay) = absurd (apart _ _ form.asked names.0)
+form_answer c old new before now _ apart form stayed (NoModule file name longest budget asked none is stay) =
+    absurd (none_some (held_there old form.folder form.file file None _ form.told (same_file c _ _ _ _ _ _ asked form.asked) form.there none))
+form_answer c old new before now _ apart form stayed (NotInLayout file bytes longest budget asked handed none stay) =
+    let same : file ≡ form.file = same_file c _ _ _ _ _ _ asked form.asked in
+    let read : bytes ≡ form.bytes = the_same _ _ (held_there old form.folder form.file file (Some bytes) _ form.told same form.there handed.told) in
+    absurd (none form.job (subst (λ (x : List ℕ). IsBooleanLayout x form.job bytes) (sym same) (subst (λ (x : List ℕ). IsBooleanLayout form.file form.job x) (sym read) form.form)))
+form_answer c old new before now _ apart form stayed (WriteFailed verdict sections k rose saved) = absurd (omega arith)
+form_answer c old new before now _ apart form stayed (Found verdict sections k saved) = (found_status k.job k.longest k.budget verdict k.checked.verdict_is).0
+form_answer c old new before now _ apart form stayed (NoFile cert asked none stay) = absurd (apart _ _ form.asked asked)
+form_answer c old new before now _ apart form stayed (Reread cert bytes answer asked handed is stay) = absurd (apart _ _ form.asked asked)
+
+cert_answer : (c : Command) (old new : Option Folder) (before now : ℕ) (answer : Answer) → AreApart c → AsksToRecheck c old → Stayed before now
+    → IsAnswer c old new before now answer → (status_of answer ≡ 0) ⊎ (status_of answer ≡ 14)
+cert_answer c old new before now _ apart form stayed (NoCommand none again stay) = absurd (none_some (sym again ∙ form.asked))
+cert_answer c old new before now _ apart form stayed (ReadFailed file limit names rose stay) = absurd (omega arith)
+cert_answer c old new before now _ apart form stayed (IsTooLong file limit (inl names) long stay) = absurd (apart _ _ names.2 form.asked)
+cert_answer c old new before now _ apart form stayed (IsTooLong file limit (inr names) long stay) =
+    let same : file ≡ form.cert = the_same _ _ (sym names.0 ∙ form.asked) in
+    absurd (too_long_not old form.folder file limit form.told (λ bytes at.
+    subst (λ (n : ℕ). length bytes ≤ n) (sym names.1) (form.short bytes (ap (file_at form.folder) (sym same) ∙ at))) long)
+cert_answer c old new before now _ apart form stayed (NoModule file name longest budget asked none is stay) = absurd (apart _ _ asked form.asked)
+cert_answer c old new before now _ apart form stayed (NotInLayout file bytes longest budget asked handed none stay) = absurd (apart _ _ asked form.asked)
+cert_answer c old new before now _ apart form stayed (WriteFailed verdict sections k rose saved) = absurd (apart _ _ k.asked form.asked)
+cert_answer c old new before now _ apart form stayed (Found verdict sections k saved) = absurd (apart _ _ k.asked form.asked)
+cert_answer c old new before now _ apart form stayed (NoFile cert asked none stay) = inr refl
+cert_answer c old new before now _ apart form stayed (Reread cert bytes (Accepted r o) asked handed is stay) = inl refl
+cert_answer c old new before now _ apart form stayed (Reread cert bytes (BadLine n) asked handed is stay) = inr refl
+cert_answer c old new before now _ apart form stayed (Reread cert bytes (BadStep q s) asked handed is stay) = inr refl
+
+usage_answer : (c : Command) (old new : Option Folder) (before now : ℕ) (answer : Answer) → c.0 ≡ None → c.1 ≡ None → IsAnswer c old new before now answer → status_of answer ≡ 31
+usage_answer c old new before now _ none again (NoCommand check recheck stay) = refl
+usage_answer c old new before now _ none again (ReadFailed file limit (inl names) rose stay) = absurd (none_some (sym none ∙ names.2))
+usage_answer c old new before now _ none again (ReadFailed file limit (inr names) rose stay) = absurd (none_some (sym again ∙ names.0))
+usage_answer c old new before now _ none again (IsTooLong file limit (inl names) long stay) = absurd (none_some (sym none ∙ names.2))
+usage_answer c old new before now _ none again (IsTooLong file limit (inr names) long stay) = absurd (none_some (sym again ∙ names.0))
+usage_answer c old new before now _ none again (NoModule file name longest budget asked other is stay) = absurd (none_some (sym none ∙ asked))
+usage_answer c old new before now _ none again (NotInLayout file bytes longest budget asked handed other stay) = absurd (none_some (sym none ∙ asked))
+usage_answer c old new before now _ none again (WriteFailed verdict sections k rose saved) = absurd (none_some (sym none ∙ k.asked))
+usage_answer c old new before now _ none again (Found verdict sections k saved) = absurd (none_some (sym none ∙ k.asked))
+usage_answer c old new before now _ none again (NoFile cert asked other stay) = absurd (none_some (sym again ∙ asked))
+usage_answer c old new before now _ none again (Reread cert bytes answer asked handed is stay) = absurd (none_some (sym again ∙ asked))
+
+-- ---- verdicts that were written
+
+error_answer : (c : Command) (old new : Option Folder) (before now : ℕ) (was is : Option (List ℕ)) (answer : Answer) → status_of answer ≡ 12
+    → Appends was is (report_of answer) → IsAnswer c old new before now answer → WritesError c old new was is
+error_answer c old new before now was is _ coded added (NoCommand none again stay) = absurd (omega arith)
+error_answer c old new before now was is _ coded added (ReadFailed file limit names rose stay) = absurd (omega arith)
+error_answer c old new before now was is _ coded added (IsTooLong file limit names long stay) = absurd (omega arith)
+error_answer c old new before now was is _ coded added (NoModule file name longest budget asked none named stay) = absurd (omega arith)
+error_answer c old new before now was is _ coded added (NotInLayout file bytes longest budget asked handed none stay) = absurd (omega arith)
+error_answer c old new before now was is _ coded added (WriteFailed verdict sections k rose saved) = absurd (omega arith)
+error_answer c old new before now was is _ coded added (Found (Error n fault trace) sections k saved) =
+    record { level = n; fault = fault; trace = trace; sections = sections; checks = k; saved = saved; written = added }
+error_answer c old new before now was is _ coded added (Found (Clean n) sections k saved) = absurd (omega arith)
+error_answer c old new before now was is _ coded added (Found (Spent n at) sections k saved) = absurd (omega arith)
+error_answer c old new before now was is _ coded added (Found Inductive sections k saved) = absurd (omega arith)
+error_answer c old new before now was is _ coded added (Found (Overflow w part place trace) sections k saved) = absurd (omega arith)
+error_answer c old new before now was is _ coded added (Found (NotInductive fault trace) sections k saved) = absurd (omega arith)
+error_answer c old new before now was is _ coded added (NoFile cert asked none stay) = absurd (omega arith)
+error_answer c old new before now was is _ coded added (Reread cert bytes (Accepted r o) asked handed rechecked stay) = absurd (omega arith)
+error_answer c old new before now was is _ coded added (Reread cert bytes (BadLine n) asked handed rechecked stay) = absurd (omega arith)
+error_answer c old new before now was is _ coded added (Reread cert bytes (BadStep q s) asked handed rechecked stay) = absurd (omega arith)
+
+clean_answer : (c : Command) (old new : Option Folder) (before now : ℕ) (was is : Option (List ℕ)) (answer : Answer) → status_of answer ≡ 0
+    → Appends was is (report_of answer) → IsAnswer c old new before now answer → WritesClean c old new was is ⊎ WritesAccepted c old new was is
+clean_answer c old new before now was is _ coded added (NoCommand none again stay) = absurd (omega arith)
+clean_answer c old new before now was is _ coded added (ReadFailed file limit names rose stay) = absurd (omega arith)
+clean_answer c old new before now was is _ coded added (IsTooLong file limit names long stay) = absurd (omega arith)
+clean_answer c old new before now was is _ coded added (NoModule file name longest budget asked none named stay) = absurd (omega arith)
+clean_answer c old new before now was is _ coded added (NotInLayout file bytes longest budget asked handed none stay) = absurd (omega arith)
+clean_answer c old new before now was is _ coded added (WriteFailed verdict sections k rose saved) = absurd (omega arith)
+clean_answer c old new before now was is _ coded added (Found (Clean n) sections k saved) =
+    inl record { level = n; sections = sections; checks = k; saved = saved; written = added }
+clean_answer c old new before now was is _ coded added (Found (Error n fault trace) sections k saved) = absurd (omega arith)
+clean_answer c old new before now was is _ coded added (Found (Spent n at) sections k saved) = absurd (omega arith)
+clean_answer c old new before now was is _ coded added (Found Inductive sections k saved) = absurd k.checked.verdict_is
+clean_answer c old new before now was is _ coded added (Found (Overflow w part place trace) sections k saved) = absurd (omega arith)
+clean_answer c old new before now was is _ coded added (Found (NotInductive fault trace) sections k saved) = absurd (omega arith)
+clean_answer c old new before now was is _ coded added (NoFile cert asked none stay) = absurd (omega arith)
+clean_answer c old new before now was is _ coded added (Reread cert bytes (Accepted r o) asked handed rechecked stay) =
+    inr record { cert = cert; asked = asked; bytes = bytes; handed = handed; answer = Accepted r o; rechecked = rechecked; files_stay = stay; written = added }
+clean_answer c old new before now was is _ coded added (Reread cert bytes (BadLine n) asked handed rechecked stay) = absurd (omega arith)
+clean_answer c old new before now was is _ coded added (Reread cert bytes (BadStep q s) asked handed rechecked stay) = absurd (omega arith)
+
+-- ---- what the status says
+
+module _ (c : Command) (old new : Option Folder) (before now : ℕ) (was is : Option (List ℕ)) (sink_before sink_now result : ℕ) (answer : Answer) (cause : IsAnswer c old new before now answer) where
+  tells : (result ≡ status_of answer) × Appends was is (report_of answer) × (sink_now ≡ sink_before) → Tells c old new before now was is result
+  tells all = record { answer = answer; cause = cause; status_is = all.0; written = all.1 }
+
+  tells_part : WritesPrefix was is (report_of answer) → TellsPart c old new before now was is
+  tells_part part = record { answer = answer; cause = cause; written = part }
+
+  pub told_whole : IsTold answer was is sink_before sink_now result → (IsCutStatus result → ⊥) → Tells c old new before now was is result
+  told_whole (inl all) uncut = tells all
+  told_whole (inr (inl cut)) uncut = absurd (uncut (inl cut.0))
+  told_whole (inr (inr none)) uncut = absurd (uncut (inr none.0))
+
+  pub told_unwritten : IsTold answer was is sink_before sink_now result → result ≡ 41
+      → (Rose sink_before sink_now × TellsPart c old new before now was is) ⊎ Tells c old new before now was is result
+  told_unwritten (inl all) coded = inr (tells all)
+  told_unwritten (inr (inl cut)) coded = inl (cut.1, tells_part cut.2)
+  told_unwritten (inr (inr none)) coded = absurd (let status = none.0 in omega arith)
+
+  pub told_memory : IsTold answer was is sink_before sink_now result → result ≡ 50 → TellsPart c old new before now was is ⊎ WritesPrefix was is memory_line
+  told_memory (inl all) coded = absurd (let small = (answer_status c old new before now answer cause).1 in let status = all.0 in omega arith)
+  told_memory (inr (inl cut)) coded = absurd (let status = cut.0 in omega arith)
+  told_memory (inr (inr (_, inl part))) coded = inl (tells_part part)
+  told_memory (inr (inr (_, inr line))) coded = inr line
+
+  pub told_status : IsTold answer was is sink_before sink_now result → IsStatus result
+  told_status (inl all) = subst IsStatus (sym all.0) (answer_status c old new before now answer cause).0
+  told_status (inr (inl cut)) = inr (inr (inr (inr (inr (inl cut.0)))))
+  told_status (inr (inr none)) = inr (inr (inr (inr (inr (inr none.0)))))
+
+  pub told_error : IsTold answer was is sink_before sink_now result → result ≡ 12 → WritesError c old new was is
+  told_error (inl all) coded = error_answer c old new before now was is answer (sym all.0 ∙ coded) all.1 cause
+  told_error (inr (inl cut)) coded = absurd (let status = cut.0 in omega arith)
+  told_error (inr (inr none)) coded = absurd (let status = none.0 in omega arith)
+
+  pub told_clean : IsTold answer was is sink_before sink_now result → result ≡ 0 → WritesClean c old new was is ⊎ WritesAccepted c old new was is
+  told_clean (inl all) coded = clean_answer c old new before now was is answer (sym all.0 ∙ coded) all.1 cause
+  told_clean (inr (inl cut)) coded = absurd (let status = cut.0 in omega arith)
+  told_clean (inr (inr none)) coded = absurd (let status = none.0 in omega arith)
+
+  pub told_usage : IsTold answer was is sink_before sink_now result → c.0 ≡ None → c.1 ≡ None → (result ≡ 31) ⊎ IsCutStatus result
+  told_usage (inl all) none again = inl (all.0 ∙ usage_answer c old new before now answer none again cause)
+  told_usage (inr (inl cut)) none again = inr (inl cut.0)
+  told_usage (inr (inr spent)) none again = inr (inr spent.0)
+
+  pub told_form : AreApart c → IsTold answer was is sink_before sink_now result → AsksForBooleanLayout c old → Stayed before now → Stayed sink_before sink_now
+      → IsVerdictStatus result ⊎ (result ≡ 50)
+  told_form apart (inl all) form stayed calm = inl (subst IsVerdictStatus (sym all.0) (form_answer c old new before now answer apart form stayed cause))
+  told_form apart (inr (inl cut)) form stayed calm = absurd (let rose = cut.1 in omega arith)
+  told_form apart (inr (inr none)) form stayed calm = inr none.0
+
+  pub told_recheck : AreApart c → IsTold answer was is sink_before sink_now result → AsksToRecheck c old → Stayed before now → Stayed sink_before sink_now
+      → (result ≡ 0) ⊎ (result ≡ 14) ⊎ (result ≡ 50)
+  told_recheck apart (inl all) form stayed calm =
+      elim (cert_answer c old new before now answer apart form stayed cause) [
+        | inl zero ↦ inl (all.0 ∙ zero)
+        | inr refused ↦ inr (inl (all.0 ∙ refused))
+      ]
+  told_recheck apart (inr (inl cut)) form stayed calm = absurd (let rose = cut.1 in omega arith)
+  told_recheck apart (inr (inr none)) form stayed calm = inr (inr none.0)
+
+  pub told_files_fault : IsTold answer was is sink_before sink_now result → IsCalm before now answer → before < now → (result ≡ 40) ⊎ IsCutStatus result
+  told_files_fault (inl all) (inl stay) rose = absurd (omega arith)
+  told_files_fault (inl all) (inr (inl read)) rose = inl (all.0 ∙ read)
+  told_files_fault (inl all) (inr (inr write)) rose = inr (inl (all.0 ∙ write))
+  told_files_fault (inr (inl cut)) calm rose = inr (inl cut.0)
+  told_files_fault (inr (inr none)) calm rose = inr (inr none.0)

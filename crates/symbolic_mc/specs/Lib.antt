@@ -1,5 +1,8 @@
+pub mod Encodings
 pub mod Naming
 pub mod Report
+pub mod Sections
+pub mod States
 pub mod Top
 pub mod Verdicts
 pub mod Words

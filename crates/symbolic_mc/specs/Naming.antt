@@ -1,6 +1,6 @@
--- The names of files and those of the modules in them.
+-- The names of files, of the modules in them and of their certificates.
 use Rattle.std.specs.Prelude.{◌≡◌, ◌⊎◌, List, ℕ, ◌++◌, codes}
-use Rattle.tla_values.specs.FileNames.{without_folder}
+use Rattle.tla_values.specs.FileNames.{without_ending, without_folder}
 
 -- the bytes do not end with this text
 abbrev pub EndsNot : List ℕ → List ℕ → Type 0
@@ -11,3 +11,8 @@ EndsNot bytes text = (front : List ℕ) → bytes ≡ front ++ text → ⊥
 abbrev pub IsModuleOf : List ℕ → List ℕ → Type 0
 IsModuleOf file name =
     (without_folder file ≡ name ++ codes ".tla") ⊎ ((without_folder file ≡ name) × EndsNot name (codes ".tla"))
+
+-- the certificate of a module's file: `.cert` in the place of `.tla` at the end, and behind the name where it does not
+-- end so
+abbrev pub certificate_name : List ℕ → List ℕ
+certificate_name file = without_ending file ++ codes ".cert"

@@ -1,153 +1,183 @@
 -- What the top call answers.
-use Rattle.std.specs.Prelude.{◌≡◌, ◌⊎◌, ℕ, ◌<◌, ◌≤◌, List, length, map, String, Option, None, Some}
-use Rattle.std.specs.declared.alloc.Global.{Global}
+use Rattle.std.specs.Prelude.{◌≡◌, ◌⊎◌, ℕ, ◌<◌, ◌≤◌, List, length, Option, None, Some}
 use Rattle.std.specs.Io.KnownBytes.{Appends}
-use Rattle.tool_outside.specs.Causes.{Holds, IsLong, HandedOut, WritesPrefix}
-use Rattle.tool_outside.specs.Outside.{Folder, Rose, file_at}
-use Rattle.tla_meaning.specs.declared.expr.Decl.{Decl}
+use Rattle.refutation_checker.specs.declared.answers.Recheck.{Recheck}
+use Rattle.refutation_checker.specs.declared.section.Section.{Section}
+use Rattle.refutation_checker.specs.Certificate.{certificate_text}
+use Rattle.refutation_checker.specs.Rechecking.{IsRechecked}
+use Rattle.tool_outside.specs.Causes.{Holds, IsLong, HandedOut, IsCut, WritesPrefix}
+use Rattle.tool_outside.specs.Outside.{Folder, Changes, Rose, file_at}
 use Rattle.tla_meaning.specs.declared.job.Job.{Job}
-use Rattle.tla_meaning.specs.declared.job.State.{State}
-use Rattle.tla_meaning.specs.Executions.{Errs}
 use Rattle.tla_meaning.specs.BooleanLayout.{IsBooleanLayout}
+use Rattle.trace_text.specs.Reports as reports
+use Rattle.trace_text.specs.declared.verdict.Fault.{Fault}
+use Rattle.trace_text.specs.declared.verdict.Trace.{Trace}
+use Rattle.trace_text.specs.declared.verdict.Verdict.{Verdict}
+use Rattle.trace_text.specs.declared.verdict.Verdict.TheVariants.{Clean, Error}
 use Rattle.symbolic_mc.specs.declared.answer.Answer.{Answer}
-use Rattle.symbolic_mc.specs.declared.answer.Answer.TheVariants.{Usage, ReadFault, TooLong, Missing, NotBuilt, Checked}
-use Rattle.symbolic_mc.specs.declared.checking.Verdict.TheVariants.{Clean, Error}
-use Rattle.symbolic_mc.specs.Naming.{IsModuleOf}
-use Rattle.symbolic_mc.specs.Report.{error_report, clean_report, report_of}
-use Rattle.symbolic_mc.specs.Verdicts.{IsCounterexample}
-use Rattle.symbolic_mc.specs.Words.{request_of}
+use Rattle.symbolic_mc.specs.declared.answer.Answer.TheVariants.{Usage, ReadFault, TooLong, Missing, NotBuilt, WriteFault, Checked, NoCertificate, Rechecked}
+use Rattle.symbolic_mc.specs.Naming.{IsModuleOf, certificate_name}
+use Rattle.symbolic_mc.specs.Report.{recheck_report, report_of, status_of}
+use Rattle.symbolic_mc.specs.Verdicts.{IsChecked}
+use Rattle.symbolic_mc.specs.Words.{Command}
 
 -- the most bytes that a module may have: 4 MiB
 abbrev pub module_limit : ℕ
 module_limit = 4194304
+
+-- and a certificate: 256 MiB
+abbrev pub certificate_limit : ℕ
+certificate_limit = 268435456
 
 -- the bytes say this job, and no other
 pub record IsOnlyBooleanLayout (file : List ℕ) (job : Job) (bytes : List ℕ) : Type 0 where
   pub form : IsBooleanLayout file job bytes
   pub only : (other : Job) → IsBooleanLayout file other bytes → other ≡ job
 
--- ---- an error
+-- ---- a module that was checked
 
--- the report of a module's text: an execution of its job of at most so many steps, whose last state makes the
--- invariant FALSE, where no lower level errs
-pub record IsErrorReport (file : List ℕ) (longest : ℕ) (bytes report : List ℕ) : Type 0 where
-  pub job : Job
-  pub form : IsOnlyBooleanLayout file job bytes
-  pub level : ℕ
-  pub states : List State
-  pub within : level ≤ longest
-  pub counterexample : IsCounterexample job level states
-  pub least : (k : ℕ) → k < level → Errs job k → ⊥
-  pub written : report ≡ error_report (map (λ (d : Decl). d.name) job.names) level states
-
--- the report of an error of the module that the words name, by the bytes that the files hold
-pub record FindsError (words : List (String Global)) (held : Option Folder) (report : List ℕ) : Type 0 where
+-- the command names a file whose bytes, as they were handed out, say a job, and these are the verdict on it and its
+-- certificate
+pub record Checks (c : Command) (held : Option Folder) (verdict : Verdict) (sections : List Section) : Type 0 where
   pub file : List ℕ
   pub longest : ℕ
-  pub asked : request_of words ≡ Some (file, longest)
+  pub budget : Option ℕ
+  pub asked : c.0 ≡ Some (file, longest, budget)
   pub bytes : List ℕ
   pub handed : HandedOut held file module_limit bytes
-  pub error : IsErrorReport file longest bytes report
-
--- such a report was written
-abbrev pub WritesError : List (String Global) → Option Folder → Option (List ℕ) → Option (List ℕ) → Type 0
-WritesError words held old new = (report : List ℕ) × FindsError words held report × Appends old new report
-
--- ---- no error
-
--- the report of a module's text where no level up to the longest errs
-pub record IsCleanReport (file : List ℕ) (longest : ℕ) (bytes report : List ℕ) : Type 0 where
   pub job : Job
   pub form : IsOnlyBooleanLayout file job bytes
-  pub none : (k : ℕ) → k ≤ longest → Errs job k → ⊥
-  pub written : report ≡ clean_report longest
+  pub checked : IsChecked job longest budget verdict sections
 
--- the report of the module that the words name, by the bytes that the files hold
-pub record FindsNone (words : List (String Global)) (held : Option Folder) (report : List ℕ) : Type 0 where
-  pub file : List ℕ
-  pub longest : ℕ
-  pub asked : request_of words ≡ Some (file, longest)
-  pub bytes : List ℕ
-  pub handed : HandedOut held file module_limit bytes
-  pub clean : IsCleanReport file longest bytes report
+-- the certificate's file holds its text, and every other file is as before
+abbrev pub Saves : List ℕ → List Section → Option Folder → Option Folder → Type 0
+Saves file sections old new = Changes old new (certificate_name file) (λ before now. now ≡ Some (certificate_text sections))
 
--- such a report was written
-abbrev pub WritesClean : List (String Global) → Option Folder → Option (List ℕ) → Option (List ℕ) → Type 0
-WritesClean words held old new = (report : List ℕ) × FindsNone words held report × Appends old new report
-
--- ---- a refusal
-
--- there is no file of the name that the words give, or no job has its bytes as its text
-pub data IsRefusal (words : List (String Global)) (held : Option Folder) : Answer → Type 0 where
-  NoFile : (file name : List ℕ) (longest : ℕ) → request_of words ≡ Some (file, longest)
-      → Holds held file None → IsModuleOf file name → IsRefusal words held (Missing name)
-  NoForm : (file bytes : List ℕ) (longest : ℕ) → request_of words ≡ Some (file, longest)
-      → HandedOut held file module_limit bytes → ((job : Job) → IsBooleanLayout file job bytes → ⊥) → IsRefusal words held NotBuilt
-
--- its line was written
-abbrev pub WritesRefusal : List (String Global) → Option Folder → Option (List ℕ) → Option (List ℕ) → Type 0
-WritesRefusal words held old new = (answer : Answer) × IsRefusal words held answer × Appends old new (report_of answer)
-
--- ---- a fault of reading
-
--- the count of the files' faults rose, or the file is longer than a module may be
-pub data IsReadFault (words : List (String Global)) (held : Option Folder) (before now : ℕ) : Answer → Type 0 where
-  Failed : (file : List ℕ) (longest : ℕ) → request_of words ≡ Some (file, longest)
-      → Rose before now → IsReadFault words held before now (ReadFault file)
-  Longer : (file : List ℕ) (longest : ℕ) → request_of words ≡ Some (file, longest)
-      → IsLong held file module_limit → IsReadFault words held before now (TooLong file)
-
--- its line was written
-abbrev pub WritesReadFault : List (String Global) → Option Folder → ℕ → ℕ → Option (List ℕ) → Option (List ℕ) → Type 0
-WritesReadFault words held before now old new =
-    (answer : Answer) × IsReadFault words held before now answer × Appends old new (report_of answer)
+-- it is as before, or holds a prefix of that text
+abbrev pub SavesPart : List ℕ → List Section → Option Folder → Option Folder → Type 0
+SavesPart file sections old new = Changes old new (certificate_name file) (IsCut (certificate_text sections))
 
 -- ---- every answer
 
--- the answer to the words, by what the files hold and by their counts of faults before and after the read
-abbrev pub IsAnswer : List (String Global) → Option Folder → ℕ → ℕ → Answer → Type 0
-IsAnswer words held before now Usage = request_of words ≡ None
-IsAnswer words held before now (ReadFault file) = IsReadFault words held before now (ReadFault file)
-IsAnswer words held before now (TooLong file) = IsReadFault words held before now (TooLong file)
-IsAnswer words held before now (Missing name) = IsRefusal words held (Missing name)
-IsAnswer words held before now NotBuilt = IsRefusal words held NotBuilt
-IsAnswer words held before now (Checked names (Clean n)) = FindsNone words held (report_of (Checked names (Clean n)))
-IsAnswer words held before now (Checked names (Error n states)) = FindsError words held (report_of (Checked names (Error n states)))
+-- the command names a file, and how many bytes it may have
+abbrev pub Names : Command → List ℕ → ℕ → Type 0
+Names c file limit =
+    ((longest : ℕ) × (budget : Option ℕ) × (c.0 ≡ Some (file, longest, budget)) × (limit ≡ module_limit))
+    ⊎ ((c.1 ≡ Some file) × (limit ≡ certificate_limit))
 
--- the answer to the bytes of a file of this name
-abbrev pub IsFileAnswer : List ℕ → ℕ → List ℕ → Answer → Type 0
-IsFileAnswer file longest bytes Usage = ⊥
-IsFileAnswer file longest bytes (ReadFault name) = ⊥
-IsFileAnswer file longest bytes (TooLong name) = ⊥
-IsFileAnswer file longest bytes (Missing name) = ⊥
-IsFileAnswer file longest bytes NotBuilt = (job : Job) → IsBooleanLayout file job bytes → ⊥
-IsFileAnswer file longest bytes (Checked names (Clean n)) = IsCleanReport file longest bytes (report_of (Checked names (Clean n)))
-IsFileAnswer file longest bytes (Checked names (Error n states)) =
-    IsErrorReport file longest bytes (report_of (Checked names (Error n states)))
+-- why an answer is given, by what the files held before and hold now, and by their counts of faults
+pub data IsAnswer (c : Command) (old new : Option Folder) (before now : ℕ) : Answer → Type 0 where
+  -- there is no command
+  NoCommand : c.0 ≡ None → c.1 ≡ None → new ≡ old → IsAnswer c old new before now Usage
+  -- the count rose in the read
+  ReadFailed : (file : List ℕ) (limit : ℕ) → Names c file limit → Rose before now → new ≡ old
+      → IsAnswer c old new before now (ReadFault file)
+  -- the file is longer than it may be
+  IsTooLong : (file : List ℕ) (limit : ℕ) → Names c file limit → IsLong old file limit → new ≡ old
+      → IsAnswer c old new before now (TooLong file)
+  -- the files hold no such module
+  NoModule : (file name : List ℕ) (longest : ℕ) (budget : Option ℕ) → c.0 ≡ Some (file, longest, budget)
+      → Holds old file None → IsModuleOf file name → new ≡ old → IsAnswer c old new before now (Missing name)
+  -- no job has the bytes as its text
+  NotInLayout : (file bytes : List ℕ) (longest : ℕ) (budget : Option ℕ) → c.0 ≡ Some (file, longest, budget)
+      → HandedOut old file module_limit bytes → ((job : Job) → IsBooleanLayout file job bytes → ⊥) → new ≡ old
+      → IsAnswer c old new before now NotBuilt
+  -- the count rose while the certificate was written
+  WriteFailed : (verdict : Verdict) (sections : List Section) (k : Checks c old verdict sections) → Rose before now
+      → SavesPart k.file sections old new → IsAnswer c old new before now (WriteFault (certificate_name k.file))
+  -- the verdict on the module, whose certificate was written
+  Found : (verdict : Verdict) (sections : List Section) (k : Checks c old verdict sections)
+      → Saves k.file sections old new → IsAnswer c old new before now (Checked k.job.names k.job.files verdict)
+  -- the files hold no such certificate
+  NoFile : (cert : List ℕ) → c.1 ≡ Some cert → Holds old cert None → new ≡ old
+      → IsAnswer c old new before now NoCertificate
+  -- what the checker answers to the certificate's bytes
+  Reread : (cert bytes : List ℕ) (answer : Recheck) → c.1 ≡ Some cert
+      → HandedOut old cert certificate_limit bytes → IsRechecked bytes answer → new ≡ old
+      → IsAnswer c old new before now (Rechecked answer)
 
--- a prefix of the report of the answer was written
-abbrev pub WritesPart : List (String Global) → Option Folder → ℕ → ℕ → Option (List ℕ) → Option (List ℕ) → Type 0
-WritesPart words held before now old new =
-    (answer : Answer) × IsAnswer words held before now answer × WritesPrefix old new (report_of answer)
+-- an answer with this status and its cause, whose report was written
+pub record Tells (c : Command) (old new : Option Folder) (before now : ℕ) (was is : Option (List ℕ)) (status : ℕ) : Type 0 where
+  pub answer : Answer
+  pub cause : IsAnswer c old new before now answer
+  pub status_is : status ≡ status_of answer
+  pub written : Appends was is (report_of answer)
+
+-- of whose report a prefix was written
+pub record TellsPart (c : Command) (old new : Option Folder) (before now : ℕ) (was is : Option (List ℕ)) : Type 0 where
+  pub answer : Answer
+  pub cause : IsAnswer c old new before now answer
+  pub written : WritesPrefix was is (report_of answer)
+
+-- ---- the verdicts of a check
+
+-- an error of the module that the command names: its report, by what the bytes of its file say, and its certificate
+pub record WritesError (c : Command) (old new : Option Folder) (was is : Option (List ℕ)) : Type 0 where
+  pub level : ℕ
+  pub fault : Fault
+  pub trace : Trace
+  pub sections : List Section
+  pub checks : Checks c old (Error level fault trace) sections
+  pub saved : Saves checks.file sections old new
+  pub written : Appends was is (reports.report_of (Error level fault trace) checks.job.names checks.job.files)
+
+-- no error of it up to a level
+pub record WritesClean (c : Command) (old new : Option Folder) (was is : Option (List ℕ)) : Type 0 where
+  pub level : ℕ
+  pub sections : List Section
+  pub checks : Checks c old (Clean level) sections
+  pub saved : Saves checks.file sections old new
+  pub written : Appends was is (reports.report_of (Clean level) checks.job.names checks.job.files)
+
+-- a certificate that was accepted
+pub record WritesAccepted (c : Command) (old new : Option Folder) (was is : Option (List ℕ)) : Type 0 where
+  pub cert : List ℕ
+  pub asked : c.1 ≡ Some cert
+  pub bytes : List ℕ
+  pub handed : HandedOut old cert certificate_limit bytes
+  pub answer : Recheck
+  pub rechecked : IsRechecked bytes answer
+  pub files_stay : new ≡ old
+  pub written : Appends was is (recheck_report answer)
+
+-- ---- files
+
+-- no file changed; or the certificate of the module that the command names, which is as before or a prefix of one
+abbrev pub Touches : Command → Option Folder → Option Folder → Type 0
+Touches c old new =
+    (new ≡ old) ⊎ ((verdict : Verdict) × (sections : List Section) × (k : Checks c old verdict sections) × SavesPart k.file sections old new)
 
 -- ---- when which status comes
 
--- the words name a file that the files are told to hold, of at most so many bytes as a module may have, in the layout
-pub record AsksForBooleanLayout (words : List (String Global)) (held : Option Folder) : Type 0 where
+-- the command names a file that the files are told to hold, of at most so many bytes as a module may have, in the layout
+pub record AsksForBooleanLayout (c : Command) (held : Option Folder) : Type 0 where
   pub folder : Folder
   pub told : held ≡ Some folder
   pub file : List ℕ
   pub longest : ℕ
-  pub asked : request_of words ≡ Some (file, longest)
+  pub budget : Option ℕ
+  pub asked : c.0 ≡ Some (file, longest, budget)
   pub bytes : List ℕ
   pub there : file_at folder file ≡ Some bytes
   pub short : length bytes ≤ module_limit
   pub job : Job
   pub form : IsBooleanLayout file job bytes
 
+-- the command asks for a certificate which the files, as they are told, do not hold too long
+pub record AsksToRecheck (c : Command) (held : Option Folder) : Type 0 where
+  pub folder : Folder
+  pub told : held ≡ Some folder
+  pub cert : List ℕ
+  pub asked : c.1 ≡ Some cert
+  pub short : (bytes : List ℕ) → file_at folder cert ≡ Some bytes → length bytes ≤ certificate_limit
+
 -- a write failed, or memory ran out
 abbrev pub IsCutStatus : ℕ → Type 0
 IsCutStatus status = (status ≡ 41) ⊎ (status ≡ 50)
 
+-- a verdict on a module
+abbrev pub IsVerdictStatus : ℕ → Type 0
+IsVerdictStatus status = (status ≡ 0) ⊎ (status ≡ 12) ⊎ (status ≡ 21)
+
 abbrev pub IsStatus : ℕ → Type 0
-IsStatus status = (status ≡ 0) ⊎ (status ≡ 12) ⊎ (status ≡ 30) ⊎ (status ≡ 31) ⊎ (status ≡ 40) ⊎ IsCutStatus status
+IsStatus status = IsVerdictStatus status ⊎ (status ≡ 14) ⊎ (status ≡ 30) ⊎ (status ≡ 31) ⊎ (status ≡ 40) ⊎ IsCutStatus status

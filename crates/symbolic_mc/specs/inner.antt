@@ -1,7 +1,7 @@
+pub mod Asking
+pub mod Checking
 pub mod Boolean
-pub mod Index
 pub mod Layout
 pub mod Levels
 pub mod Reading
-pub mod Search
 pub mod Told

@@ -1,11 +1,12 @@
 // What the program answers: its status, and what it writes.
 ghost use Rattle.std.specs.Prelude.{◌≡◌, ◌++◌, codes, IfOk};
-ghost use Rattle.symbolic_mc.specs.Report.{status_of, report_of};
+ghost use Rattle.symbolic_mc.specs.Report.{status_of, report_of, verdict_status, recheck_status, recheck_report};
 
-use crate::checking::Verdict;
-use crate::report::{clean_report, error_report};
+use refutation_checker::Recheck;
 use std::alloc::{AllocError, Global};
+use tla_meaning::Decl;
 use tla_values::{List, Text};
+use trace_text::{Verdict, report_text};
 
 /// The answer to the words and to what the files hold.
 #[derive(Drop)]
@@ -14,14 +15,20 @@ pub(crate) enum Answer {
     Usage,
     /// The read of this file failed.
     ReadFault(Text),
-    /// This file is longer than a module may be.
+    /// This file is longer than it may be.
     TooLong(Text),
     /// There is no file for the module of this name.
     Missing(Text),
     /// The text is in no form that is read so far.
     NotBuilt,
-    /// The verdict on a module whose variables have these names.
-    Checked(List<Text>, Verdict),
+    /// The certificate of this name could not be written.
+    WriteFault(Text),
+    /// The verdict on a module with these names, of the files of these names.
+    Checked(List<Decl>, List<Text>, Verdict),
+    /// There is no file for the certificate.
+    NoCertificate,
+    /// What the checker says of a certificate.
+    Rechecked(Recheck),
 }
 
 impl Answer {
@@ -31,12 +38,12 @@ impl Answer {
     {
         match self {
             Answer::Usage => 31,
-            Answer::ReadFault(_) => 40,
-            Answer::TooLong(_) => 40,
-            Answer::Missing(_) => 30,
-            Answer::NotBuilt => 30,
-            Answer::Checked(_, Verdict::Clean(_)) => 0,
-            Answer::Checked(_, Verdict::Error(_, _)) => 12,
+            Answer::ReadFault(_) | Answer::TooLong(_) => 40,
+            Answer::WriteFault(_) => 41,
+            Answer::Missing(_) | Answer::NotBuilt => 30,
+            Answer::Checked(_, _, verdict) => verdict_status(verdict),
+            Answer::NoCertificate => 14,
+            Answer::Rechecked(answer) => recheck_status(answer),
         }
     }
 
@@ -51,12 +58,52 @@ impl Answer {
             ),
             Answer::ReadFault(file) => line(alloc, "read fault: ", file, "\n"),
             Answer::TooLong(file) => line(alloc, "file is too long: ", file, "\n"),
+            Answer::WriteFault(file) => line(alloc, "write fault: ", file, "\n"),
             Answer::Missing(name) => line(alloc, "refused: module ", name, " is missing\n"),
             Answer::NotBuilt => Vec::from_slice(alloc, b"refused: form is not built\n"),
-            Answer::Checked(_, Verdict::Clean(length)) => clean_report(alloc, *length),
-            Answer::Checked(names, Verdict::Error(level, states)) => {
-                error_report(alloc, *level, names.as_slice(), states.as_slice())
-            }
+            Answer::Checked(names, files, verdict) => report_text(alloc, verdict, names, files),
+            Answer::NoCertificate => Vec::from_slice(alloc, b"certificate refused: no file\n"),
+            Answer::Rechecked(answer) => recheck_report(alloc, answer),
+        }
+    }
+}
+
+fn verdict_status(verdict: &Verdict) -> u8
+    ensures { result ≡ verdict_status verdict.now }
+{
+    match verdict {
+        Verdict::Clean(_) | Verdict::Inductive => 0,
+        Verdict::Error(_, _, _) => 12,
+        Verdict::NotInductive(_, _) => 13,
+        Verdict::Overflow(_, _, _, _) => 20,
+        Verdict::Spent(_, _) => 21,
+    }
+}
+
+fn recheck_status(answer: &Recheck) -> u8
+    ensures { result ≡ recheck_status answer.now }
+{
+    match answer {
+        Recheck::Accepted(_, _) => 0,
+        Recheck::BadLine(_) | Recheck::BadStep(_, _) => 14,
+    }
+}
+
+fn recheck_report(alloc: Global, answer: &Recheck) -> Result<Vec<u8>, AllocError>
+    ensures { IfOk result (λ report. report.items ≡ recheck_report answer.now) }
+{
+    match answer {
+        Recheck::Accepted(refuted, left) => {
+            let line = format!(in alloc; "accepted: {refuted} refuted, {left} open\n")?;
+            Vec::from_slice(alloc, line.as_bytes())
+        }
+        Recheck::BadLine(n) => {
+            let line = format!(in alloc; "certificate refused: line {n}\n")?;
+            Vec::from_slice(alloc, line.as_bytes())
+        }
+        Recheck::BadStep(query, step) => {
+            let line = format!(in alloc; "certificate refused: query {query} step {step}\n")?;
+            Vec::from_slice(alloc, line.as_bytes())
         }
     }
 }

@@ -1,68 +1,196 @@
 // The levels in order, up to the first that errs.
-ghost use Rattle.std.specs.Prelude.{◌≡◌, ◌<◌, All, map, length, IfOk, IfSome, IfNone};
-ghost use Rattle.sat_formula.specs.Lit.{IsBelow};
-ghost use Rattle.tla_meaning.specs.BooleanLayout.{IsBooleanModule};
-ghost use Rattle.symbolic_mc.specs.inner.Boolean.{state_of};
-ghost use Rattle.symbolic_mc.specs.inner.Levels.{values_of};
-ghost use Rattle.symbolic_mc.specs.Verdicts.{Breaks, IsVerdict, NoError};
+ghost use Rattle.std.specs.Prelude.{◌≡◌, ◌+◌, ◌<◌, All, Bool, List as Items, ℕ, None, false, codes, map, length, unwrap_or, IfOk, IfSome, IfNone, OnOk};
+ghost use Rattle.std.specs.Bool.{OnTrue, OnFalse};
+ghost use Rattle.sat_formula.specs.Formula.{Satisfies};
+ghost use Rattle.sat_formula.specs.Lit.{lit_value, IsBelow};
+ghost use Rattle.tla_meaning.specs.BooleanLayout.{IsBooleanModule, job_of};
+ghost use Rattle.tla_meaning.specs.declared.questions.Query.TheVariants.{InvNotTrue as not_true, InvBig as inv_big};
+ghost use Rattle.trace_text.specs.declared.verdict.Fault.TheVariants.{InvFalse};
+ghost use Rattle.trace_text.specs.declared.verdict.Verdict.TheVariants.{Error, Spent};
+ghost use Rattle.trace_text.specs.declared.verdict.Where.TheVariants.{Level as at_level};
+ghost use Rattle.symbolic_mc.specs.Sections.{asked_below, asked_until};
+ghost use Rattle.symbolic_mc.specs.Verdicts.{IsChecked};
+ghost use Rattle.symbolic_mc.specs.States.{state_of};
+ghost use Rattle.symbolic_mc.specs.inner.Asking.{AddsRefuted, AddsOpen, HasRefuted, IsCutAtLevel};
+ghost use Rattle.symbolic_mc.specs.inner.Checking.{IsFound, NoError, never};
+ghost use Rattle.symbolic_mc.specs.inner.Levels.{values_of, IsLevel};
 
-use crate::encoding::{Level, conjunction, encode};
-use crate::search::search;
-use sat_formula::{Assignment, Lit, value};
+use crate::asking::{Journal, Question, Reply};
+use crate::encoding::Level;
+use crate::pieces::copied;
+use refutation_checker::{QueryName, Section};
+use sat_formula::{Assignment, Formula, Lit, value};
 use std::alloc::{AllocError, Global};
 use tla_meaning::{BooleanModule, State};
 use tla_values::{List, Value};
+use trace_text::{Fault, Trace, Verdict, Where};
 
-/// What was found.
+/// A verdict with its certificate.
 #[derive(Drop)]
-pub(crate) enum Verdict {
-    /// No error up to this level.
-    Clean(u32),
-    /// At this level the invariant is FALSE at the last of these states.
-    Error(u32, List<State>),
+pub(crate) struct Checked {
+    pub verdict: Verdict,
+    pub sections: Vec<Section>,
 }
 
-/// The verdict on the executions of at most so many steps.
+/// The verdict on the executions of at most so many steps, with at most so many conflicts where there is a budget.
 pub(crate) fn check(
     alloc: Global,
     source: &BooleanModule,
     longest: u32,
-) -> Result<Verdict, AllocError>
+    budget: Option<u64>,
+) -> Result<Checked, AllocError>
     requires { IsBooleanModule source.now }
-    ensures { IfOk result (IsVerdict source.now longest) }
+    ensures { IfOk result (λ c. (file : Items ℕ) → IsChecked (job_of file source.now) longest budget c.verdict c.sections.items) }
 {
-    for steps in 0..=longest {
-        if let Some(states) = counterexample(alloc, source, steps)? {
-            return Ok(Verdict::Error(steps, states));
+    let mut level = Level::new(alloc)?;
+    let mut journal = Journal::new(alloc, budget);
+    for steps in 0..longest as u64 + 1 {
+        let found = check_level(alloc, source, steps as u32, &mut level, &mut journal)?;
+        if let Some(verdict) = found {
+            return Ok(Checked {
+                verdict,
+                sections: journal.sections,
+            });
         }
     }
-    Ok(Verdict::Clean(longest))
+    Ok(Checked {
+        verdict: Verdict::Clean(longest),
+        sections: journal.sections,
+    })
 }
 
-// An execution of so many steps at whose last state the invariant is FALSE, if there is one.
-fn counterexample(
+// Asks the questions of one level: what is found at it, if it is an error or the budget is spent.
+fn check_level(
     alloc: Global,
     source: &BooleanModule,
     steps: u32,
-) -> Result<Option<List<State>>, AllocError>
-    requires { IsBooleanModule source.now }
-    ensures found { IfOk result (λ found. IfSome found (Breaks source.now steps)) }
-    ensures none { IfOk result (λ found. IfNone found (NoError source.now steps)) }
+    level: &mut Level,
+    journal: &mut Journal,
+) -> Result<Option<Verdict>, AllocError>
+    requires source { IsBooleanModule source.now }
+    requires level { IsLevel source.now level.old.formula level.old.states.items }
+    requires size { length level.old.states.items ≡ steps }
+    requires refuted { HasRefuted source.now (asked_below steps) journal.old }
+    ensures found { IfOk result (λ found. IfSome found (IsFound source.now steps journal.new)) }
+    ensures calm { IfOk result (λ found. IfNone found (NoError source.now steps)) }
+    ensures refuted { IfOk result (λ found. IfNone found (HasRefuted source.now (asked_below (steps + 1)) journal.new)) }
+    ensures level { IfOk result (λ found. IfNone found (IsLevel source.now level.new.formula level.new.states.items)) }
+    ensures size { IfOk result (λ found. IfNone found (length level.new.states.items ≡ steps + 1)) }
+    ensures budget { OnOk result (journal.new.budget ≡ journal.old.budget) }
 {
-    let Level {
-        mut formula,
-        states,
-    } = encode(alloc, source, steps)?;
-    let last = states.as_slice()[steps as usize].as_slice();
-    let holds = conjunction(alloc, &mut formula, source.inv.as_slice(), last, last)?;
-    let question = formula.with_unit(alloc, holds.negated())?;
-    match search(alloc, &question)? {
-        None => Ok(None),
-        Some(assignment) => {
-            let states = decode(alloc, states.as_slice(), &assignment)?;
-            Ok(Some(states))
+    if !ask_of_step(alloc, source, steps, level, journal)? {
+        return Ok(Some(spent(journal, steps)));
+    }
+    level.extend(alloc, source)?;
+    if let Some(verdict) = ask_of_invariant(alloc, source, steps, level, journal)? {
+        return Ok(Some(verdict));
+    }
+    if !ask_never(alloc, &level.formula, steps, QueryName::InvBig, journal)? {
+        return Ok(Some(spent(journal, steps)));
+    }
+    Ok(None)
+}
+
+// Asks whether a step of the level is Wrong or Big. Whether there were answers; they are no.
+fn ask_of_step(
+    alloc: Global,
+    source: &BooleanModule,
+    steps: u32,
+    level: &Level,
+    journal: &mut Journal,
+) -> Result<bool, AllocError>
+    requires source { IsBooleanModule source.now }
+    requires level { IsLevel source.now level.now.formula level.now.states.items }
+    requires size { length level.now.states.items ≡ steps }
+    requires refuted { HasRefuted source.now (asked_below steps) journal.old }
+    ensures refuted { IfOk result (λ on. OnTrue on (HasRefuted source.now (asked_until steps not_true) journal.new)) }
+    ensures spent { IfOk result (λ on. OnFalse on (IsCutAtLevel source.now steps journal.new)) }
+    ensures budget { OnOk result (journal.new.budget ≡ journal.old.budget) }
+{
+    if !ask_never(alloc, &level.formula, steps, QueryName::StepWrong, journal)? {
+        return Ok(false);
+    }
+    let on = ask_never(alloc, &level.formula, steps, QueryName::StepBig, journal)?;
+    Ok(on)
+}
+
+// Asks whether the invariant is FALSE at the end of an execution: what is found, if it is or the budget is spent.
+fn ask_of_invariant(
+    alloc: Global,
+    source: &BooleanModule,
+    steps: u32,
+    level: &mut Level,
+    journal: &mut Journal,
+) -> Result<Option<Verdict>, AllocError>
+    requires source { IsBooleanModule source.now }
+    requires level { IsLevel source.now level.old.formula level.old.states.items }
+    requires size { length level.old.states.items ≡ steps + 1 }
+    requires refuted { HasRefuted source.now (asked_until steps not_true) journal.old }
+    ensures found { IfOk result (λ found. IfSome found (IsFound source.now steps journal.new)) }
+    ensures calm { IfOk result (λ found. IfNone found (NoError source.now steps)) }
+    ensures refuted { IfOk result (λ found. IfNone found (HasRefuted source.now (asked_until steps inv_big) journal.new)) }
+    ensures level { OnOk result (IsLevel source.now level.new.formula level.new.states.items) }
+    ensures states { OnOk result (level.new.states ≡ level.old.states) }
+    ensures budget { OnOk result (journal.new.budget ≡ journal.old.budget) }
+{
+    let literal = level.broken(alloc, source, steps as usize)?;
+    let question = Question {
+        level: steps,
+        query: QueryName::InvNotTrue,
+        literal,
+    };
+    match journal.ask(alloc, &level.formula, question)? {
+        Reply::Refuted => Ok(None),
+        Reply::Spent => Ok(Some(spent(journal, steps))),
+        Reply::Holds(assignment) => {
+            let states = decode(alloc, level.states.as_slice(), &assignment)?;
+            let verdict = error(alloc, steps, states)?;
+            Ok(Some(verdict))
         }
     }
+}
+
+// Asks a question that never holds. Whether there was an answer.
+fn ask_never(
+    alloc: Global,
+    formula: &Formula,
+    steps: u32,
+    query: QueryName,
+    journal: &mut Journal,
+) -> Result<bool, AllocError>
+    ensures refuted { IfOk result (λ on. OnTrue on (AddsRefuted formula.now (never steps query) journal.old journal.new)) }
+    ensures spent { IfOk result (λ on. OnFalse on (AddsOpen formula.now (never steps query) journal.old journal.new)) }
+    ensures forced { (a : Items Bool) → Satisfies a formula.now → lit_value (never steps query).literal a ≡ false }
+{
+    let question = Question {
+        level: steps,
+        query,
+        literal: formula.top().negated(),
+    };
+    match journal.ask(alloc, formula, question)? {
+        Reply::Refuted => Ok(true),
+        Reply::Spent => Ok(false),
+        Reply::Holds(_) => unreachable!(),
+    }
+}
+
+// The budget is spent at this level.
+fn spent(journal: &Journal, steps: u32) -> Verdict
+    ensures { result ≡ Spent (unwrap_or journal.now.budget 0) (at_level steps) }
+{
+    Verdict::Spent(journal.budget.unwrap_or(0), Where::Level(steps))
+}
+
+// The invariant is FALSE at the last of these states.
+fn error(alloc: Global, steps: u32, states: List<State>) -> Result<Verdict, AllocError>
+    ensures { IfOk result (λ v. v ≡ Error steps (InvFalse (codes "Inv")) (record { states = states; attempt = None })) }
+{
+    let name = copied(alloc, b"Inv")?;
+    let trace = Trace {
+        states,
+        attempt: None,
+    };
+    Ok(Verdict::Error(steps, Fault::InvFalse(name), trace))
 }
 
 // The states that the literals stand for.

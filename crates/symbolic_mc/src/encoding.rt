@@ -1,47 +1,113 @@
 // A level as a formula: the literals of its states, and what an execution asks of them.
-ghost use Rattle.std.specs.Prelude.{◌≡◌, ◌+◌, ◌<◌, ◌≤◌, All, Bool, List, ℕ, true, not, map, length, ◌++◌, slice_index_or, if◌then◌else◌, ◌&&◌, false, Some, IfOk, OnOk};
+ghost use Rattle.std.specs.Prelude.{◌≡◌, ◌+◌, [], ◌<◌, ◌≤◌, All, Bool, List, ℕ, true, not, map, length, ◌++◌, slice_index_or, if◌then◌else◌, ◌&&◌, false, Some, IfOk, OnOk};
 ghost use Rattle.std.specs.List.{list_all, list_any};
 ghost use Rattle.sat_formula.specs.Formula.{Grows, HasValue, Satisfies};
 ghost use Rattle.sat_formula.specs.Lit.{lit_value, IsBelow};
 ghost use Rattle.tla_meaning.specs.BooleanLayout.{IsBooleanModule};
 ghost use Rattle.symbolic_mc.specs.inner.Boolean.{allows, holds_at, all_hold, some_holds, init_holds, next_holds, SpeakOf};
-ghost use Rattle.symbolic_mc.specs.inner.Levels.{values_of, IsCode, IsLevel, IsReached};
+ghost use Rattle.symbolic_mc.specs.inner.Levels.{values_of, IsBroken, IsCode, IsLevel, IsReached};
+ghost use Rattle.tla_meaning.specs.declared.boolean.BooleanModule.{BooleanModule as Source};
 
 use sat_formula::{Formula, Lit};
 use std::alloc::{AllocError, Global};
 use tla_meaning::{BooleanModule, Conjunct};
 use tla_values::List;
 
-/// The formula of one level. The assignments that satisfy it are the executions of its length.
+/// The executions of so many steps as a formula: those are the assignments that satisfy it. Before it has a state, it
+/// is a formula of no execution.
 #[derive(Drop)]
 pub(crate) struct Level {
     pub formula: Formula,
     /// For each state, first to last, the literal of each variable.
-    pub states: List<List<Lit>>,
+    pub states: Vec<List<Lit>>,
 }
 
-/// The formula of the executions of so many steps.
-pub(crate) fn encode(alloc: Global, source: &BooleanModule, steps: u32) -> Result<Level, AllocError>
-    requires { IsBooleanModule source.now }
-    ensures level { IfOk result (λ level. IsLevel source.now level.formula level.states) }
-    ensures steps { IfOk result (λ level. length level.states ≡ steps + 1) }
-{
-    let mut formula = Formula::new(alloc)?;
-    let mut states = Vec::new(alloc);
-    states.push(start(alloc, &mut formula, source)?)?;
-    for step in 0..steps {
+impl Level {
+    /// A level without states.
+    pub fn new(alloc: Global) -> Result<Level, AllocError>
+        ensures empty { IfOk result (λ level. level.states.items ≡ []) }
+        ensures level { IfOk result (λ level. (m : Source) → IsLevel m level.formula level.states.items) }
+    {
+        let formula = Formula::new(alloc)?;
+        Ok(Level {
+            formula,
+            states: Vec::new(alloc),
+        })
+    }
+
+    /// Adds a state: that of a start, or one to which Next leads from the last.
+    pub fn extend(&mut self, alloc: Global, source: &BooleanModule) -> Result<(), AllocError>
+        requires source { IsBooleanModule source.now }
+        requires level { IsLevel source.now self.old.formula self.old.states.items }
+        ensures level { OnOk result (IsLevel source.now self.new.formula self.new.states.items) }
+        ensures longer { OnOk result (length self.new.states.items ≡ length self.old.states.items + 1) }
+    {
+        match self.states.len() {
+            0 => self.begin(alloc, source),
+            count => self.go_on(alloc, source, count - 1),
+        }
+    }
+
+    fn begin(&mut self, alloc: Global, source: &BooleanModule) -> Result<(), AllocError>
+        requires source { IsBooleanModule source.now }
+        requires level { IsLevel source.now self.old.formula self.old.states.items }
+        requires none { length self.old.states.items ≡ 0 }
+        ensures level { OnOk result (IsLevel source.now self.new.formula self.new.states.items) }
+        ensures longer { OnOk result (length self.new.states.items ≡ length self.old.states.items + 1) }
+    {
+        let state = start(alloc, &mut self.formula, source)?;
+        self.states.push(state)?;
+        Ok(())
+    }
+
+    // Behind the state with this number, which is the last.
+    fn go_on(
+        &mut self,
+        alloc: Global,
+        source: &BooleanModule,
+        last: usize,
+    ) -> Result<(), AllocError>
+        requires source { IsBooleanModule source.now }
+        requires level { IsLevel source.now self.old.formula self.old.states.items }
+        requires last { length self.old.states.items ≡ last + 1 }
+        ensures level { OnOk result (IsLevel source.now self.new.formula self.new.states.items) }
+        ensures longer { OnOk result (length self.new.states.items ≡ length self.old.states.items + 1) }
+    {
         let next = follow(
             alloc,
-            &mut formula,
+            &mut self.formula,
             source,
-            states[step as usize].as_slice(),
+            self.states[last].as_slice(),
         )?;
-        states.push(next)?;
+        self.states.push(next)?;
+        Ok(())
     }
-    Ok(Level {
-        formula,
-        states: List::from_vec(states),
-    })
+
+    /// A literal that is true exactly where the invariant is FALSE at the last state.
+    #[tactic(auto, using(sat_formula::proofs::Extension::gates))]
+    pub fn broken(
+        &mut self,
+        alloc: Global,
+        source: &BooleanModule,
+        last: usize,
+    ) -> Result<Lit, AllocError>
+        requires source { IsBooleanModule source.now }
+        requires level { IsLevel source.now self.old.formula self.old.states.items }
+        requires last { length self.old.states.items ≡ last + 1 }
+        ensures level { OnOk result (IsLevel source.now self.new.formula self.new.states.items) }
+        ensures states { self.new.states ≡ self.old.states }
+        ensures value { IfOk result (λ l. IsBroken source.now self.new.formula self.new.states.items last l) }
+    {
+        let state = self.states[last].as_slice();
+        let holds = conjunction(
+            alloc,
+            &mut self.formula,
+            source.inv.as_slice(),
+            state,
+            state,
+        )?;
+        Ok(holds.negated())
+    }
 }
 
 // A state at which Init is TRUE.
@@ -118,9 +184,9 @@ fn some_branch(
     Ok(some)
 }
 
-/// A literal that is true exactly where the conjuncts are.
+// A literal that is true exactly where the conjuncts are.
 #[tactic(auto, using(sat_formula::proofs::Extension::gates))]
-pub(crate) fn conjunction(
+fn conjunction(
     alloc: Global,
     formula: &mut Formula,
     conjuncts: &[Conjunct],

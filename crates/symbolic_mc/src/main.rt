@@ -8,15 +8,15 @@ use std::process::ExitCode;
 use tool_outside::{HostFiles, HostSink};
 
 mod answer;
+mod asking;
 mod checking;
+mod declarations;
 mod encoding;
-mod index;
 mod lines;
 mod naming;
 mod pieces;
 mod reader;
-mod report;
-mod search;
+mod saving;
 mod shape;
 mod top;
 mod words;

@@ -1,8 +1,9 @@
-// The names of files and those of the modules in them.
-ghost use Rattle.std.specs.Prelude.{◌≡◌, ◌↔◌, ◌++◌, codes, IfSome, IfNone, IsTrue};
-ghost use Rattle.tla_values.specs.FileNames.{without_folder};
-ghost use Rattle.symbolic_mc.specs.Naming.{EndsNot, IsModuleOf};
+// The names of files, of the modules in them and of their certificates.
+ghost use Rattle.std.specs.Prelude.{◌≡◌, ◌↔◌, ◌++◌, codes, string_bytes, IfOk, IfSome, IfNone, IsTrue};
+ghost use Rattle.tla_values.specs.FileNames.{without_ending, without_folder};
+ghost use Rattle.symbolic_mc.specs.Naming.{EndsNot, IsModuleOf, certificate_name};
 
+use std::alloc::{AllocError, Global};
 use tla_values::without_folder;
 
 /// Whether the file, without its folder, is this name and `.tla`.
@@ -23,6 +24,25 @@ pub(crate) fn module_of(file: &str) -> &[u8]
     match stem(name) {
         Some(stem) => stem,
         None => name,
+    }
+}
+
+/// The name of the certificate of a module's file.
+pub(crate) fn certificate_of(alloc: Global, file: &str) -> Result<String, AllocError>
+    ensures { IfOk result (λ name. string_bytes name ≡ certificate_name file.now) }
+{
+    let stem = without_ending(file);
+    let name = format!(in alloc; "{stem}.cert")?;
+    Ok(name)
+}
+
+// The name without `.tla` at its end.
+fn without_ending(file: &str) -> &str
+    ensures { result.now ≡ without_ending file.now }
+{
+    match file.strip_suffix(".tla") {
+        Some(stem) => stem,
+        None => file,
     }
 }
 

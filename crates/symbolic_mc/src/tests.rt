@@ -1,5 +1,5 @@
 use crate::run;
-use std::alloc::Global;
+use std::alloc::{AllocError, Global};
 use std::process::Abort;
 use std::test::Fail;
 use tla_values::List;
@@ -59,6 +59,33 @@ VARIABLES
 Init == x = FALSE /\\ y \\in BOOLEAN
 Next == \\/ y = FALSE /\\ y = TRUE /\\ x' = TRUE /\\ y' \\in BOOLEAN
 Inv == x = FALSE
+====
+";
+
+// q becomes whether a and b differ, and r becomes TRUE where it is not that: never, and the solver must try values of a
+// and of b to say so.
+const CROSSED: &str = "---- MODULE Toggle ----
+VARIABLES
+  \\* @type: Bool;
+  a,
+  \\* @type: Bool;
+  b,
+  \\* @type: Bool;
+  p,
+  \\* @type: Bool;
+  q,
+  \\* @type: Bool;
+  r
+Init == a \\in BOOLEAN /\\ b \\in BOOLEAN /\\ p = FALSE /\\ q = FALSE /\\ r = FALSE
+Next == \\/ a = TRUE /\\ b = TRUE /\\ p = FALSE /\\ a' = TRUE /\\ b' = TRUE /\\ p' = TRUE /\\ q' = FALSE /\\ r' = FALSE
+        \\/ a = TRUE /\\ b = FALSE /\\ p = FALSE /\\ a' = TRUE /\\ b' = FALSE /\\ p' = TRUE /\\ q' = TRUE /\\ r' = FALSE
+        \\/ a = FALSE /\\ b = TRUE /\\ p = FALSE /\\ a' = FALSE /\\ b' = TRUE /\\ p' = TRUE /\\ q' = TRUE /\\ r' = FALSE
+        \\/ a = FALSE /\\ b = FALSE /\\ p = FALSE /\\ a' = FALSE /\\ b' = FALSE /\\ p' = TRUE /\\ q' = FALSE /\\ r' = FALSE
+        \\/ a = TRUE /\\ b = TRUE /\\ p = TRUE /\\ q = TRUE /\\ a' = TRUE /\\ b' = TRUE /\\ p' = TRUE /\\ q' = TRUE /\\ r' = TRUE
+        \\/ a = TRUE /\\ b = FALSE /\\ p = TRUE /\\ q = FALSE /\\ a' = TRUE /\\ b' = FALSE /\\ p' = TRUE /\\ q' = FALSE /\\ r' = TRUE
+        \\/ a = FALSE /\\ b = TRUE /\\ p = TRUE /\\ q = FALSE /\\ a' = FALSE /\\ b' = TRUE /\\ p' = TRUE /\\ q' = FALSE /\\ r' = TRUE
+        \\/ a = FALSE /\\ b = FALSE /\\ p = TRUE /\\ q = TRUE /\\ a' = FALSE /\\ b' = FALSE /\\ p' = TRUE /\\ q' = TRUE /\\ r' = TRUE
+Inv == r = FALSE
 ====
 ";
 
@@ -225,11 +252,7 @@ fn answers(
     let mut files = MemoryFiles::new(alloc, List::from_vec(vec![in alloc; file_fails]?));
     files.put("Toggle.tla", bytes.as_bytes())?;
     let mut out = MemorySink::new(alloc, List::from_vec(vec![in alloc; sink_fails]?));
-    let mut owned = Vec::new(alloc);
-    for word in words {
-        owned.push(String::from_str(alloc, word)?)?;
-    }
-    let status = run(alloc, &owned, &mut files, &mut out);
+    let status = run(alloc, &owned(alloc, words)?, &mut files, &mut out);
     Ok((status, out.bytes().to_vec(alloc)?))
 }
 
@@ -271,11 +294,142 @@ fn refusals_have_their_status_and_their_bytes(rt: HostRuntime) -> Result<(), Fai
     Ok(())
 }
 
-// The file is read once, so that a fault at a later call of the files is not met.
+// Behind the read come the create of the certificate, its first line and its six sections.
 #[test]
-fn the_file_is_read_once(rt: HostRuntime) -> Result<(), Fail> {
+fn each_call_of_the_files_that_fails_is_told(rt: HostRuntime) -> Result<(), Fail> {
     let toggle = &["check", "Toggle.tla", "1"];
-    agrees(&rt, toggle, TOGGLE, (1, NEVER), 12, TOGGLE_REPORT)
+    let fault = "write fault: Toggle.cert\n";
+    for call in 1..9 {
+        agrees(&rt, toggle, TOGGLE, (call, NEVER), 41, fault)?;
+    }
+    agrees(&rt, toggle, TOGGLE, (9, NEVER), 12, TOGGLE_REPORT)
+}
+
+// What the second command writes over the files that the first one left.
+fn answers_after(
+    alloc: Global,
+    first: &[&str],
+    second: &[&str],
+    name: &str,
+    bytes: &str,
+) -> Result<(u8, Vec<u8>), Fail> {
+    let mut files = MemoryFiles::new(alloc, List::new(alloc));
+    files.put(name, bytes.as_bytes())?;
+    let mut ignored = MemorySink::new(alloc, List::new(alloc));
+    let _ = run(alloc, &owned(alloc, first)?, &mut files, &mut ignored);
+    let mut out = MemorySink::new(alloc, List::new(alloc));
+    let status = run(alloc, &owned(alloc, second)?, &mut files, &mut out);
+    Ok((status, out.bytes().to_vec(alloc)?))
+}
+
+fn owned(alloc: Global, words: &[&str]) -> Result<Vec<String>, AllocError> {
+    let mut owned = Vec::new(alloc);
+    for word in words {
+        owned.push(String::from_str(alloc, word)?)?;
+    }
+    Ok(owned)
+}
+
+#[test]
+fn the_certificate_of_a_verdict_is_accepted(rt: HostRuntime) -> Result<(), Fail> {
+    let recheck = &["recheck", "Toggle.cert"];
+    for (words, text, status, line) in [
+        (
+            &["check", "Toggle.tla", "1"],
+            TOGGLE,
+            0,
+            "accepted: 6 refuted, 0 open\n",
+        ),
+        (
+            &["check", "Toggle.tla", "0"],
+            TOGGLE,
+            0,
+            "accepted: 4 refuted, 0 open\n",
+        ),
+        (
+            &["check", "Toggle.tla", "2"],
+            CROSSED,
+            0,
+            "accepted: 12 refuted, 0 open\n",
+        ),
+        (
+            &["check", "Toggle.txt", "2"],
+            TOGGLE,
+            14,
+            "certificate refused: no file\n",
+        ),
+    ] {
+        let (answered, out) = answers_after(rt.alloc(), words, recheck, "Toggle.tla", text)?;
+        assert_eq!(rt; answered, status, "{line}");
+        assert_eq!(rt; out.as_slice(), line.as_bytes());
+    }
+    Ok(())
+}
+
+// A certificate of two variables as the format's description has it, and with one line changed or cut.
+#[test]
+fn certificates_are_accepted_or_refused_by_their_bytes(rt: HostRuntime) -> Result<(), Fail> {
+    let head =
+        "tla-refutation 1\nquery 0 inv-false\np cnf 2 4\n1 2 0\n-1 2 0\n1 -2 0\n-1 -2 0\nlog\n";
+    for (steps, status, line) in [
+        (
+            "5 2 0 1 2 0\n6 0 5 3 4 0\nend\n",
+            0,
+            "accepted: 1 refuted, 0 open\n",
+        ),
+        (
+            "5 -2 0 1 2 0\n6 0 5 3 4 0\nend\n",
+            14,
+            "certificate refused: query 1 step 5\n",
+        ),
+        (
+            "5 2 0 1 2 0\n6 0 3 5 3 4 0\nend\n",
+            14,
+            "certificate refused: query 1 step 6\n",
+        ),
+        ("5 2 0 1 2 0\n", 14, "certificate refused: line 10\n"),
+        ("5 2 0 1 2 0\nopen\n", 0, "accepted: 0 refuted, 1 open\n"),
+    ] {
+        let mut text = String::from_str(rt.alloc(), head)?;
+        text.push_str(steps)?;
+        let recheck = &["recheck", "A.cert"];
+        let (answered, out) = answers_after(rt.alloc(), &[], recheck, "A.cert", &text)?;
+        assert_eq!(rt; answered, status, "{line}");
+        assert_eq!(rt; out.as_slice(), line.as_bytes());
+    }
+    Ok(())
+}
+
+// With a budget the check ends at the level that needs more, with an open section.
+#[test]
+fn a_budget_of_conflicts_is_spent(rt: HostRuntime) -> Result<(), Fail> {
+    let spent = &["check", "Toggle.tla", "2", "1"];
+    let line = "unknown: conflict budget 1 spent at level 2\n";
+    agrees(&rt, spent, CROSSED, CALM, 21, line)?;
+    agrees(
+        &rt,
+        &["check", "Toggle.tla", "2", "1000"],
+        CROSSED,
+        CALM,
+        0,
+        "no error to 2\n",
+    )?;
+    agrees(
+        &rt,
+        &["check", "Toggle.tla", "1", "1"],
+        TOGGLE,
+        CALM,
+        12,
+        TOGGLE_REPORT,
+    )?;
+    let recheck = &["recheck", "Toggle.cert"];
+    let (answered, out) = answers_after(rt.alloc(), spent, recheck, "Toggle.tla", CROSSED)?;
+    assert_eq!(rt; answered, 0);
+    assert_eq!(rt;
+        out.as_slice(),
+        b"accepted: 10 refuted, 1 open\n".as_slice()
+    );
+    Ok(())
 }
 
 // Where the write of a line fails, exactly the lines before it were written.
@@ -298,7 +452,9 @@ fn each_line_is_a_write_of_its_own(rt: HostRuntime) -> Result<(), Fail> {
 
 #[test]
 fn lengths_of_every_size_have_their_answer(rt: HostRuntime) -> Result<(), Fail> {
-    for length in ["2", "13", "100", "1000"] {
+    let longest = &["check", "Toggle.tla", "1000"];
+    agrees(&rt, longest, TOGGLE, CALM, 12, TOGGLE_REPORT)?;
+    for length in ["2", "13", "60"] {
         let clean = format!(in rt.alloc(); "no error to {length}\n")?;
         agrees(
             &rt,
@@ -330,7 +486,7 @@ fn faults_have_their_status_and_their_bytes(rt: HostRuntime) -> Result<(), Fail>
 
 #[test]
 fn words_of_another_form_give_the_usage(rt: HostRuntime) -> Result<(), Fail> {
-    let commands: [&[&str]; 8] = [
+    let commands: [&[&str]; 12] = [
         &[],
         &["check"],
         &["check", "Toggle.tla"],
@@ -338,7 +494,11 @@ fn words_of_another_form_give_the_usage(rt: HostRuntime) -> Result<(), Fail> {
         &["check", "Toggle.tla", "-1"],
         &["check", "Toggle.tla", "1x"],
         &["check", "Toggle.tla", ""],
-        &["check", "Toggle.tla", "1", "1"],
+        &["check", "Toggle.tla", "1", "0"],
+        &["check", "Toggle.tla", "1", "1000000001"],
+        &["check", "Toggle.tla", "1", "1", "1"],
+        &["recheck"],
+        &["recheck", "Toggle.cert", "1"],
     ];
     for words in commands {
         agrees(&rt, words, TOGGLE, CALM, 31, USAGE)?;
@@ -346,7 +506,7 @@ fn words_of_another_form_give_the_usage(rt: HostRuntime) -> Result<(), Fail> {
     agrees(
         &rt,
         &["check", "Toggle.tla", "1000"],
-        STUCK,
+        TOGGLE,
         (NEVER, 0),
         41,
         "",

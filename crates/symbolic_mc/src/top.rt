@@ -1,51 +1,61 @@
-// The top call: words, module, verdict, report.
-ghost use Rattle.std.specs.Prelude.{◌≡◌, ◌⊎◌, ◌<◌, None, IfOk};
-ghost use Rattle.std.specs.Io.KnownBytes.{Appends};
-ghost use Rattle.tool_outside.specs.Causes.{Stayed, WritesPrefix};
+// The top call: words, module or certificate, verdict, certificate file, report.
+ghost use Rattle.std.specs.Prelude.{◌≡◌, ◌⊎◌, ◌<◌, ℕ, List as Items, Option, None, Some, IfOk};
+ghost use Rattle.tool_outside.specs.Causes.{HandedOut, Stayed, WritesPrefix};
 ghost use Rattle.tool_outside.specs.Outside.{Rose};
-ghost use Rattle.symbolic_mc.specs.declared.answer.Answer.TheVariants.{Usage};
-ghost use Rattle.symbolic_mc.specs.Report.{report_of, status_of, memory_line};
-ghost use Rattle.symbolic_mc.specs.inner.Told.{IsTold};
-ghost use Rattle.symbolic_mc.specs.Top.{WritesError, WritesClean, WritesRefusal, WritesReadFault, WritesPart, IsAnswer, IsFileAnswer, AsksForBooleanLayout, IsStatus, IsCutStatus};
-ghost use Rattle.symbolic_mc.specs.Words.{request_of};
+ghost use Rattle.tla_meaning.specs.BooleanLayout.{IsBooleanModule};
+ghost use Rattle.symbolic_mc.specs.Report.{memory_line};
+ghost use Rattle.symbolic_mc.specs.inner.Told.{IsTold, IsModuleRead, IsReadFault, IsCalm, requests};
+ghost use Rattle.symbolic_mc.specs.Top.{module_limit, WritesError, WritesClean, WritesAccepted, Tells, TellsPart, Touches, IsAnswer, AsksForBooleanLayout, AsksToRecheck, IsStatus, IsVerdictStatus, IsCutStatus};
+ghost use Rattle.symbolic_mc.specs.Words.{command_of, request_of, recheck_of};
 
 use crate::answer::Answer;
 use crate::checking::check;
+use crate::declarations::{declarations, one_text};
 use crate::lines::write_lines;
-use crate::naming::{has_name, module_of};
+use crate::naming::{certificate_of, has_name, module_of};
 use crate::pieces::{Early, copied};
 use crate::reader::read_module;
-use crate::words::{Request, requested};
+use crate::saving::save;
+use crate::words::{Request, recheck_requested, requested};
+use refutation_checker::recheck;
 use std::alloc::{AllocError, Global};
+use tla_meaning::BooleanModule;
 use tool_outside::{FileFail, Files, Sink, SinkFail};
 
 /// The most bytes that a module may have.
-const LIMIT: u64 = 4_194_304;
+const MODULE_LIMIT: u64 = 4_194_304;
 
-/// Does all that the program does: takes the words after its name, reads the module that they name, checks it, writes
-/// the report to the sink, and answers the status of the program: 0 where no level errs, 12 where one does, 30 where
-/// the module is refused, 31 where the words are no command, 40 where the read failed or the file is too long, 41
-/// where a write failed, and 50 for want of memory. No file is changed.
+/// The most bytes that a certificate may have.
+const CERTIFICATE_LIMIT: u64 = 268_435_456;
+
+/// Does all that the program does: takes the words after its name, reads the module or the certificate that they name,
+/// checks it, writes the certificate of a verdict to its file and the report to the sink, and answers the status of
+/// the program: 0 where no level errs or the certificate is accepted, 12 where a level errs, 14 where the certificate
+/// is refused, 21 where the conflicts are spent, 30 where the module is refused, 31 where the words are no command, 40
+/// where a read failed or a file is too long, 41 where a write failed, and 50 for want of memory. No file is changed
+/// but the certificate's.
 pub fn run<F: Files, K: Sink>(alloc: Global, words: &[String], files: &mut F, out: &mut K) -> u8
-    ensures error { result ≡ 12 → WritesError words.now (F.held files.old) (K.written out.old) (K.written out.new) }
-    ensures clean { result ≡ 0 → WritesClean words.now (F.held files.old) (K.written out.old) (K.written out.new) }
-    ensures refused { result ≡ 30 → WritesRefusal words.now (F.held files.old) (K.written out.old) (K.written out.new) }
-    ensures no_command { result ≡ 31 → (request_of words.now ≡ None)
-        × Appends (K.written out.old) (K.written out.new) (report_of Usage) }
-    ensures unread { result ≡ 40 → WritesReadFault words.now (F.held files.old) (F.faults files.old) (F.faults files.new)
-        (K.written out.old) (K.written out.new) }
-    ensures unwritten { result ≡ 41 → Rose (K.faults out.old) (K.faults out.new)
-        × WritesPart words.now (F.held files.old) (F.faults files.old) (F.faults files.new) (K.written out.old) (K.written out.new) }
-    ensures no_memory { result ≡ 50
-        → WritesPart words.now (F.held files.old) (F.faults files.old) (F.faults files.new) (K.written out.old) (K.written out.new)
+    ensures error { result ≡ 12 → WritesError (command_of words.now) (F.held files.old) (F.held files.new) (K.written out.old) (K.written out.new) }
+    ensures clean { result ≡ 0 → WritesClean (command_of words.now) (F.held files.old) (F.held files.new) (K.written out.old) (K.written out.new)
+        ⊎ WritesAccepted (command_of words.now) (F.held files.old) (F.held files.new) (K.written out.old) (K.written out.new) }
+    ensures told { (IsCutStatus result → ⊥) → Tells (command_of words.now) (F.held files.old) (F.held files.new)
+        (F.faults files.old) (F.faults files.new) (K.written out.old) (K.written out.new) result }
+    ensures unwritten { result ≡ 41 → (Rose (K.faults out.old) (K.faults out.new) × TellsPart (command_of words.now) (F.held files.old) (F.held files.new)
+        (F.faults files.old) (F.faults files.new) (K.written out.old) (K.written out.new))
+        ⊎ Tells (command_of words.now) (F.held files.old) (F.held files.new)
+        (F.faults files.old) (F.faults files.new) (K.written out.old) (K.written out.new) result }
+    ensures no_memory { result ≡ 50 → TellsPart (command_of words.now) (F.held files.old) (F.held files.new)
+        (F.faults files.old) (F.faults files.new) (K.written out.old) (K.written out.new)
         ⊎ WritesPrefix (K.written out.old) (K.written out.new) memory_line }
     ensures statuses { IsStatus result }
-    ensures usage { request_of words.now ≡ None → (result ≡ 31) ⊎ IsCutStatus result }
-    ensures in_form { AsksForBooleanLayout words.now (F.held files.old) → Stayed (F.faults files.old) (F.faults files.new)
-        → Stayed (K.faults out.old) (K.faults out.new) → (result ≡ 0) ⊎ (result ≡ 12) ⊎ (result ≡ 50) }
+    ensures usage { request_of words.now ≡ None → recheck_of words.now ≡ None → (result ≡ 31) ⊎ IsCutStatus result }
+    ensures in_form { AsksForBooleanLayout (command_of words.now) (F.held files.old) → Stayed (F.faults files.old) (F.faults files.new)
+        → Stayed (K.faults out.old) (K.faults out.new) → IsVerdictStatus result ⊎ (result ≡ 50) }
+    ensures rechecked { AsksToRecheck (command_of words.now) (F.held files.old) → Stayed (F.faults files.old) (F.faults files.new)
+        → Stayed (K.faults out.old) (K.faults out.new) → (result ≡ 0) ⊎ (result ≡ 14) ⊎ (result ≡ 50) }
     ensures faults_of_files { F.faults files.old < F.faults files.new → (result ≡ 40) ⊎ IsCutStatus result }
     ensures faults_of_sink { K.faults out.old < K.faults out.new → IsCutStatus result }
-    ensures files_stay { F.held files.new ≡ F.held files.old }
+    ensures files { Touches (command_of words.now) (F.held files.old) (F.held files.new) }
 {
     match decide(alloc, words, files) {
         Ok(answer) => tell(alloc, &answer, out),
@@ -55,37 +65,114 @@ pub fn run<F: Files, K: Sink>(alloc: Global, words: &[String], files: &mut F, ou
 
 // The answer to the words.
 fn decide<F: Files>(alloc: Global, words: &[String], files: &mut F) -> Result<Answer, AllocError>
-    ensures answer { IfOk result (IsAnswer words.now (F.held files.old) (F.faults files.old) (F.faults files.new)) }
-    ensures calm { IfOk result (λ answer. (F.faults files.new ≡ F.faults files.old) ⊎ (status_of answer ≡ 40)) }
-    ensures files_stay { F.held files.new ≡ F.held files.old }
+    ensures answer { IfOk result (IsAnswer (command_of words.now) (F.held files.old) (F.held files.new) (F.faults files.old) (F.faults files.new)) }
+    ensures calm { IfOk result (IsCalm (F.faults files.old) (F.faults files.new)) }
+    ensures files { Touches (command_of words.now) (F.held files.old) (F.held files.new) }
 {
-    let Some(request) = requested(words) else {
-        return Ok(Answer::Usage);
-    };
-    match files.read(alloc, request.file, LIMIT) {
-        Ok(Some(bytes)) => checked(alloc, &request, &bytes),
-        Ok(None) => Ok(Answer::Missing(copied(alloc, module_of(request.file))?)),
-        Err(FileFail::Failed) => Ok(Answer::ReadFault(copied(alloc, request.file.as_bytes())?)),
-        Err(FileFail::TooLong) => Ok(Answer::TooLong(copied(alloc, request.file.as_bytes())?)),
-        Err(FileFail::Memory(fail)) => Err(fail),
+    if let Some(request) = requested(words) {
+        return check_file(alloc, &request, files);
+    }
+    match recheck_requested(words) {
+        Some(cert) => recheck_file(alloc, cert, files),
+        None => Ok(Answer::Usage),
     }
 }
 
-// The answer to the bytes of a file.
-fn checked(alloc: Global, request: &Request<'_>, bytes: &[u8]) -> Result<Answer, AllocError>
-    ensures { IfOk result (IsFileAnswer request.now.file.now request.now.length bytes.now) }
+// The answer to a request for a check.
+fn check_file<F: Files>(
+    alloc: Global,
+    request: &Request<'_>,
+    files: &mut F,
+) -> Result<Answer, AllocError>
+    ensures answer { IfOk result (λ answer. (again : Option (Items ℕ)) → IsAnswer (requests request.now.file.now request.now.longest request.now.budget again)
+        (F.held files.old) (F.held files.new) (F.faults files.old) (F.faults files.new) answer) }
+    ensures calm { IfOk result (IsCalm (F.faults files.old) (F.faults files.new)) }
+    ensures files { (again : Option (Items ℕ)) → Touches (requests request.now.file.now request.now.longest request.now.budget again)
+        (F.held files.old) (F.held files.new) }
+{
+    match files.read(alloc, request.file, MODULE_LIMIT) {
+        Ok(Some(bytes)) => check_bytes(alloc, request, &bytes, files),
+        Ok(None) => Ok(Answer::Missing(copied(alloc, module_of(request.file))?)),
+        Err(fail) => read_fault(alloc, request.file, fail),
+    }
+}
+
+// The answer to the bytes of the file.
+fn check_bytes<F: Files>(
+    alloc: Global,
+    request: &Request<'_>,
+    bytes: &[u8],
+    files: &mut F,
+) -> Result<Answer, AllocError>
+    requires { HandedOut (F.held files.old) request.now.file.now module_limit bytes.now }
+    ensures answer { IfOk result (λ answer. (again : Option (Items ℕ)) → IsAnswer (requests request.now.file.now request.now.longest request.now.budget again)
+        (F.held files.old) (F.held files.new) (F.faults files.old) (F.faults files.new) answer) }
+    ensures calm { IfOk result (IsCalm (F.faults files.old) (F.faults files.new)) }
+    ensures files { (again : Option (Items ℕ)) → Touches (requests request.now.file.now request.now.longest request.now.budget again)
+        (F.held files.old) (F.held files.new) }
 {
     match read_module(alloc, bytes) {
         Ok(source) => {
             if has_name(request.file, source.name.bytes()) {
-                let verdict = check(alloc, &source, request.length)?;
-                Ok(Answer::Checked(source.vars, verdict))
+                check_module(alloc, request, &source, files)
             } else {
                 Ok(Answer::NotBuilt)
             }
         }
         Err(Early::FormNotBuilt) => Ok(Answer::NotBuilt),
         Err(Early::Memory(fail)) => Err(fail),
+    }
+}
+
+// The answer to the module that the file holds.
+fn check_module<F: Files>(
+    alloc: Global,
+    request: &Request<'_>,
+    source: &BooleanModule,
+    files: &mut F,
+) -> Result<Answer, AllocError>
+    requires source { IsBooleanModule source.now }
+    requires read { IsModuleRead (F.held files.old) request.now.file.now source.now }
+    ensures answer { IfOk result (λ answer. (again : Option (Items ℕ)) → IsAnswer (requests request.now.file.now request.now.longest request.now.budget again)
+        (F.held files.old) (F.held files.new) (F.faults files.old) (F.faults files.new) answer) }
+    ensures calm { IfOk result (IsCalm (F.faults files.old) (F.faults files.new)) }
+    ensures files { (again : Option (Items ℕ)) → Touches (requests request.now.file.now request.now.longest request.now.budget again)
+        (F.held files.old) (F.held files.new) }
+{
+    let found = check(alloc, source, request.longest, request.budget)?;
+    let names = declarations(alloc, source.vars.as_slice())?;
+    let holders = one_text(alloc, request.file)?;
+    let name = certificate_of(alloc, request.file)?;
+    let fault = copied(alloc, name.as_bytes())?;
+    match save(alloc, files, name.as_str(), found.sections.as_slice()) {
+        Ok(()) => Ok(Answer::Checked(names, holders, found.verdict)),
+        Err(FileFail::Failed) => Ok(Answer::WriteFault(fault)),
+        Err(FileFail::TooLong) => unreachable!(),
+        Err(FileFail::Memory(fail)) => Err(fail),
+    }
+}
+
+// The answer to a request to check a certificate again.
+fn recheck_file<F: Files>(alloc: Global, cert: &str, files: &mut F) -> Result<Answer, AllocError>
+    ensures answer { IfOk result (IsAnswer (None, Some cert.now) (F.held files.old) (F.held files.new) (F.faults files.old) (F.faults files.new)) }
+    ensures calm { IfOk result (IsCalm (F.faults files.old) (F.faults files.new)) }
+    ensures files { F.held files.new ≡ F.held files.old }
+{
+    match files.read(alloc, cert, CERTIFICATE_LIMIT) {
+        Ok(Some(bytes)) => Ok(Answer::Rechecked(recheck(alloc, &bytes)?)),
+        Ok(None) => Ok(Answer::NoCertificate),
+        Err(fail) => read_fault(alloc, cert, fail),
+    }
+}
+
+// The answer to a read that failed.
+fn read_fault(alloc: Global, file: &str, fail: FileFail) -> Result<Answer, AllocError>
+    ensures { IfOk result (IsReadFault file.now fail) }
+{
+    match fail {
+        FileFail::Failed => Ok(Answer::ReadFault(copied(alloc, file.as_bytes())?)),
+        FileFail::TooLong => Ok(Answer::TooLong(copied(alloc, file.as_bytes())?)),
+        FileFail::Memory(fail) => Err(fail),
     }
 }
 

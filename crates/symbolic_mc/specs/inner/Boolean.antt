@@ -1,14 +1,8 @@
 -- What a module of Boolean variables says of its states, which are lists of truth values.
 use Rattle.std.specs.Prelude.{◌≡◌, ℕ, ◌<◌, Bool, true, false, not, List, [], ◌∷◌, map, length, Option, None, Some, All, IsTrue, ⊤, slice_index_or, if◌then◌else◌}
 use Rattle.std.specs.List.{list_all, list_any}
-use Rattle.tla_values.specs.declared.value.Value.TheVariants as value
 use Rattle.tla_meaning.specs.declared.boolean.BooleanModule.{BooleanModule}
 use Rattle.tla_meaning.specs.declared.boolean.Conjunct.{Conjunct}
-use Rattle.tla_meaning.specs.declared.job.State.{State}
-
--- the state that has these truth values, in the order of declaration
-abbrev pub state_of : List Bool → State
-state_of bits = record { vals = map (λ b. value.Bool b) bits }
 
 -- whether a truth value is one that a conjunct asks for
 abbrev pub allows : Option Bool → Bool → Bool

@@ -1,10 +1,37 @@
--- How an answer is told: what is written of it, and the status.
-use Rattle.std.specs.Prelude.{◌≡◌, ◌⊎◌, ℕ, List, Option}
+-- How an answer comes about and how it is told: what is written of it, and the status.
+use Rattle.std.specs.Prelude.{◌≡◌, ◌⊎◌, ℕ, List, Option, Some}
 use Rattle.std.specs.Io.KnownBytes.{Appends}
-use Rattle.tool_outside.specs.Causes.{WritesPrefix}
-use Rattle.tool_outside.specs.Outside.{Rose}
+use Rattle.tool_outside.specs.Causes.{HandedOut, WritesPrefix}
+use Rattle.tool_outside.specs.Outside.{Folder, Rose}
+use Rattle.tool_outside.specs.declared.files.FileFail.{FileFail}
+use Rattle.tool_outside.specs.declared.files.FileFail.TheVariants as fail
+use Rattle.tla_meaning.specs.declared.boolean.BooleanModule.{BooleanModule}
+use Rattle.tla_meaning.specs.BooleanLayout.{job_of}
 use Rattle.symbolic_mc.specs.declared.answer.Answer.{Answer}
+use Rattle.symbolic_mc.specs.declared.answer.Answer.TheVariants.{ReadFault, TooLong}
 use Rattle.symbolic_mc.specs.Report.{status_of, report_of, memory_line}
+use Rattle.symbolic_mc.specs.Top.{IsOnlyBooleanLayout, module_limit}
+use Rattle.symbolic_mc.specs.Words.{Command}
+
+-- the command to check a file
+abbrev pub requests : List ℕ → ℕ → Option ℕ → Option (List ℕ) → Command
+requests file longest budget again = (Some (file, longest, budget), again)
+
+-- the bytes that were handed out for the file say this module's job, and no other
+pub record IsModuleRead (held : Option Folder) (file : List ℕ) (m : BooleanModule) : Type 0 where
+  pub bytes : List ℕ
+  pub handed : HandedOut held file module_limit bytes
+  pub form : IsOnlyBooleanLayout file (job_of file m) bytes
+
+-- the answer to a read that failed
+abbrev pub IsReadFault : List ℕ → FileFail → Answer → Type 0
+IsReadFault file fail.Failed answer = answer ≡ ReadFault file
+IsReadFault file fail.TooLong answer = answer ≡ TooLong file
+IsReadFault file (fail.Memory e) answer = ⊥
+
+-- the count of the files' faults stayed, unless the answer is of a fault of theirs
+abbrev pub IsCalm : ℕ → ℕ → Answer → Type 0
+IsCalm before now answer = (now ≡ before) ⊎ (status_of answer ≡ 40) ⊎ (status_of answer ≡ 41)
 
 -- the whole report with the answer's status; or a prefix where a write failed or memory ran out
 abbrev pub IsTold : Answer → Option (List ℕ) → Option (List ℕ) → ℕ → ℕ → ℕ → Type 0

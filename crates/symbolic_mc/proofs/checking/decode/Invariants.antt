@@ -1,5 +1,5 @@
 use Rattle.std.proofs.Common.{◌≡◌, map, take}
-use Rattle.symbolic_mc.specs.inner.Boolean.{state_of}
+use Rattle.symbolic_mc.specs.States.{state_of}
 use Rattle.symbolic_mc.specs.inner.Levels.{values_of}
 use Rattle.symbolic_mc.proofs.checking.decode.Given as goal
 

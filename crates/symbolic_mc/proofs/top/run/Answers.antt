@@ -1,17 +1,32 @@
-use Rattle.symbolic_mc.proofs.Told.{error_told, clean_told, cut_told, memory_told, in_form_told}
+use Rattle.symbolic_mc.proofs.Commands.{words_apart}
+use Rattle.symbolic_mc.proofs.Told.{told_clean, told_error, told_files_fault, told_form, told_memory, told_recheck, told_status, told_unwritten, told_usage, told_whole}
 use Rattle.symbolic_mc.proofs.top.run.Goals as goal
 
 pub returns-in-Ok-clause-error : goal.returns-in-Ok-clause-error
-returns-in-Ok-clause-error g c = error_told c.args.words.now (g.F.Files.held c.args.files.now) _ _ _ _ _ _ _ c.in-Ok.answer c.in-Ok.ensures.answer c.tell.ensures
+returns-in-Ok-clause-error g c = told_error _ (g.F.Files.held c.args.files.now) _ _ _ _ _ _ _ _ c.in-Ok.answer c.in-Ok.ensures.answer c.tell.ensures
 
 pub returns-in-Ok-clause-clean : goal.returns-in-Ok-clause-clean
-returns-in-Ok-clause-clean g c = clean_told c.args.words.now (g.F.Files.held c.args.files.now) _ _ _ _ _ _ _ c.in-Ok.answer c.in-Ok.ensures.answer c.tell.ensures
+returns-in-Ok-clause-clean g c = told_clean _ (g.F.Files.held c.args.files.now) _ _ _ _ _ _ _ _ c.in-Ok.answer c.in-Ok.ensures.answer c.tell.ensures
+
+pub returns-in-Ok-clause-told : goal.returns-in-Ok-clause-told
+returns-in-Ok-clause-told g c = told_whole _ (g.F.Files.held c.args.files.now) _ _ _ _ _ _ _ _ c.in-Ok.answer c.in-Ok.ensures.answer c.tell.ensures
 
 pub returns-in-Ok-clause-unwritten : goal.returns-in-Ok-clause-unwritten
-returns-in-Ok-clause-unwritten g c = cut_told c.args.words.now (g.F.Files.held c.args.files.now) _ _ _ _ _ _ _ c.in-Ok.answer c.in-Ok.ensures.answer c.tell.ensures
+returns-in-Ok-clause-unwritten g c = told_unwritten _ (g.F.Files.held c.args.files.now) _ _ _ _ _ _ _ _ c.in-Ok.answer c.in-Ok.ensures.answer c.tell.ensures
 
 pub returns-in-Ok-clause-no_memory : goal.returns-in-Ok-clause-no_memory
-returns-in-Ok-clause-no_memory g c = memory_told c.args.words.now (g.F.Files.held c.args.files.now) _ _ _ _ _ _ _ c.in-Ok.answer c.in-Ok.ensures.answer c.tell.ensures
+returns-in-Ok-clause-no_memory g c = told_memory _ (g.F.Files.held c.args.files.now) _ _ _ _ _ _ _ _ c.in-Ok.answer c.in-Ok.ensures.answer c.tell.ensures
+
+pub returns-in-Ok-clause-statuses : goal.returns-in-Ok-clause-statuses
+returns-in-Ok-clause-statuses g c = told_status _ (g.F.Files.held c.args.files.now) _ _ _ _ _ _ _ _ c.in-Ok.answer c.in-Ok.ensures.answer c.tell.ensures
+
+pub returns-in-Ok-clause-usage : goal.returns-in-Ok-clause-usage
+returns-in-Ok-clause-usage g c = told_usage _ (g.F.Files.held c.args.files.now) _ _ _ _ _ _ _ _ c.in-Ok.answer c.in-Ok.ensures.answer c.tell.ensures
 
 pub returns-in-Ok-clause-in_form : goal.returns-in-Ok-clause-in_form
-returns-in-Ok-clause-in_form g c = in_form_told c.args.words.now (g.F.Files.held c.args.files.now) _ _ _ _ _ _ _ c.in-Ok.answer c.in-Ok.ensures.answer c.tell.ensures
+returns-in-Ok-clause-in_form g c =
+    told_form _ (g.F.Files.held c.args.files.now) _ _ _ _ _ _ _ _ c.in-Ok.answer c.in-Ok.ensures.answer (words_apart c.args.words.now) c.tell.ensures
+
+pub returns-in-Ok-clause-rechecked : goal.returns-in-Ok-clause-rechecked
+returns-in-Ok-clause-rechecked g c =
+    told_recheck _ (g.F.Files.held c.args.files.now) _ _ _ _ _ _ _ _ c.in-Ok.answer c.in-Ok.ensures.answer (words_apart c.args.words.now) c.tell.ensures

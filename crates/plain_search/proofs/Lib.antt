@@ -1,0 +1,4 @@
+mod Decided
+mod Indexed
+mod Passed
+mod Work
