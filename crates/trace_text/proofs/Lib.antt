@@ -1,2 +1,9 @@
-pub mod Lines
 pub mod Behind
+pub mod Decimals
+pub mod Forms
+pub mod Lines
+pub mod Pieces
+pub mod PlainValues
+pub mod QuotedBytes
+pub mod Runs
+pub mod ValueForms
