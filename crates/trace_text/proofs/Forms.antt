@@ -1,21 +1,18 @@
 -- Sets and functions as pieces between brackets.
-use Rattle.std.proofs.Common.{◌≡◌, ℕ, zero, suc, ◌+◌, ◌<◌, ◌≤◌, Bool, true, false, not, ◌&&◌, List, [], ◌∷◌, ◌++◌, map, flat_map, refl, ap, ap₂, ◌∙◌, sym, ℤ, pos, subst, arith, append_assoc, IsTrue, codes}
-use Rattle.std.specs.Prelude.{if◌then◌else◌, is_some, unwrap_or}
+use Rattle.std.proofs.Common.{◌≡◌, ℕ, ◌+◌, Bool, true, false, List, [], ◌∷◌, ◌++◌, map, flat_map, refl, ap, ap₂, ◌∙◌, sym, pos, subst, append_assoc, codes}
+use Rattle.std.specs.Prelude.{if◌then◌else◌, is_some}
 use Rattle.std.specs.List.{join_by, list_all}
-use Rattle.std.specs.Fmt.{signed_decimal}
-use Rattle.tla_values.specs.Integers.{fits_width}
-use Rattle.tla_values.specs.Order.{Layer, kind_of}
-use Rattle.tla_values.specs.Show.{Ends, Shown, are_named, counts_from, escaped, field_text, function_text, is_at, layer_text, pair_text, quoted, record_text, pairs_text, set_text, shown, text_of, tuple_text}
-use Rattle.tla_values.specs.declared.value.Value.{Value, out-Value, Bool as Truth, Int, Text, Set, Fun}
-use Rattle.tla_values.specs.declared.value.Value.TheVariants.{rolls-Bool, rolls-Int, rolls-Text, rolls-Set, rolls-Fun}
+use Rattle.tla_values.specs.Order.{Layer}
+use Rattle.tla_values.specs.Show.{Shown, are_named, counts_from, field_text, is_at, pair_text, record_text, pairs_text, shown, text_of, tuple_text}
+use Rattle.tla_values.specs.declared.value.Value.{Value, out-Value, Int, Set, Fun}
+use Rattle.tla_values.specs.declared.value.Value.TheVariants.{rolls-Set, rolls-Fun}
 use Rattle.tla_values.specs.declared.value.Value.TheOpen as layer
-use Rattle.tla_values.proofs.TextLaw.{cancel, head_is, tail_is, kind_at}
 use Rattle.trace_text.specs.declared.brackets.Bracket.{Bracket}
 use Rattle.trace_text.specs.declared.brackets.Bracket.TheVariants.{Brace, Angle, Square, Round}
 use Rattle.trace_text.specs.inner.Reading.{Fits}
-use Rattle.trace_text.specs.inner.Pieces.{ArePieces, IsArgument, IsPiece, IsPlain, PlainHere, argument_text, bytes_of, closing, made, opening, piece_text, pieces_text, separator, tail_text}
+use Rattle.trace_text.specs.inner.Pieces.{ArePieces, IsPlain, PlainHere, closing, made, opening, piece_text, pieces_text, separator, tail_text}
 use Rattle.trace_text.proofs.Runs.{left_of, right_of}
-use Rattle.trace_text.proofs.ValueForms.{Named, fit, kind_here, members_fit, named_is, number_is, pair_fit, pairs_fit, plain_kind, rolled, text_at}
+use Rattle.trace_text.proofs.ValueForms.{fit, members_fit, named_is, number_is, pair_fit, pairs_fit, rolled, text_at}
 
 -- ---- the text of pieces
 
@@ -106,8 +103,7 @@ field_texts (p ∷ ps) n =
 field_pieces : (i : ℕ) (ps : List (Value × Value)) → list_all pair_fit ps ≡ true → are_named (map shown_pair ps) ≡ true → ArePieces Square i ps
 field_pieces i [] h n = tt
 field_pieces i (p ∷ ps) h n =
-    let name = named_is p.0 (left_of (is_some (shown p.0).name) (are_named (map shown_pair ps)) n) in
-    (
+    let name = named_is p.0 (left_of (is_some (shown p.0).name) (are_named (map shown_pair ps)) n) in (
       ((name.is, name.bytes), right_of (fit p.0) (fit p.1) (left_of (pair_fit p) (list_all pair_fit ps) h)),
       field_pieces (i + 1) ps (right_of (pair_fit p) (list_all pair_fit ps) h) (right_of (is_some (shown p.0).name) (are_named (map shown_pair ps)) n),
     )

@@ -1,4 +1,5 @@
 pub mod Behind
+pub mod BlockLines
 pub mod Decimals
 pub mod Forms
 pub mod Lines

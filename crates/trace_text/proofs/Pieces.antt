@@ -1,5 +1,5 @@
 -- The pieces that are left while some are read.
-use Rattle.std.proofs.Common.{◌≡◌, ℕ, ◌+◌, ◌<◌, Bool, true, false, not, List, [], ◌∷◌, ◌++◌, map, flat_map, length, refl, ap, ap₂, ◌∙◌, sym, subst, arith, append_assoc, IsTrue, codes, length-append}
+use Rattle.std.proofs.Common.{◌≡◌, ℕ, ◌+◌, ◌<◌, true, false, List, [], ◌∷◌, ◌++◌, flat_map, length, refl, ap, ◌∙◌, sym, subst, arith, append_assoc, codes, length-append}
 use Rattle.std.specs.Prelude.{◌==◌}
 use Rattle.std.specs.List.{list_all}
 use Rattle.std.proofs.lemmas.Bool.{false≢true}
@@ -12,7 +12,7 @@ use Rattle.tla_values.proofs.TextLaw.{cancel, head_is, kind_at}
 use Rattle.trace_text.specs.declared.brackets.Bracket.{Bracket}
 use Rattle.trace_text.specs.declared.brackets.Bracket.TheVariants.{Brace, Angle, Square, Round}
 use Rattle.trace_text.specs.inner.Reading.{Fits, IsRun}
-use Rattle.trace_text.specs.inner.Pieces.{ArePieces, IsArgument, IsPiece, IsPlain, argument_text, bytes_of, closing, made, opening, piece_text, pieces_text, separator, tail_text}
+use Rattle.trace_text.specs.inner.Pieces.{ArePieces, IsPiece, IsPlain, argument_text, bytes_of, closing, made, opening, piece_text, pieces_text, separator, tail_text}
 use Rattle.trace_text.proofs.Runs.{left_of, one_run}
 use Rattle.trace_text.proofs.ValueForms.{fits_members, kind_here, no_kind, plain_kind}
 use Rattle.trace_text.proofs.Forms.{HasForm, form_of, plain, bracketed}

@@ -1,6 +1,5 @@
 -- Values without brackets, by what stands in front.
-use Rattle.std.proofs.Common.{◌≡◌, ℕ, ◌<◌, Bool, true, false, List, [], ◌∷◌, ◌++◌, flat_map, refl, ap, ◌∙◌, sym, ℤ, subst, arith, append_assoc, IsTrue, codes}
-use Rattle.std.specs.Prelude.{if◌then◌else◌}
+use Rattle.std.proofs.Common.{◌≡◌, ℕ, Bool, true, false, List, [], ◌∷◌, ◌++◌, flat_map, refl, ap, ◌∙◌, sym, ℤ, subst, arith, append_assoc, IsTrue, codes}
 use Rattle.std.specs.Fmt.{signed_decimal}
 use Rattle.tla_values.specs.Integers.{fits_width}
 use Rattle.tla_values.specs.Order.{Layer, kind_of}

@@ -3,7 +3,7 @@ use Rattle.std.proofs.Common.{◌≡◌, ℕ, List, [], ◌∷◌, ◌++◌, fla
 use Rattle.std.proofs.lemmas.List.{append-nil}
 use Rattle.tla_values.specs.Show.{escaped}
 use Rattle.tla_values.specs.inner.Escapes.{decode}
-use Rattle.tla_values.proofs.TextLaw.{decoded, head_is, no_quote, tail_is}
+use Rattle.tla_values.proofs.TextLaw.{decoded, no_quote, tail_is}
 
 -- what is left of the text t, which stood in front of r, where these bytes of it are read
 pub record Left (done rest t r : List ℕ) : Type 0 where

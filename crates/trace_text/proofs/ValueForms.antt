@@ -1,17 +1,16 @@
 -- What the text of a value is, by the value's kind.
-use Rattle.std.proofs.Common.{◌≡◌, ℕ, zero, suc, ◌+◌, ◌<◌, ◌≤◌, ◌^◌, Bool, true, false, not, ◌&&◌, List, [], ◌∷◌, ◌++◌, map, flat_map, Option, Some, None, unwrap_or, refl, ap, ap₂, ◌∙◌, sym, ℤ, pos, negsuc, subst, arith, append_assoc, IsTrue, codes}
-use Rattle.std.specs.Prelude.{if◌then◌else◌, is_some, ◌==◌}
-use Rattle.std.specs.List.{join_by, list_all}
+use Rattle.std.proofs.Common.{◌≡◌, ℕ, ◌<◌, ◌^◌, Bool, true, false, not, ◌&&◌, List, [], ◌∷◌, ◌++◌, map, Some, None, unwrap_or, refl, ap, ap₂, ◌∙◌, sym, ℤ, pos, negsuc, subst, arith, IsTrue}
+use Rattle.std.specs.Prelude.{if◌then◌else◌, is_some}
+use Rattle.std.specs.List.{list_all}
 use Rattle.std.specs.Ordering.{int_eq}
-use Rattle.std.specs.Fmt.{signed_decimal}
 use Rattle.std.proofs.lemmas.Bool.{false≢true}
 use Rattle.std.proofs.lemmas.Bool.Decides.{Decides-int_eq, nat_tests}
 use Rattle.tla_values.specs.Integers.{fits_width}
 use Rattle.tla_values.specs.Names.{is_name, begins_fairness, is_name_byte, is_word}
 use Rattle.tla_values.specs.Order.{Layer, kind_of}
-use Rattle.tla_values.specs.Show.{Ends, Shown, are_named, counts_from, escaped, field_text, function_text, integers_fit, is_at, layer_fits, layer_shown, layer_text, pair_text, pairs_shown, quoted, record_text, pairs_text, set_text, shown, text_of, tuple_text}
+use Rattle.tla_values.specs.Show.{Shown, integers_fit, is_at, layer_fits, layer_shown, shown, text_of}
 use Rattle.tla_values.specs.declared.value.Value.{Value, out-Value, roll-Value, roll-out-Value, Bool as Truth, Int, Text, Set, Fun}
-use Rattle.tla_values.specs.declared.value.Value.TheVariants.{outs-Bool, outs-Int, outs-Text, outs-Set, outs-Fun, rolls-Bool, rolls-Int, rolls-Text, rolls-Set, rolls-Fun}
+use Rattle.tla_values.specs.declared.value.Value.TheVariants.{outs-Bool, outs-Int, outs-Text, outs-Set, outs-Fun, rolls-Int, rolls-Text, rolls-Set, rolls-Fun}
 use Rattle.tla_values.specs.declared.value.Value.TheOpen as layer
 use Rattle.tla_values.specs.declared.value.Value.TheFolds.{fold_out-Value, map-Value}
 use Rattle.tla_values.proofs.ShowLemmas.{shown_out}

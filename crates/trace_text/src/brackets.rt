@@ -51,7 +51,11 @@ impl Bracket {
     }
 
     // The set or the function of the pieces, each an argument with a value; a set has the values alone.
-    pub(crate) fn made(self, alloc: Global, pieces: List<(Value, Value)>) -> Result<Value, AllocError>
+    pub(crate) fn made(
+        self,
+        alloc: Global,
+        pieces: List<(Value, Value)>,
+    ) -> Result<Value, AllocError>
         ensures { IfOk result (λ v. v ≡ made self pieces) }
     {
         match self {
@@ -66,7 +70,11 @@ impl Bracket {
 fn set(alloc: Global, pieces: List<(Value, Value)>) -> Result<Value, AllocError>
     ensures { IfOk result (λ v. v ≡ made Bracket.Brace pieces) }
 {
-    let members = pieces.into_vec().into_iter().map(|piece| piece.1).collect(alloc)?;
+    let members = pieces
+        .into_vec()
+        .into_iter()
+        .map(|piece| piece.1)
+        .collect(alloc)?;
     Ok(Value::Set(List::from_vec(members)))
 }
 

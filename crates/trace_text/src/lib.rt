@@ -1,7 +1,7 @@
 //! The text of verdicts with their traces, and states read back from it.
 #![tactic(auto)]
 
-
+mod blocks;
 mod brackets;
 mod bytes;
 mod faults;
@@ -11,7 +11,7 @@ mod reports;
 mod texts;
 mod verdict;
 
-
+pub use blocks::{blocks_are_read_one_way, read_state};
 pub use faults::StateTextFault;
 pub use reports::report_text;
 pub use verdict::{Fault, Part, Trace, Verdict, Where};

@@ -33,7 +33,11 @@ fn positive(bytes: &[u8]) -> Option<(Value, &[u8])>
 {
     let (front, rest) = run(Class::Digit, bytes);
     let n = value(front);
-    if n < LIMIT { Some((Value::Int(n as i128), rest)) } else { None }
+    if n < LIMIT {
+        Some((Value::Int(n as i128), rest))
+    } else {
+        None
+    }
 }
 
 // The number of the digits in front behind a minus.
@@ -58,7 +62,9 @@ fn value(digits: &[u8]) -> u128
 {
     let mut n: u128 = 0;
     for digit in digits {
-        n = n.saturating_mul(10).saturating_add(u128::from(*digit - b'0'));
+        n = n
+            .saturating_mul(10)
+            .saturating_add(u128::from(*digit - b'0'));
     }
     n
 }

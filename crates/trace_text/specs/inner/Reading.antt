@@ -1,5 +1,5 @@
 -- What the readers of values tell each other.
-use Rattle.std.specs.Prelude.{◌≡◌, ℕ, ◌≤◌, Bool, true, not, IsTrue, ⊤, List, [], ◌∷◌, ◌++◌, length}
+use Rattle.std.specs.Prelude.{◌≡◌, ℕ, Bool, true, not, IsTrue, ⊤, List, [], ◌∷◌, ◌++◌}
 use Rattle.std.specs.List.{list_all}
 use Rattle.tla_values.specs.Names.{is_name_byte}
 use Rattle.tla_values.specs.Show.{integers_fit, is_digit}

@@ -1,4 +1,4 @@
-use Rattle.std.proofs.Common.{◌≡◌, ap, arith, length, sym, take, true, ◌∙◌}
+use Rattle.std.proofs.Common.{◌≡◌, ap, arith, length, sym, take, ◌∙◌}
 use Rattle.std.specs.List.{list_all}
 use Rattle.trace_text.specs.inner.Reading.{is_in}
 use Rattle.trace_text.proofs.Runs.{run_stops, run_ends}

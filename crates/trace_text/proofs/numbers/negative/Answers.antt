@@ -1,7 +1,7 @@
-use Rattle.std.proofs.Common.{ap, ◌-◌, ◌≡◌, ℕ, suc, pos, negsuc, arith}
+use Rattle.std.proofs.Common.{ap, ◌-◌, suc, arith}
 use Rattle.std.proofs.lemmas.Int.{ints}
 use Rattle.tla_values.specs.declared.value.Value.{Int}
-use Rattle.trace_text.proofs.ValueForms.{fits_count, fits_below}
+use Rattle.trace_text.proofs.ValueForms.{fits_below}
 use Rattle.trace_text.proofs.Decimals.{decimal_read, digits_are}
 use Rattle.trace_text.proofs.numbers.negative.Goals as goal
 

@@ -1,4 +1,3 @@
-use Rattle.std.proofs.Common.{arith}
 use Rattle.std.proofs.lemmas.Str.Parse.{digit_at}
 use Rattle.trace_text.proofs.Decimals.{value_more}
 use Rattle.trace_text.proofs.numbers.value.Goals as goal

@@ -1,7 +1,7 @@
-use Rattle.std.proofs.Common.{◌≡◌, ℕ, List, [], ◌∷◌, ◌++◌, ap, sym, ◌∙◌, subst, arith, length, length-append}
+use Rattle.std.proofs.Common.{◌++◌, ap, sym, ◌∙◌, subst, arith, length, length-append}
 use Rattle.std.proofs.lemmas.Result.{err_from_is_err_and}
-use Rattle.tla_values.specs.declared.value.Value.{Value, Fun}
-use Rattle.trace_text.specs.inner.Pieces.{ArePieces, IsPiece, closing, made, pieces_text, separator, tail_text}
+use Rattle.tla_values.specs.declared.value.Value.{Fun}
+use Rattle.trace_text.specs.inner.Pieces.{IsPiece, made, tail_text}
 use Rattle.trace_text.specs.inner.Reading.{Fits}
 use Rattle.trace_text.proofs.Pieces.{Left, after, left_first, left_last, left_next, left_none, left_open, made_fits, opened_value, plain_value, tail_ends}
 use Rattle.trace_text.proofs.ValueForms.{fits_more, fits_none}
@@ -31,7 +31,7 @@ read_pieces-returns-in_err-piece-clause-reads t c = λ ps r fit e.
     let l = c.pieces.invariant.reads ps r fit e in
     let p = err_from_is_err_and c.from_residual.result c.from_residual.ensures.1 in
     rw (p.1, p.2) (c.in_err-piece.ensures.reads l.piece (tail_text c.args.bracket l.later r) (subst (λ i. IsPiece c.args.bracket i l.piece) (sym c.len.ensures) l.fits)
-        (tail_ends c.args.bracket l.later r) l.text)
+    (tail_ends c.args.bracket l.later r) l.text)
 
 pub read_pieces-pieces-preserved : goal.read_pieces-pieces-preserved
 read_pieces-pieces-preserved t c = record {
@@ -42,7 +42,7 @@ read_pieces-pieces-preserved t c = record {
       let a = after c.args.bracket c.pieces.pieces c.pieces.rest.now ps r l c.in_ok-piece.piece c.in_ok-piece.more.now read in
       subst (λ done. Left c.args.bracket done c.in-Some-behind.next.now ps r) (sym c.in_ok-push.ensures.added)
       (left_next c.args.bracket c.pieces.pieces c.in_ok-piece.piece c.in_ok-piece.more.now ps r a c.in-Some-behind.next.now
-          (c.in-Some-behind.ensures ∙ ap (λ x. x ++ c.in-Some-behind.next.now) c.separator.ensures));
+      (c.in-Some-behind.ensures ∙ ap (λ x. x ++ c.in-Some-behind.next.now) c.separator.ensures));
   fits = subst (λ ps. Fits (Fun ps)) (sym c.in_ok-push.ensures.added)
       (fits_more c.pieces.pieces c.in_ok-piece.piece c.pieces.invariant.fits c.in_ok-piece.ensures.fits.0 c.in_ok-piece.ensures.fits.1);
   shorter = omega (arith, ap length c.in-Some-behind.ensures, length-append c.separator.result.now c.in-Some-behind.next.now, c.in_ok-piece.ensures.shorter, c.pieces.invariant.shorter);

@@ -1,7 +1,6 @@
-use Rattle.std.proofs.Common.{◌≡◌, ℕ, ap, ◌∙◌, arith, length, subst, sym, rules}
+use Rattle.std.proofs.Common.{ap, ◌∙◌}
 use Rattle.std.proofs.lemmas.Result.{err_from_is_err_and}
-use Rattle.tla_values.specs.declared.value.Value.{Int, Text}
-use Rattle.trace_text.specs.inner.Reading.{Fits, IsWant}
+use Rattle.tla_values.specs.declared.value.Value.{Text}
 use Rattle.trace_text.proofs.PlainValues.{truth_read, quote_read, number_read}
 use Rattle.trace_text.proofs.ValueForms.{fits_bool, fits_text}
 use Rattle.trace_text.proofs.reading.read_plain.Goals as goal

@@ -1,5 +1,5 @@
-use Rattle.std.proofs.Common.{◌≡◌, arith, rules, subst, sym}
-use Rattle.trace_text.proofs.QuotedBytes.{Left, left_all, left_more, left_none, left_wrong}
+use Rattle.std.proofs.Common.{arith, rules, subst, sym}
+use Rattle.trace_text.proofs.QuotedBytes.{Left, left_all, left_more, left_none}
 use Rattle.trace_text.proofs.texts.text.Goals as goal
 
 pub text-init : goal.text-init
