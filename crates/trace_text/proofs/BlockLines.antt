@@ -89,17 +89,17 @@ one_line name v w r q first second e =
 abbrev pub lines : List Decl → List Value → List ℕ
 lines ds vs = block_text ds (record { vals = vs })
 
-lines_first : (d : Decl) (ds : List Decl) (v : Value) (vs : List Value) (r : List ℕ) →
+pub lines_first : (d : Decl) (ds : List Decl) (v : Value) (vs : List Value) (r : List ℕ) →
     lines (d ∷ ds) (v ∷ vs) ++ r ≡ value_line (d.name, v) ++ (lines ds vs ++ r)
 lines_first d ds v vs r = append_assoc (value_line (d.name, v)) (lines ds vs) r
 
-abbrev Each : List Value → Type 0
+abbrev pub Each : List Value → Type 0
 Each vs = All IsValue vs
 
-each_first : (v : Value) (vs : List Value) → Each (v ∷ vs) → IsValue v
+pub each_first : (v : Value) (vs : List Value) → Each (v ∷ vs) → IsValue v
 each_first v vs h = let some : 0 < length (v ∷ vs) = omega arith in h 0 v some
 
-each_rest : (v : Value) (vs : List Value) → Each (v ∷ vs) → Each vs
+pub each_rest : (v : Value) (vs : List Value) → Each (v ∷ vs) → Each vs
 each_rest v vs h = λ k d lt. h (suc k) d (omega arith)
 
 -- as many lines are told from what stands behind them

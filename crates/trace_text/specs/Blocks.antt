@@ -36,9 +36,9 @@ pub record HasLines (names : List Decl) (bytes : List ℕ) (n : ℕ) : Type 0 wh
   pub rest : List ℕ
   pub begins : BeginsWith (take n names) bytes values rest
 
--- Line n, counted from 1, is the first that is not the next name with a value's text: those before it are so, with it
--- they are not, and the bytes are no whole block. The last excludes that nothing is left; a line behind the block of
--- all names is bad, and so is a line that is wanting or has no line feed.
+-- Line n, counted from 1, is the first that is not the next name with a value's text: the lines before it are the
+-- first names with values, with line n they are not, and the bytes are not the block of all names with nothing behind
+-- it. So a line that is wanting or has no line feed is bad, and so is one behind the last name's.
 pub record IsBadLine (names : List Decl) (bytes : List ℕ) (n : ℕ) : Type 0 where
   pub before : ℕ
   pub counted : n ≡ before + 1

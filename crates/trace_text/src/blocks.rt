@@ -3,7 +3,7 @@ ghost use Rattle.std.specs.Prelude.{◌≡◌, ◌+◌, ◌≤◌, ◌++◌, ◌
 ghost use Rattle.tla_values.specs.Show.{text_of};
 ghost use Rattle.tla_meaning.specs.declared.expr.Decl.{Decl as Name};
 ghost use Rattle.tla_meaning.specs.declared.job.State.{State as Valuation};
-ghost use Rattle.trace_text.specs.Blocks.{BeginsWith, IsBlock, IsFaultOf, IsStateOf};
+ghost use Rattle.trace_text.specs.Blocks.{BeginsWith, IsBadLine, IsBlock, IsFaultOf, IsStateOf};
 ghost use Rattle.trace_text.specs.Reports.{block_text};
 ghost use Rattle.trace_text.specs.declared.faults.StateTextFault.TheVariants.{Memory as wants_memory};
 ghost use Rattle.trace_text.specs.inner.LineParts.{HasNoLine, IsLine, line_front};
@@ -18,10 +18,12 @@ use tla_values::{List, Text, Value, is_normal, show};
 // How many brackets may be open at one place of a value, so that the stack does not run out.
 const DEEPEST: u32 = 1000;
 
-/// No two states have one block.
+/// No two states have one block, and no two lines are the first bad one.
 pub fn blocks_are_read_one_way()
-    ensures { (names : Items Name) (s t : Valuation) → IsStateOf names s → IsStateOf names t
+    ensures states { (names : Items Name) (s t : Valuation) → IsStateOf names s → IsStateOf names t
         → block_text names s ≡ block_text names t → s ≡ t }
+    ensures lines { (names : Items Name) (bytes : Items ℕ) (m n : ℕ)
+        → IsBadLine names bytes m → IsBadLine names bytes n → m ≡ n }
 {}
 
 /// The state whose block the bytes are: for each name, in their order, a line `/\ name = value` with its line feed.

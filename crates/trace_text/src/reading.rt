@@ -4,7 +4,7 @@ ghost use Rattle.std.specs.Prelude.{◌≡◌, ℕ, pos, ◌+◌, ◌≤◌, ◌
 ghost use Rattle.tla_values.specs.declared.value.Value.{Value as Member};
 ghost use Rattle.tla_values.specs.Show.{Ends, text_of};
 ghost use Rattle.trace_text.specs.inner.Pieces.{ArePieces, IsArgument, IsPiece, IsPlain, argument_text, opening, piece_text, pieces_text, truth_text};
-ghost use Rattle.trace_text.specs.inner.Reading.{Fits, IsWant};
+ghost use Rattle.trace_text.specs.inner.Reading.{Fits, Gives, IsNoLonger, OfRead};
 
 use crate::brackets::{Bracket, opened};
 use crate::bytes::{Class, behind, run};
@@ -17,10 +17,10 @@ use tla_values::{List, Text, Value};
 // The value in front, with at most so many brackets open at one place, where no digit stands behind it.
 #[cycle(read_value)]
 pub(crate) fn read_value(alloc: Global, bytes: &[u8], depth: u32) -> Result<(Value, &[u8]), Unread>
-    ensures reads { (v : Member) (r : Items ℕ) → Fits v → Ends r → bytes.now ≡ text_of v ++ r
-        → MatchResult result (λ p. (p.0 ≡ v) × (p.1.now ≡ r)) IsWant }
-    ensures fits { IfOk result (λ p. Fits p.0) }
-    ensures shorter { IfOk result (λ p. length p.1.now ≤ length bytes.now) }
+    ensures reads { (v : Member) (r : Items ℕ) → Fits v → Ends r
+        → bytes.now ≡ text_of v ++ r → Gives result v r }
+    ensures fits { OfRead result Fits }
+    ensures shorter { IsNoLonger result bytes.now }
 {
     match opened(bytes) {
         Some((bracket, inner)) => {
@@ -43,10 +43,10 @@ fn read_pieces(
     bytes: &[u8],
     depth: u32,
 ) -> Result<(List<(Value, Value)>, &[u8]), Unread>
-    ensures reads { (ps : Items (Member × Member)) (r : Items ℕ) → ArePieces bracket 0 ps → bytes.now ≡ pieces_text bracket ps r
-        → MatchResult result (λ p. (p.0 ≡ ps) × (p.1.now ≡ r)) IsWant }
-    ensures fits { IfOk result (λ p. Fits (Value.Fun p.0)) }
-    ensures shorter { IfOk result (λ p. length p.1.now ≤ length bytes.now) }
+    ensures reads { (ps : Items (Member × Member)) (r : Items ℕ) → ArePieces bracket 0 ps
+        → bytes.now ≡ pieces_text bracket ps r → Gives result ps r }
+    ensures fits { OfRead result (λ ps. Fits (Value.Fun ps)) }
+    ensures shorter { IsNoLonger result bytes.now }
 {
     let mut pieces = List::new(alloc);
     if let Some(rest) = behind(bytes, bracket.closing()) {
@@ -79,10 +79,10 @@ fn read_piece(
     bytes: &[u8],
     depth: u32,
 ) -> Result<((Value, Value), &[u8]), Unread>
-    ensures reads { (p : Member × Member) (r : Items ℕ) → IsPiece bracket place p → Ends r → bytes.now ≡ piece_text bracket p ++ r
-        → MatchResult result (λ q. (q.0 ≡ p) × (q.1.now ≡ r)) IsWant }
-    ensures fits { IfOk result (λ q. (Fits q.0.0 × Fits q.0.1)) }
-    ensures shorter { IfOk result (λ q. length q.1.now ≤ length bytes.now) }
+    ensures reads { (p : Member × Member) (r : Items ℕ) → IsPiece bracket place p → Ends r
+        → bytes.now ≡ piece_text bracket p ++ r → Gives result p r }
+    ensures fits { OfRead result (λ p. Fits p.0 × Fits p.1) }
+    ensures shorter { IsNoLonger result bytes.now }
 {
     let (argument, behind_argument) = read_argument(alloc, bracket, place, bytes, depth)?;
     let (value, rest) = read_value(alloc, behind_argument, depth)?;
@@ -98,10 +98,10 @@ fn read_argument(
     bytes: &[u8],
     depth: u32,
 ) -> Result<(Value, &[u8]), Unread>
-    ensures reads { (a : Member) (r : Items ℕ) → IsArgument bracket place a → bytes.now ≡ argument_text bracket a ++ r
-        → MatchResult result (λ p. (p.0 ≡ a) × (p.1.now ≡ r)) IsWant }
-    ensures fits { IfOk result (λ p. Fits p.0) }
-    ensures shorter { IfOk result (λ p. length p.1.now ≤ length bytes.now) }
+    ensures reads { (a : Member) (r : Items ℕ) → IsArgument bracket place a
+        → bytes.now ≡ argument_text bracket a ++ r → Gives result a r }
+    ensures fits { OfRead result Fits }
+    ensures shorter { IsNoLonger result bytes.now }
 {
     match bracket {
         Bracket::Brace => Ok((counted(place), bytes)),
@@ -127,10 +127,10 @@ fn counted(place: usize) -> Value
 
 // The name of a field, with what stands behind its arrow.
 fn read_name(alloc: Global, bytes: &[u8]) -> Result<(Value, &[u8]), Unread>
-    ensures reads { (a : Member) (r : Items ℕ) → IsArgument Bracket.Square 0 a → bytes.now ≡ argument_text Bracket.Square a ++ r
-        → MatchResult result (λ p. (p.0 ≡ a) × (p.1.now ≡ r)) IsWant }
-    ensures fits { IfOk result (λ p. Fits p.0) }
-    ensures shorter { IfOk result (λ p. length p.1.now ≤ length bytes.now) }
+    ensures reads { (a : Member) (r : Items ℕ) → IsArgument Bracket.Square 0 a
+        → bytes.now ≡ argument_text Bracket.Square a ++ r → Gives result a r }
+    ensures fits { OfRead result Fits }
+    ensures shorter { IsNoLonger result bytes.now }
 {
     let (front, rest) = run(Class::NameByte, bytes);
     match behind(rest, b" |-> ") {
@@ -144,10 +144,10 @@ fn read_name(alloc: Global, bytes: &[u8]) -> Result<(Value, &[u8]), Unread>
 
 // A value without brackets.
 fn read_plain(alloc: Global, bytes: &[u8]) -> Result<(Value, &[u8]), Unread>
-    ensures reads { (v : Member) (r : Items ℕ) → Fits v → IsPlain v → Ends r → bytes.now ≡ text_of v ++ r
-        → MatchResult result (λ p. (p.0 ≡ v) × (p.1.now ≡ r)) IsWant }
-    ensures fits { IfOk result (λ p. Fits p.0) }
-    ensures shorter { IfOk result (λ p. length p.1.now ≤ length bytes.now) }
+    ensures reads { (v : Member) (r : Items ℕ) → Fits v → IsPlain v → Ends r
+        → bytes.now ≡ text_of v ++ r → Gives result v r }
+    ensures fits { OfRead result Fits }
+    ensures shorter { IsNoLonger result bytes.now }
 {
     if let Some((truth, rest)) = read_truth(bytes) {
         return Ok((Value::Bool(truth), rest));
@@ -156,10 +156,7 @@ fn read_plain(alloc: Global, bytes: &[u8]) -> Result<(Value, &[u8]), Unread>
         let (out, rest) = text(alloc, inner)?;
         return Ok((Value::Text(Text::from_vec(out)), rest));
     }
-    match number(bytes) {
-        Some(read) => Ok(read),
-        None => Err(Unread::NoValue),
-    }
+    number(bytes)
 }
 
 fn read_truth(bytes: &[u8]) -> Option<(bool, &[u8])>

@@ -1,5 +1,6 @@
 -- What the readers of values tell each other.
-use Rattle.std.specs.Prelude.{◌≡◌, ℕ, Bool, true, not, IsTrue, ⊤, List, [], ◌∷◌, ◌++◌}
+use Rattle.std.specs.Prelude.{◌≡◌, ℕ, ◌≤◌, Bool, true, not, IsTrue, ⊤, List, [], ◌∷◌, ◌++◌, length, Result, IfOk, MatchResult}
+use Rattle.std.specs.Borrow.{Bor}
 use Rattle.std.specs.List.{list_all}
 use Rattle.tla_values.specs.Names.{is_name_byte}
 use Rattle.tla_values.specs.Show.{integers_fit, is_digit}
@@ -17,6 +18,18 @@ Fits v = IsTrue (integers_fit 128 v)
 abbrev pub IsWant : Unread → Type 0
 IsWant NoValue = ⊥
 IsWant (Memory e) = ⊤
+
+-- this is read, and these bytes are left behind it; or memory is wanting
+abbrev pub Gives : {X : Type 0} → Result (X × Bor (List ℕ)) Unread → X → List ℕ → Type 0
+Gives result x rest = MatchResult result (λ p. (p.0 ≡ x) × (p.1.now ≡ rest)) IsWant
+
+-- what is read has this property
+abbrev pub OfRead : {X : Type 0} → Result (X × Bor (List ℕ)) Unread → (X → Type 0) → Type 0
+OfRead result P = IfOk result (λ p. P p.0)
+
+-- no more bytes are left than there were
+abbrev pub IsNoLonger : {X : Type 0} → Result (X × Bor (List ℕ)) Unread → List ℕ → Type 0
+IsNoLonger result bytes = IfOk result (λ p. length p.1.now ≤ length bytes)
 
 abbrev pub is_in : Class → ℕ → Bool
 is_in Digit = is_digit

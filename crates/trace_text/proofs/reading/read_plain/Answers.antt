@@ -1,6 +1,7 @@
-use Rattle.std.proofs.Common.{ap, ◌∙◌}
+use Rattle.std.proofs.Common.{ap, ◌∙◌, subst}
 use Rattle.std.proofs.lemmas.Result.{err_from_is_err_and}
 use Rattle.tla_values.specs.declared.value.Value.{Text}
+use Rattle.trace_text.specs.inner.Reading.{Gives}
 use Rattle.trace_text.proofs.PlainValues.{truth_read, quote_read, number_read}
 use Rattle.trace_text.proofs.ValueForms.{fits_bool, fits_text}
 use Rattle.trace_text.proofs.reading.read_plain.Goals as goal
@@ -27,13 +28,7 @@ returns-in-Some-behind-clause-reads c = λ v r fits plain ends e.
 pub returns-in-Some-behind-clause-fits : goal.returns-in-Some-behind-clause-fits
 returns-in-Some-behind-clause-fits c = fits_text c.from_vec.result
 
-pub returns-in-Some-number-clause-reads : goal.returns-in-Some-number-clause-reads
-returns-in-Some-number-clause-reads c = λ v r fits plain ends e.
+pub returns-clause-reads : goal.returns-clause-reads
+returns-clause-reads c = λ v r fits plain ends e.
     let number = number_read c.args.bytes.now v r fits plain e c.in_default.ensures c.in_default-behind.ensures in
-    let same = c.in-Some-number.ensures.reads number.number r number.fits ends number.text in
-    (same.0 ∙ number.is, same.1)
-
-pub returns-in-None-clause-reads : goal.returns-in-None-clause-reads
-returns-in-None-clause-reads c = λ v r fits plain ends e.
-    let number = number_read c.args.bytes.now v r fits plain e c.in_default.ensures c.in_default-behind.ensures in
-    c.in-None.ensures.reads number.number r number.fits ends number.text
+    subst (λ w. Gives c.number.result w r) number.is (c.number.ensures.reads number.number r number.fits ends number.text)
