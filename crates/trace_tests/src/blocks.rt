@@ -240,7 +240,8 @@ fn function(alloc: Global) -> Result<Value, AllocError> {
     Ok(Value::Fun(pairs))
 }
 
-const SHOWN: &str = "/\\ x = (-3 :> [members |-> {-3, 0, 12}, name |-> \"a \\\"b\\\"\\n\\\\\"])\n/\\ y = [members |-> {-3, 0, 12}, name |-> \"a \\\"b\\\"\\n\\\\\"]\n";
+const SHOWN: &str =
+    "/\\ x = (-3 :> [members |-> {-3, 0, 12}, name |-> \"a \\\"b\\\"\\n\\\\\"])\n/\\ y = [members |-> {-3, 0, 12}, name |-> \"a \\\"b\\\"\\n\\\\\"]\n";
 
 // Whether these two values are read.
 fn are_read(alloc: Global) -> Result<bool, AllocError> {

@@ -130,7 +130,11 @@ fn verdict(alloc: Global, number: usize) -> Result<Verdict, AllocError> {
 }
 
 fn names(alloc: Global, number: usize) -> Result<List<Decl>, AllocError> {
-    if number == 1 { jugs(alloc) } else { counter(alloc) }
+    if number == 1 {
+        jugs(alloc)
+    } else {
+        counter(alloc)
+    }
 }
 
 fn agrees(alloc: Global, number: usize, expected: &str) -> Result<bool, AllocError> {
