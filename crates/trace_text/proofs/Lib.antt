@@ -1,6 +1,7 @@
 pub mod Behind
 pub mod BlockLines
 pub mod Decimals
+mod Examples
 pub mod FirstBadLine
 pub mod Forms
 pub mod Lines

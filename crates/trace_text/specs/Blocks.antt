@@ -46,7 +46,8 @@ pub record IsBadLine (names : List Decl) (bytes : List ℕ) (n : ℕ) : Type 0 w
   pub bad : HasLines names bytes n → ⊥
   pub no_block : (s : State) → IsBlock names bytes s → ⊥
 
--- want of memory says nothing of the bytes
+-- want of memory says nothing of the bytes; it is also the answer to a value with more than 1,000 brackets open at one
+-- place, for which the stack would not do
 abbrev pub IsFaultOf : List Decl → List ℕ → StateTextFault → Type 0
 IsFaultOf names bytes (BadLine n) = IsBadLine names bytes n
 IsFaultOf names bytes (Memory e) = ⊤
