@@ -3,10 +3,10 @@ ghost use Rattle.std.specs.Prelude.{◌≡◌, ◌+◌, ◌≤◌, ◌++◌, ◌
 ghost use Rattle.tla_values.specs.Show.{text_of};
 ghost use Rattle.tla_meaning.specs.declared.expr.Decl.{Decl as Name};
 ghost use Rattle.tla_meaning.specs.declared.job.State.{State as Valuation};
-ghost use Rattle.trace_text.specs.Blocks.{BeginsWith, IsBadLine, IsBlock, IsFaultOf, IsStateOf};
+ghost use Rattle.trace_text.specs.Blocks.{IsBadLine, IsBlock, IsFaultOf, IsStateOf};
 ghost use Rattle.trace_text.specs.Reports.{block_text};
 ghost use Rattle.trace_text.specs.declared.faults.StateTextFault.TheVariants.{Memory as wants_memory};
-ghost use Rattle.trace_text.specs.inner.LineParts.{HasNoLine, IsLine, line_front};
+ghost use Rattle.trace_text.specs.inner.LineParts.{AreLines, HasNoLine, IsLine, line_front};
 
 use crate::bytes::behind;
 use crate::faults::{StateTextFault, Unread};
@@ -49,7 +49,8 @@ fn read_lines<'a>(
     bytes: &'a [u8],
     names: &[Decl],
 ) -> Result<(List<Value>, &'a [u8]), StateTextFault>
-    ensures lines { MatchResult result (λ p. BeginsWith names.now bytes.now (record { vals = p.0 }) p.1.now) (IsFaultOf names.now bytes.now) }
+    ensures lines { MatchResult result (λ p. AreLines names.now bytes.now p.0 p.1.now)
+        (IsFaultOf names.now bytes.now) }
     ensures room { IfOk result (λ p. length names.now + length p.1.now ≤ length bytes.now) }
 {
     let mut values = List::new(alloc);
