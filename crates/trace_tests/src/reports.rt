@@ -1,10 +1,11 @@
 // The report of each kind of verdict, byte for byte.
+use crate::making::{at, files, invariant, trace, variable};
 use std::alloc::{AllocError, Global};
 use std::process::Abort;
 use std::test::Fail;
-use tla_meaning::{Decl, Place, State};
-use tla_values::{List, Text, Value};
-use trace_text::{Fault, Part, Trace, Verdict, Where, report_text};
+use tla_meaning::{Decl, State};
+use tla_values::{List, Value};
+use trace_text::{Fault, Part, Verdict, Where, report_text};
 
 // What is printed of the verdicts below, over the variables x and y and the file models/Row.tla.
 const EXPECTED: [&str; 11] = [
@@ -21,33 +22,10 @@ const EXPECTED: [&str; 11] = [
     "not inductive: invariant Inv is FALSE\nstate 0\n/\\ x = 3\n/\\ y = 0\nstate 1\n/\\ x = 5\n/\\ y = 0\n",
 ];
 
-fn text(alloc: Global, bytes: &str) -> Result<Text, AllocError> {
-    Ok(Text::from_vec(Vec::from_slice(alloc, bytes.as_bytes())?))
-}
-
-fn at(line: u32, col: u32) -> Place {
-    Place { file: 0, line, col }
-}
-
-fn variable(alloc: Global, name: &str) -> Result<Decl, AllocError> {
-    Ok(Decl {
-        name: text(alloc, name)?,
-        place: at(4, 3),
-        constant: false,
-        note: text(alloc, "")?,
-    })
-}
-
 fn variables(alloc: Global) -> Result<List<Decl>, AllocError> {
     let mut all = List::new(alloc);
     all.push(variable(alloc, "x")?)?;
     all.push(variable(alloc, "y")?)?;
-    Ok(all)
-}
-
-fn files(alloc: Global) -> Result<List<Text>, AllocError> {
-    let mut all = List::new(alloc);
-    all.push(text(alloc, "models/Row.tla")?)?;
     Ok(all)
 }
 
@@ -83,14 +61,6 @@ fn two(alloc: Global, low: i128, high: i128) -> Result<List<State>, AllocError> 
     states.push(state(alloc, low, 0)?)?;
     states.push(state(alloc, high, 0)?)?;
     Ok(states)
-}
-
-fn trace(states: List<State>, attempt: Option<State>) -> Trace {
-    Trace { states, attempt }
-}
-
-fn invariant(alloc: Global) -> Result<Text, AllocError> {
-    text(alloc, "Inv")
 }
 
 fn errors(alloc: Global, number: usize) -> Result<Verdict, AllocError> {
