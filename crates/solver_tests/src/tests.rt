@@ -1,8 +1,9 @@
-//! What the solver answers, against known formulas and against a search of all assignments.
+//! What the solver answers, against known formulas and against the plain search.
 
 ghost use Rattle.std.specs.Prelude.{◌≡◌, ◌<◌, ◌≤◌};
 
 use cdcl_solver::{Answer, solve};
+use plain_search::search;
 use refutation_checker::{Check, check};
 use sat_formula::{Formula, Lit, value};
 use std::alloc::{AllocError, Global};
@@ -134,90 +135,45 @@ impl Random {
     }
 }
 
-// A clause over at most 16 variables, as the set of those that stand in it and of those whose
-// negations do.
-#[derive(Clone, Copy)]
-struct Bits {
-    plain: u16,
-    negated: u16,
-}
-
-impl Bits {
-    fn holds(self, values: u16) -> bool {
-        values & self.plain != 0 || !values & self.negated != 0
-    }
-}
-
-// Whether some values of `count` variables, of which the first is true, satisfy all clauses.
-fn is_satisfiable(clauses: &[Bits], count: u8) -> bool
-    requires { count ≤ 12 }
+// Adds a random clause of two or three literals over the variables below `count`.
+fn add_random_clause(random: &mut Random, f: &mut Formula, count: u8) -> Result<(), AllocError>
+    requires { 0 < count }
 {
-    let all: u16 = 1 << count;
-    for values in 0..all {
-        if values & 1 == 1 && satisfies(clauses, values) {
-            return true;
-        }
-    }
-    false
-}
-
-fn satisfies(clauses: &[Bits], values: u16) -> bool {
-    for c in clauses {
-        if !c.holds(values) {
-            return false;
-        }
-    }
-    true
-}
-
-// A random clause of one to three literals over the variables below `count`, in both forms.
-fn random_clause(random: &mut Random, f: &mut Formula, count: u8) -> Result<Bits, AllocError>
-    requires some { 0 < count }
-    requires few { count ≤ 12 }
-{
-    let mut bits = Bits {
-        plain: 0,
-        negated: 0,
-    };
     let mut lits = [f.top().negated(); 3];
     let length = if random.below(8) == 0 { 2 } else { 3 };
     for i in 0..length {
-        let var = random.below(count);
-        let neg = random.below(2) == 0;
-        lits[i] = Lit {
-            var: var as usize,
-            neg,
-        };
-        if neg {
-            bits.negated |= 1 << var;
-        } else {
-            bits.plain |= 1 << var;
-        }
+        lits[i] = random_literal(random, count);
     }
-    add(f, &lits[..length])?;
-    Ok(bits)
+    add(f, &lits[..length])
 }
 
-// What the solver and the search of all assignments say of a random formula and literal.
+fn random_literal(random: &mut Random, count: u8) -> Lit
+    requires { 0 < count }
+{
+    Lit {
+        var: random.below(count) as usize,
+        neg: random.below(2) == 0,
+    }
+}
+
+// What the solver and the plain search say of a random formula and literal.
 fn both(alloc: Global, random: &mut Random) -> Result<(Told, bool), AllocError> {
     let count = 4 + random.below(9);
     let mut f = formula_over(alloc, count - 1)?;
-    let mut clauses = Vec::new(alloc);
     for _ in 0..2 * count + random.below(20) {
-        let bits = random_clause(random, &mut f, count)?;
-        clauses.push(bits)?;
+        add_random_clause(random, &mut f, count)?;
     }
-    let assume = Lit {
-        var: random.below(count) as usize,
-        neg: random.below(2) == 0,
-    };
-    let bit = 1 << assume.var;
-    clauses.push(Bits {
-        plain: if assume.neg { 0 } else { bit },
-        negated: if assume.neg { bit } else { 0 },
-    })?;
+    let assume = random_literal(random, count);
     let answer = answer_to(alloc, &f, assume, None)?;
-    Ok((answer, is_satisfiable(clauses.as_slice(), count)))
+    Ok((answer, is_satisfiable(alloc, &f, assume)?))
+}
+
+fn is_satisfiable(alloc: Global, f: &Formula, assume: Lit) -> Result<bool, AllocError> {
+    if assume.var >= f.vars() {
+        return Ok(false);
+    }
+    let cnf = f.with_unit(alloc, assume)?;
+    Ok(search(alloc, &cnf)?.is_some())
 }
 
 // How many of the random formulas the two agree on.
@@ -239,7 +195,7 @@ fn agreements(alloc: Global, cases: u32) -> Result<(u32, u32), AllocError> {
 }
 
 #[test]
-fn the_solver_agrees_with_a_search_of_all_assignments(rt: HostRuntime) -> Result<(), Fail> {
+fn the_solver_agrees_with_the_plain_search(rt: HostRuntime) -> Result<(), Fail> {
     let (agreed, satisfiable) = agreements(rt.alloc(), 4000)?;
     assert_eq!(rt; agreed, 4000);
     assert!(rt; satisfiable > 1000 && satisfiable < 3000, "{satisfiable}");
