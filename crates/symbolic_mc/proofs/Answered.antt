@@ -1,5 +1,5 @@
 -- Why an answer is given.
-use Rattle.std.proofs.Common.{◌≡◌, ◌⊎◌, ℕ, ◌<◌, ◌≤◌, inl, inr, List, [], ◌∷◌, ◌++◌, map, length, Option, Some, None, refl, sym, ◌∙◌, ap, subst, arith}
+use Rattle.std.proofs.Common.{◌≡◌, ℕ, ◌≤◌, inr, List, [], ◌∷◌, ◌++◌, length, Option, Some, None, refl, sym, ◌∙◌, ap, subst, arith}
 use Rattle.std.specs.Prelude.{codes, IfSome}
 use Rattle.tool_outside.specs.Causes.{Holds, HandedOut, IsCut, IsLong}
 use Rattle.tool_outside.specs.Outside.{Folder, Changes, Rose, file_at}
@@ -18,7 +18,7 @@ use Rattle.tla_meaning.specs.BooleanLayout.{IsBooleanModule, IsBooleanLayout, de
 use Rattle.tla_values.specs.FileNames.{without_folder}
 use Rattle.trace_text.specs.declared.verdict.Verdict.{Verdict}
 use Rattle.symbolic_mc.specs.declared.answer.Answer.{Answer}
-use Rattle.symbolic_mc.specs.declared.answer.Answer.TheVariants.{ReadFault, TooLong, Missing, NotBuilt, WriteFault, Checked, NoCertificate, Rechecked}
+use Rattle.symbolic_mc.specs.declared.answer.Answer.TheVariants.{Missing, NotBuilt, WriteFault, Checked, NoCertificate, Rechecked}
 use Rattle.symbolic_mc.specs.Naming.{IsModuleOf, certificate_name}
 use Rattle.symbolic_mc.specs.Top.{IsOnlyBooleanLayout, Checks, IsAnswer, ReadFailed, IsTooLong, NoModule, NotInLayout, WriteFailed, Found, NoFile, Reread, Names, Saves, SavesPart, Touches, certificate_limit, module_limit}
 use Rattle.symbolic_mc.specs.Verdicts.{IsChecked}

@@ -1,8 +1,7 @@
 -- The verdict of all levels with its certificate.
-use Rattle.std.proofs.Common.{◌≡◌, ℕ, ◌+◌, ◌<◌, ◌≤◌, List, [], Option, Some, refl, sym, ◌∙◌, ap, subst, arith}
+use Rattle.std.proofs.Common.{◌≡◌, ℕ, ◌+◌, ◌<◌, ◌≤◌, List, [], Option, Some, refl, sym, ◌∙◌, subst, arith}
 use Rattle.refutation_checker.specs.declared.section.Section.{Section}
 use Rattle.tla_meaning.specs.declared.boolean.BooleanModule.{BooleanModule}
-use Rattle.tla_meaning.specs.declared.job.Job.{Job}
 use Rattle.tla_meaning.specs.declared.questions.Query.TheVariants.{InvNotTrue}
 use Rattle.tla_meaning.specs.BooleanLayout.{job_of}
 use Rattle.trace_text.specs.declared.verdict.Verdict.{Verdict}

@@ -1,5 +1,5 @@
 -- The formulas of the levels ask their questions.
-use Rattle.std.proofs.Common.{◌≡◌, ℕ, zero, suc, ◌+◌, ◌<◌, Bool, true, false, List, [], ◌∷◌, ◌++◌, map, length, get_or, Some, None, refl, sym, ◌∙◌, ap, subst, arith}
+use Rattle.std.proofs.Common.{◌≡◌, ℕ, zero, suc, ◌+◌, Bool, false, List, [], length, get_or, Some, refl, sym, ◌∙◌, ap, subst}
 use Rattle.std.proofs.lemmas.Bool.{false≢true}
 use Rattle.std.proofs.lemmas.List.{length-map}
 use Rattle.sat_formula.specs.declared.lit.Lit.{Lit}
@@ -13,15 +13,14 @@ use Rattle.tla_meaning.specs.declared.outcome.Outcome.{Outcome}
 use Rattle.tla_meaning.specs.declared.questions.Query.{Query}
 use Rattle.tla_meaning.specs.declared.questions.Query.TheVariants.{StepWrong, StepBig, InvNotTrue, InvBig, AssumeBig}
 use Rattle.tla_meaning.specs.BooleanLayout.{IsBooleanModule, job_of}
-use Rattle.tla_meaning.specs.Executions.{IsExecution, IsWrongOutcome, IsYes, Reaches, invariant, is_yes, last_of, next, start}
+use Rattle.tla_meaning.specs.Executions.{IsExecution, IsWrongOutcome, invariant, last_of}
 use Rattle.tla_meaning.specs.Numbers.{Width}
 use Rattle.tla_meaning.specs.Operators.{yes_no}
 use Rattle.tla_meaning.specs.Questions.{IsBigOutcome, IsNotTrue}
 use Rattle.tla_values.specs.declared.value.Value.TheVariants as value
-use Rattle.symbolic_mc.specs.Encodings.{Decodes, Encodes, InvariantShows, Shows, StepShows, decoded, states_asked}
-use Rattle.symbolic_mc.specs.States.{state_of}
+use Rattle.symbolic_mc.specs.Encodings.{Encodes, InvariantShows, Shows, StepShows, states_asked}
 use Rattle.symbolic_mc.specs.inner.Boolean.{inv_holds}
-use Rattle.symbolic_mc.specs.inner.Levels.{values_of, IsBroken, IsLevel}
+use Rattle.symbolic_mc.specs.inner.Levels.{IsBroken, IsLevel}
 use Rattle.symbolic_mc.proofs.Errors.{RunTo, next_at, never_wrong, not_true, reached, size_is, start_at}
 use Rattle.symbolic_mc.proofs.Found.{broken_decoded, broken_run, execution_decoded, satisfied}
 use Rattle.symbolic_mc.proofs.Meaning.{invariant_is, yes_or_no}

@@ -1,5 +1,5 @@
 -- Assignments of a level and executions: each stands for the other.
-use Rattle.std.proofs.Common.{◌≡◌, ℕ, ◌+◌, ◌<◌, ◌≤◌, inl, inr, Bool, true, false, List, [], ◌∷◌, ◌++◌, map, length, get_or, Some, None, refl, sym, ◌∙◌, ap, subst, arith}
+use Rattle.std.proofs.Common.{◌≡◌, ℕ, ◌+◌, Bool, true, false, List, [], ◌∷◌, map, length, get_or, Some, None, refl, sym, ◌∙◌, ap, subst, arith}
 use Rattle.std.specs.Prelude.{not, Option, IfSome, IfNone}
 use Rattle.std.specs.Bool.{OnTrue, OnFalse}
 use Rattle.sat_formula.specs.declared.lit.Lit.{Lit}
@@ -20,7 +20,7 @@ use Rattle.symbolic_mc.specs.Encodings.{Decodes}
 use Rattle.symbolic_mc.specs.States.{state_of}
 use Rattle.symbolic_mc.specs.inner.Boolean.{IsRun, inv_holds}
 use Rattle.symbolic_mc.specs.inner.Checking.{Breaks, NoError}
-use Rattle.symbolic_mc.specs.inner.Levels.{values_of, HasRuns, IsBroken, IsLevel}
+use Rattle.symbolic_mc.specs.inner.Levels.{values_of, IsBroken, IsLevel}
 use Rattle.symbolic_mc.proofs.Errors.{errs_run, execution_run}
 use Rattle.symbolic_mc.proofs.Meaning.{execution_is, invariant_is, last_is}
 use Rattle.symbolic_mc.proofs.Reaching.{required_more}

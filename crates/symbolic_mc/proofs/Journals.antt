@@ -1,5 +1,5 @@
 -- A journal after one more question.
-use Rattle.std.proofs.Common.{◌≡◌, ℕ, suc, ◌+◌, ◌<◌, Bool, true, false, List, [], ◌∷◌, ◌++◌, map, length, Option, Some, refl, sym, ◌∙◌, ap, subst, arith, append_assoc}
+use Rattle.std.proofs.Common.{◌≡◌, ℕ, suc, ◌+◌, Bool, true, false, List, [], ◌∷◌, ◌++◌, length, Option, Some, refl, sym, ◌∙◌, ap, subst, arith, append_assoc}
 use Rattle.std.proofs.lemmas.List.{append-nil}
 use Rattle.sat_formula.specs.declared.cnf.Cnf.{Cnf}
 use Rattle.sat_formula.specs.declared.lit.Lit.{Lit}
@@ -10,18 +10,17 @@ use Rattle.refutation_checker.specs.declared.section.Section.{Section}
 use Rattle.tla_meaning.specs.declared.boolean.BooleanModule.{BooleanModule}
 use Rattle.tla_meaning.specs.declared.job.Job.{Job}
 use Rattle.tla_meaning.specs.declared.questions.Query.{Query}
-use Rattle.tla_meaning.specs.declared.questions.Query.TheVariants.{StepWrong, StepBig, InvNotTrue, InvBig, AssumeBig}
+use Rattle.tla_meaning.specs.declared.questions.Query.TheVariants.{StepWrong, StepBig, InvNotTrue, InvBig}
 use Rattle.tla_meaning.specs.BooleanLayout.{IsBooleanModule, job_of}
 use Rattle.tla_meaning.specs.Numbers.{Width}
-use Rattle.tla_meaning.specs.Questions.{asked_before}
 use Rattle.symbolic_mc.specs.declared.asking.Journal.{Journal}
 use Rattle.symbolic_mc.specs.declared.asking.Question.{Question}
 use Rattle.symbolic_mc.specs.declared.asking.Reply.{Reply}
 use Rattle.symbolic_mc.specs.declared.asking.Reply.TheVariants.{Refuted, Holds, Spent}
 use Rattle.symbolic_mc.specs.Encodings.{Encodes, states_asked}
-use Rattle.symbolic_mc.specs.Sections.{Asked, AreRefuted, Asks, IsLeftOpen, IsRefuted, all_queries, asked_below, asked_until, conflicts_in, conflicts_spent, name_of}
-use Rattle.symbolic_mc.specs.Verdicts.{width, IsCutAt}
-use Rattle.symbolic_mc.specs.inner.Asking.{AddsOpen, AddsRefuted, HasRefuted, IsCutAtLevel, IsLeft, IsReply, left_after, section_of}
+use Rattle.symbolic_mc.specs.Sections.{Asked, AreRefuted, IsRefuted, asked_below, asked_until, conflicts_in, conflicts_spent, name_of}
+use Rattle.symbolic_mc.specs.Verdicts.{width}
+use Rattle.symbolic_mc.specs.inner.Asking.{AddsOpen, AddsRefuted, HasRefuted, IsCutAtLevel, IsLeft, IsReply, section_of}
 use Rattle.symbolic_mc.specs.inner.Checking.{never}
 use Rattle.symbolic_mc.specs.inner.Levels.{IsLevel}
 use Rattle.symbolic_mc.proofs.Encoded.{IsNever, encodes_never}

@@ -1,15 +1,14 @@
 -- What is found at a level.
-use Rattle.std.proofs.Common.{◌≡◌, ℕ, ◌+◌, ◌<◌, Bool, List, map, length, Option, Some, None, refl, sym, ◌∙◌, ap, subst, arith}
+use Rattle.std.proofs.Common.{◌≡◌, ℕ, ◌+◌, Bool, List, map, length, Option, Some, None, refl, sym, ◌∙◌, ap, subst}
 use Rattle.std.specs.Prelude.{codes, unwrap_or}
 use Rattle.sat_formula.specs.declared.cnf.Cnf.{Cnf}
 use Rattle.sat_formula.specs.declared.lit.Lit.{Lit}
-use Rattle.cdcl_solver.specs.Answers.{clauses_with, IsModel}
-use Rattle.refutation_checker.specs.Follows.{IsUnsatisfiable}
+use Rattle.cdcl_solver.specs.Answers.{IsModel}
 use Rattle.refutation_checker.specs.declared.section.QueryName.TheVariants as name
 use Rattle.tla_meaning.specs.declared.boolean.BooleanModule.{BooleanModule}
 use Rattle.tla_meaning.specs.declared.job.State.{State}
 use Rattle.tla_meaning.specs.declared.questions.Query.TheVariants.{InvNotTrue, InvBig}
-use Rattle.tla_meaning.specs.BooleanLayout.{IsBooleanModule, job_of}
+use Rattle.tla_meaning.specs.BooleanLayout.{IsBooleanModule}
 use Rattle.trace_text.specs.declared.verdict.Fault.TheVariants.{InvFalse}
 use Rattle.trace_text.specs.declared.verdict.Verdict.{Verdict}
 use Rattle.trace_text.specs.declared.verdict.Verdict.TheVariants.{Error, Spent}

@@ -24,16 +24,6 @@ pub and_true : (b : Bool) → (b && true) ≡ b
 and_true true = refl
 and_true false = refl
 
--- one more operand of a conjunction
-pub and_step : (f g : Cnf) (all out : Lit) (lits : List Lit) (i : ℕ) (d : Lit) → i < length lits
-    → HasValue f all (λ a. list_all (λ x. lit_value x a) (take i lits)) → Grows f g
-    → HasValue g out (λ a. lit_value all a && lit_value (get_or lits i d) a)
-    → HasValue g out (λ a. list_all (λ x. lit_value x a) (take (i + 1) lits))
-and_step f g all out lits i d lt before grown now =
-    HasValue-same g out (λ a. lit_value all a && lit_value (get_or lits i d) a) _ now (λ a sat.
-    ap (λ b. b && lit_value (get_or lits i d) a) (before.value a (Satisfies-older f g a grown sat))
-    ∙ sym (list_all_more (λ x. lit_value x a) lits i d lt))
-
 -- one more operand of a disjunction
 pub or_step : {X : Type 0} (f g h : Cnf) (some holds out : Lit) (xs : List X) (i : ℕ) (d x : X) (value : X → List Bool → Bool) → i < length xs
     → HasValue f some (λ a. list_any (λ y. value y a) (take i xs)) → Grows f g

@@ -1,5 +1,5 @@
 -- What a module of Boolean variables says is what its job means.
-use Rattle.std.proofs.Common.{◌≡◌, ℕ, zero, suc, ◌+◌, ◌<◌, Bool, true, false, not, List, [], ◌∷◌, ◌++◌, map, length, take, filter, get_or, Option, Some, None, All, ◌⊎◌, inl, inr, refl, sym, ◌∙◌, ap, subst, arith}
+use Rattle.std.proofs.Common.{◌≡◌, ℕ, zero, suc, ◌+◌, ◌<◌, Bool, true, false, not, List, [], ◌∷◌, map, length, take, filter, get_or, Option, Some, None, All, ◌⊎◌, inl, inr, refl, sym, ◌∙◌, ap, subst, arith}
 use Rattle.std.specs.Prelude.{◌&&◌, ◌||◌, slice_get, if◌then◌else◌, IsTrue}
 use Rattle.std.specs.List.{list_all, list_any}
 use Rattle.std.proofs.lemmas.List.{length-map}
@@ -13,8 +13,7 @@ use Rattle.tla_values.specs.declared.value.Value.{Value}
 use Rattle.tla_values.specs.declared.value.Value.TheVariants as value
 use Rattle.tla_meaning.specs.declared.boolean.BooleanModule.{BooleanModule}
 use Rattle.tla_meaning.specs.declared.boolean.Conjunct.{Conjunct}
-use Rattle.tla_meaning.specs.declared.expr.Expr.{Expr, out-roll-Expr}
-use Rattle.tla_meaning.specs.declared.expr.Expr.TheOpen.{Expr-F}
+use Rattle.tla_meaning.specs.declared.expr.Expr.{Expr}
 use Rattle.tla_meaning.specs.declared.expr.Decl.{Decl}
 use Rattle.tla_meaning.specs.declared.forms.SetForm.TheVariants as form
 use Rattle.tla_meaning.specs.declared.job.State.{State}
@@ -30,7 +29,7 @@ use Rattle.tla_meaning.specs.Scopes.{Denotation}
 use Rattle.tla_meaning.specs.Meaning.{outcomes, outer, conjoined, disjoined}
 use Rattle.tla_meaning.specs.Actions.{val, meaning, effects, effects_and, effects_or, effect_of, outcome_of, any_mentions}
 use Rattle.tla_meaning.specs.Executions.{no_scope, start, next, invariant, first_not_yes, is_yes, IsYes, IsState, AreSteps, IsExecution, last_of, in_init, in_cinit, in_next}
-use Rattle.tla_meaning.specs.BooleanLayout.{behind, leaf, tree, operator, operand, conjunct_text, conjunct_tree, conjunct_trees, conjunction_tree, branch_trees, next_tree, declarations, job_of, no_part, place_at, init_line}
+use Rattle.tla_meaning.specs.BooleanLayout.{behind, leaf, tree, operator, operand, conjunct_text, conjunct_tree, conjunct_trees, conjunction_tree, branch_trees, next_tree, declarations, job_of, place_at, init_line}
 use Rattle.tla_meaning.proofs.MeaningLemmas.{belongs-out, val-roll, denotation-roll}
 use Rattle.symbolic_mc.specs.inner.Boolean.{allows, holds_at, all_hold, some_holds, init_holds, next_holds, inv_holds, SpeakOf, RunsOn, IsRun}
 use Rattle.symbolic_mc.specs.States.{state_of}

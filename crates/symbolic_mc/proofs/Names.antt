@@ -1,5 +1,5 @@
 -- The names of files without their ending, and the declarations of a job.
-use Rattle.std.proofs.Common.{◌≡◌, ℕ, ◌+◌, ◌-◌, ◌*◌, ◌<◌, List, [], ◌∷◌, ◌++◌, length, take, get_or, refl, sym, ◌∙◌, ap, subst, arith, Option, Some, None}
+use Rattle.std.proofs.Common.{◌≡◌, ℕ, ◌+◌, ◌*◌, List, [], ◌∷◌, ◌++◌, length, sym, ◌∙◌, ap, arith}
 use Rattle.std.specs.Prelude.{codes, false}
 use Rattle.tla_values.specs.FileNames.{without_ending}
 use Rattle.tla_values.proofs.FileLemmas.{ending_there}

@@ -1,10 +1,9 @@
 -- Pieces of a text, one behind another.
-use Rattle.std.proofs.Common.{◌≡◌, ℕ, zero, suc, ◌+◌, ◌-◌, ◌<◌, ◌≤◌, Bool, true, false, List, [], ◌∷◌, ◌++◌, length, take, drop, get_or, Option, Some, None, Result, Ok, Err, refl, sym, ◌∙◌, ap, subst, arith, append_assoc, length-append, codes}
-use Rattle.std.specs.Prelude.{flat_map, ◌||◌, if◌then◌else◌, MatchOption, IfOk, IfSome, IfNone, unwrap_or, bytes_eq, IsTrue}
-use Rattle.std.specs.List.{join_by, list_any}
+use Rattle.std.proofs.Common.{◌≡◌, ℕ, ◌<◌, Bool, true, List, [], ◌∷◌, ◌++◌, length, get_or, Option, Some, None, Result, Ok, Err, refl, sym, ◌∙◌, ap, arith, append_assoc, length-append, codes}
+use Rattle.std.specs.Prelude.{flat_map, MatchOption, IfOk, IfSome, IfNone, unwrap_or, bytes_eq, IsTrue}
+use Rattle.std.specs.List.{join_by}
 use Rattle.std.proofs.lemmas.Grind.{flat_map-append}
-use Rattle.std.proofs.lemmas.List.{append-nil, append_cancel_right, take_all, length-drop}
-use Rattle.std.proofs.lemmas.Bool.{or_right, eq-eqb}
+use Rattle.std.proofs.lemmas.List.{append-nil, append_cancel_right}
 use Rattle.std.proofs.lemmas.Option.{slice_get_read}
 use Rattle.std.proofs.lemmas.Slice.Eq.{bytes_eq-Decides}
 use Rattle.tla_values.specs.FileNames.{without_folder}

@@ -2,7 +2,6 @@
 use Rattle.std.proofs.Common.{◌≡◌, ℕ, ◌<◌, ◌≤◌, inl, inr, ◌⊎◌, List, length, Option, None, Some, Result, Ok, Err, refl, sym, ◌∙◌, ap, subst, arith}
 use Rattle.std.specs.Prelude.{OnOk, OnErr, unwrap_or}
 use Rattle.std.specs.Io.KnownBytes.{Appends}
-use Rattle.refutation_checker.specs.declared.answers.Recheck.{Recheck}
 use Rattle.refutation_checker.specs.declared.answers.Recheck.TheVariants.{Accepted, BadLine, BadStep}
 use Rattle.tool_outside.specs.Causes.{Holds, IsLong, WritesPrefix, Stayed}
 use Rattle.tool_outside.specs.Outside.{Folder, Rose, file_at}
@@ -12,9 +11,8 @@ use Rattle.tla_meaning.specs.BooleanLayout.{IsBooleanLayout}
 use Rattle.trace_text.specs.declared.verdict.Verdict.{Verdict}
 use Rattle.trace_text.specs.declared.verdict.Verdict.TheVariants.{Clean, Inductive, Error, Overflow, Spent, NotInductive}
 use Rattle.symbolic_mc.specs.declared.answer.Answer.{Answer}
-use Rattle.symbolic_mc.specs.declared.answer.Answer.TheVariants.{Usage, ReadFault, TooLong, Missing, NotBuilt, WriteFault, Checked, NoCertificate, Rechecked}
-use Rattle.symbolic_mc.specs.Report.{status_of, verdict_status, recheck_status, report_of, memory_line}
-use Rattle.symbolic_mc.specs.Top.{IsAnswer, NoCommand, ReadFailed, IsTooLong, NoModule, NotInLayout, WriteFailed, Found, NoFile, Reread, Names, Checks, AsksForBooleanLayout, AsksToRecheck, IsStatus, IsVerdictStatus, IsCutStatus, Tells, TellsPart, WritesError, WritesClean, WritesAccepted, module_limit, certificate_limit}
+use Rattle.symbolic_mc.specs.Report.{status_of, verdict_status, report_of, memory_line}
+use Rattle.symbolic_mc.specs.Top.{IsAnswer, NoCommand, ReadFailed, IsTooLong, NoModule, NotInLayout, WriteFailed, Found, NoFile, Reread, AsksForBooleanLayout, AsksToRecheck, IsStatus, IsVerdictStatus, IsCutStatus, Tells, TellsPart, WritesError, WritesClean, WritesAccepted, module_limit}
 use Rattle.symbolic_mc.specs.Verdicts.{IsVerdict}
 use Rattle.symbolic_mc.specs.Words.{Command, Request}
 use Rattle.symbolic_mc.specs.inner.Told.{IsCalm, IsTold}

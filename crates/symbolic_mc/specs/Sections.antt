@@ -1,5 +1,5 @@
 -- The certificate of a verdict: a section for each question that was refuted, in the order in which they are asked.
-use Rattle.std.specs.Prelude.{◌≡◌, ℕ, zero, suc, ◌+◌, ◌<◌, ◌≤◌, nat_lt, Bool, true, false, List, [], ◌∷◌, ◌++◌, map, length, Option, None, Some, All, count_by, sum_by, ⊤}
+use Rattle.std.specs.Prelude.{◌≡◌, ℕ, zero, suc, ◌<◌, ◌≤◌, nat_lt, true, false, List, [], ◌∷◌, ◌++◌, map, length, Option, None, Some, All, count_by, sum_by, ⊤}
 use Rattle.cdcl_solver.specs.Answers.{EachNew}
 use Rattle.refutation_checker.specs.Follows.{EachFollows, Refutes}
 use Rattle.refutation_checker.specs.declared.log.Step.{Step}

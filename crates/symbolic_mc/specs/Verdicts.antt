@@ -13,7 +13,6 @@ use Rattle.trace_text.specs.declared.verdict.Fault.TheVariants.{InvFalse}
 use Rattle.trace_text.specs.declared.verdict.Trace.{Trace}
 use Rattle.trace_text.specs.declared.verdict.Verdict.{Verdict}
 use Rattle.trace_text.specs.declared.verdict.Verdict.TheVariants.{Clean, Inductive, Error, Overflow, Spent, NotInductive}
-use Rattle.trace_text.specs.declared.verdict.Where.{Where}
 use Rattle.trace_text.specs.declared.verdict.Where.TheVariants.{Level, Typed}
 use Rattle.symbolic_mc.specs.Sections.{asked_below, asked_until, AreRefuted, IsLeftOpen, IsWithin, conflicts_spent}
 

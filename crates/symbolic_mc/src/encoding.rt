@@ -202,21 +202,7 @@ fn conjunction(
     ensures grows { Grows formula.old formula.new }
 {
     let lits = literals(alloc, conjuncts, now, next)?;
-    all_of(formula, &lits)
-}
-
-// A literal that is true exactly where all of these are.
-#[tactic(auto, using(sat_formula::proofs::Extension::gates))]
-fn all_of(formula: &mut Formula, lits: &[Lit]) -> Result<Lit, AllocError>
-    requires { All (IsBelow formula.old.vars) lits.now }
-    ensures value { IfOk result (λ l. HasValue formula.new l (λ a. list_all (λ x. lit_value x a) lits.now)) }
-    ensures grows { Grows formula.old formula.new }
-{
-    let mut all = formula.top();
-    for lit in lits {
-        all = formula.and(all, *lit)?;
-    }
-    Ok(all)
+    formula.and_all(alloc, &lits)
 }
 
 // From now on each of these literals is true.

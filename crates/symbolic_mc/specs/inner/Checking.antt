@@ -1,5 +1,5 @@
 -- What is known after the questions of a level, whatever the module's file is called.
-use Rattle.std.specs.Prelude.{◌≡◌, ℕ, ◌+◌, List, length, codes, Option, Some, None, true}
+use Rattle.std.specs.Prelude.{◌≡◌, ℕ, List, codes, Some, None, true}
 use Rattle.refutation_checker.specs.declared.section.QueryName.{QueryName}
 use Rattle.tla_meaning.specs.declared.boolean.BooleanModule.{BooleanModule}
 use Rattle.tla_meaning.specs.declared.job.State.{State}
@@ -11,7 +11,6 @@ use Rattle.trace_text.specs.declared.verdict.Fault.TheVariants.{InvFalse}
 use Rattle.trace_text.specs.declared.verdict.Trace.{Trace}
 use Rattle.trace_text.specs.declared.verdict.Verdict.{Verdict}
 use Rattle.trace_text.specs.declared.verdict.Verdict.TheVariants.{Clean, Inductive, Error, Overflow, Spent, NotInductive}
-use Rattle.trace_text.specs.declared.verdict.Where.{Where}
 use Rattle.trace_text.specs.declared.verdict.Where.TheVariants.{Level, Typed}
 use Rattle.symbolic_mc.specs.declared.asking.Journal.{Journal}
 use Rattle.symbolic_mc.specs.declared.asking.Question.{Question}

@@ -1,6 +1,6 @@
-use Rattle.std.proofs.Common.{◌≡◌, refl, arith, below_more, ap, ◌∙◌, length}
+use Rattle.std.proofs.Common.{arith, below_more, ap, ◌∙◌, length}
 use Rattle.symbolic_mc.specs.inner.Checking.{IsFound, NoError}
-use Rattle.symbolic_mc.proofs.Checked.{clean_checked, first_journal, found_checked}
+use Rattle.symbolic_mc.proofs.Checked.{first_journal, found_checked}
 use Rattle.symbolic_mc.proofs.Found.{some_of, none_of}
 use Rattle.symbolic_mc.proofs.checking.check.Goals as goal
 

@@ -1,4 +1,4 @@
-use Rattle.std.proofs.Common.{◌≡◌, ◌+◌, length, ◌∙◌, ap, arith}
+use Rattle.std.proofs.Common.{◌≡◌, ◌+◌, length, ap, arith}
 use Rattle.tla_meaning.specs.declared.questions.Query.TheVariants.{InvBig}
 use Rattle.symbolic_mc.proofs.Found.{none_of, where_false, where_true}
 use Rattle.symbolic_mc.proofs.Journals.{ends_level, never_cut, never_refuted}

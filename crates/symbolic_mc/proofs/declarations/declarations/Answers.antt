@@ -1,4 +1,4 @@
-use Rattle.std.proofs.Common.{◌≡◌, ℕ, ◌+◌, ◌*◌, List, ◌∷◌, [], ◌++◌, take, get_or, length, ap, sym, ◌∙◌, arith}
+use Rattle.std.proofs.Common.{◌≡◌, ◌+◌, ◌*◌, List, ◌∷◌, [], ◌++◌, take, get_or, length, ap, sym, ◌∙◌, arith}
 use Rattle.std.proofs.lemmas.List.{take_more, length-take-le}
 use Rattle.tla_meaning.specs.declared.expr.Decl.{Decl}
 use Rattle.tla_meaning.specs.BooleanLayout.{declarations}

@@ -1,4 +1,4 @@
-use Rattle.std.proofs.Common.{◌≡◌, ◌+◌, ◌≤◌, length, All}
+use Rattle.std.proofs.Common.{◌≡◌, ◌+◌, length, All}
 use Rattle.sat_formula.specs.Formula.{Grows}
 use Rattle.sat_formula.specs.Lit.{IsBelow}
 use Rattle.symbolic_mc.proofs.Reaching.{IsFree}

@@ -1,4 +1,4 @@
-use Rattle.std.proofs.Common.{arith, ◌∙◌}
+use Rattle.std.proofs.Common.{◌∙◌}
 use Rattle.sat_formula.proofs.Extension.{Grows-trans}
 use Rattle.symbolic_mc.specs.inner.Boolean.{all_hold}
 use Rattle.symbolic_mc.specs.inner.Levels.{values_of}

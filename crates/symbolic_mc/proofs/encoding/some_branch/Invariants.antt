@@ -1,4 +1,4 @@
-use Rattle.std.proofs.Common.{take, ◌≤◌}
+use Rattle.std.proofs.Common.{take}
 use Rattle.sat_formula.specs.Formula.{Grows, HasValue}
 use Rattle.symbolic_mc.specs.inner.Boolean.{some_holds}
 use Rattle.symbolic_mc.specs.inner.Levels.{values_of}

@@ -1,4 +1,3 @@
-use Rattle.std.proofs.Common.{◌∙◌}
 use Rattle.tla_values.proofs.FileLemmas.{no_ending}
 use Rattle.symbolic_mc.proofs.Names.{ending_left}
 use Rattle.symbolic_mc.proofs.naming.without_ending.Goals as goal

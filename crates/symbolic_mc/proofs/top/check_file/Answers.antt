@@ -1,12 +1,11 @@
-use Rattle.std.proofs.Common.{ℕ, ◌≤◌, inl, inr, refl, ap, subst, length, Err, Option}
+use Rattle.std.proofs.Common.{ℕ, inl, refl, ap, subst, Err, Option}
 use Rattle.std.specs.Option.{option_map}
 use Rattle.std.specs.Prelude.{Vec}
 use Rattle.std.specs.declared.alloc.Global.{Global}
 use Rattle.tool_outside.specs.Outside.{Folder}
 use Rattle.symbolic_mc.specs.Top.{Touches, module_limit}
 use Rattle.symbolic_mc.specs.inner.Told.{requests}
-use Rattle.symbolic_mc.proofs.Answered.{failed_read, handed_out, no_module, not_held}
-use Rattle.symbolic_mc.proofs.Found.{some_of}
+use Rattle.symbolic_mc.proofs.Answered.{failed_read, no_module, not_held}
 use Rattle.symbolic_mc.proofs.Texts.{on_ok}
 use Rattle.symbolic_mc.proofs.top.check_file.Goals as goal
 

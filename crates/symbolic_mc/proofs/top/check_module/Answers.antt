@@ -1,4 +1,4 @@
-use Rattle.std.proofs.Common.{◌∷◌, [], ◌∙◌, ap, refl, sym, inr, Err}
+use Rattle.std.proofs.Common.{◌∙◌, ap, refl, sym, inr, Err}
 use Rattle.tla_meaning.specs.BooleanLayout.{declarations}
 use Rattle.symbolic_mc.proofs.Answered.{fault_answer, found_answer, part_touches, saved_touches}
 use Rattle.symbolic_mc.proofs.top.check_module.Goals as goal

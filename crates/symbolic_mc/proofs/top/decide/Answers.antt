@@ -1,4 +1,4 @@
-use Rattle.std.proofs.Common.{List, ℕ, Option, refl, subst, sym}
+use Rattle.std.proofs.Common.{Option, refl, subst, sym}
 use Rattle.symbolic_mc.specs.Top.{NoCommand, Touches}
 use Rattle.symbolic_mc.specs.Words.{Request, recheck_of}
 use Rattle.symbolic_mc.proofs.top.decide.Goals as goal

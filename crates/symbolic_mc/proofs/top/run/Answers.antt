@@ -1,5 +1,5 @@
 use Rattle.symbolic_mc.proofs.Commands.{words_apart}
-use Rattle.symbolic_mc.proofs.Told.{told_clean, told_error, told_files_fault, told_form, told_memory, told_recheck, told_status, told_unwritten, told_usage, told_whole}
+use Rattle.symbolic_mc.proofs.Told.{told_clean, told_error, told_form, told_memory, told_recheck, told_status, told_unwritten, told_usage, told_whole}
 use Rattle.symbolic_mc.proofs.top.run.Goals as goal
 
 pub returns-in-Ok-clause-error : goal.returns-in-Ok-clause-error
