@@ -10,7 +10,7 @@ use Rattle.std.proofs.lemmas.List.{take_all}
 use Rattle.refutation_checker.specs.declared.answers.Recheck.{Recheck}
 use Rattle.refutation_checker.specs.declared.section.Section.{Section}
 use Rattle.refutation_checker.specs.Certificate.{certificate_text}
-use Rattle.refutation_checker.specs.Rechecking.{IsRechecked}
+use Rattle.refutation_checker.specs.Rechecking.{IsRechecked, RefutesClosed, WhereAccepted}
 use Rattle.tla_meaning.specs.declared.boolean.BooleanModule.{BooleanModule}
 use Rattle.tla_meaning.specs.declared.expr.Decl.{Decl}
 use Rattle.tla_meaning.specs.declared.job.Job.{Job}
@@ -53,9 +53,10 @@ failed_read c file limit old new before now (fail.Memory e) answer names rose lo
 -- ---- a certificate
 
 pub reread : (cert bytes seen : List ℕ) (old new : Option Folder) (before now : ℕ) (answer : Recheck) → HandedOut old cert certificate_limit bytes → seen ≡ bytes
-    → IsRechecked seen answer → new ≡ old → IsAnswer (None, Some cert) old new before now (Rechecked answer)
-reread cert bytes seen old new before now answer handed same is stay =
-    Reread cert bytes answer refl handed (subst (λ (x : List ℕ). IsRechecked x answer) same is) stay
+    → IsRechecked seen answer → WhereAccepted answer (RefutesClosed seen) → new ≡ old → IsAnswer (None, Some cert) old new before now (Rechecked answer)
+reread cert bytes seen old new before now answer handed same is refutes stay =
+    Reread cert bytes answer refl handed (subst (λ (x : List ℕ). IsRechecked x answer) same is)
+    (subst (λ (x : List ℕ). WhereAccepted answer (RefutesClosed x)) same refutes) stay
 
 pub no_certificate : (cert : List ℕ) (old new : Option Folder) (before now : ℕ) → Holds old cert None → new ≡ old → IsAnswer (None, Some cert) old new before now NoCertificate
 no_certificate cert old new before now none stay = NoFile cert refl none stay

@@ -10,7 +10,7 @@ use Rattle.refutation_checker.specs.declared.section.Section.{Section}
 use Rattle.tla_meaning.specs.declared.boolean.BooleanModule.{BooleanModule}
 use Rattle.tla_meaning.specs.declared.job.Job.{Job}
 use Rattle.tla_meaning.specs.declared.questions.Query.{Query}
-use Rattle.tla_meaning.specs.declared.questions.Query.TheVariants.{StepWrong, StepBig, InvNotTrue, InvBig}
+use Rattle.tla_meaning.specs.declared.questions.Query.TheVariants.{StepWrong, StepBig, InvNotTrue, InvBig, AssumeBig}
 use Rattle.tla_meaning.specs.BooleanLayout.{IsBooleanModule, job_of}
 use Rattle.tla_meaning.specs.Numbers.{Width}
 use Rattle.symbolic_mc.specs.declared.asking.Journal.{Journal}
@@ -53,7 +53,7 @@ journal_more m n q f question questions old new is_for encodes has adds =
     record {
       refuted = λ file. subst (AreRefuted width (job_of file m) (questions ++ (n, q) ∷ [])) (sym adds.sections)
           (refuted_more width (job_of file m) questions (n, q) old.sections.items s (has.refuted file) record {
-            asks = record { level = is_for.0; typed = refl; query = is_for.1; encodes = encodes file; new = adds.refutation.derived.new };
+            asks = record { level = is_for.0; typed = refl; query = is_for.1; encodes = encodes file; clauses = adds.within; steps = adds.refutation.derived.names; new = adds.refutation.derived.new };
             closed = refl;
             refutes = adds.refutation.refutes;
           });
@@ -61,9 +61,9 @@ journal_more m n q f question questions old new is_for encodes has adds =
           (subst (λ (k : ℕ). IsLeft old.budget k new.left) (sym sum) (subst (IsLeft old.budget (conflicts_spent old.sections.items + conflicts_in adds.log)) (sym adds.left) more));
     }
 
-pub journal_cut : (m : BooleanModule) (n : ℕ) (q : Query) (f : Cnf) (question : Question) (old new : Journal) → IsFor question n q
+pub journal_cut : (m : BooleanModule) (n : ℕ) (q : Query) (f : Cnf) (question : Question) (old new : Journal) → IsFor question n q → (q ≡ AssumeBig → ⊥)
     → EncodesAll m n q f question → HasRefuted m (asked_until n q) old → AddsOpen f question old new → IsCutAtLevel m n new
-journal_cut m n q f question old new is_for encodes has adds =
+journal_cut m n q f question old new is_for of_levels encodes has adds =
     let s : Section = section_of f question adds.log true in
     let sum : conflicts_spent new.sections.items ≡ conflicts_spent old.sections.items + length adds.log =
     ap conflicts_spent adds.sections ∙ spent_more old.sections.items s ∙ ap (λ (k : ℕ). conflicts_spent old.sections.items + k) (all_conflicts adds.log adds.spent.some) in
@@ -72,12 +72,13 @@ journal_cut m n q f question old new is_for encodes has adds =
       budget = adds.budget ∙ left_spent old.budget (conflicts_spent old.sections.items) (length adds.log) old.left has.left adds.spent.count ∙ ap (λ (k : ℕ). Some k) (sym sum);
       cut = λ file. record {
         query = q;
+        of_levels = of_levels;
         refuted = old.sections.items;
         last = s;
         sections_are = adds.sections;
         before = has.refuted file;
         left = record {
-          asks = record { level = is_for.0; typed = refl; query = is_for.1; encodes = encodes file; new = adds.spent.derived.new };
+          asks = record { level = is_for.0; typed = refl; query = is_for.1; encodes = encodes file; clauses = adds.within; steps = adds.spent.derived.names; new = adds.spent.derived.new };
           open_there = refl;
           follow = adds.spent.derived.follow;
           some = adds.spent.some;
@@ -121,7 +122,7 @@ module _ (m : BooleanModule) (n : ℕ) (q : Query) (f : Cnf) (codes : List (List
   never_refuted old new has adds = journal_more m n q f (never n (name_of q)) (asked_until n q) old new (refl, refl) encodes has adds
 
   pub never_cut : (old new : Journal) → HasRefuted m (asked_until n q) old → AddsOpen f (never n (name_of q)) old new → IsCutAtLevel m n new
-  never_cut old new has adds = journal_cut m n q f (never n (name_of q)) old new (refl, refl) encodes has adds
+  never_cut old new has adds = journal_cut m n q f (never n (name_of q)) old new (refl, refl) (λ e. subst IsNever e is) encodes has adds
 
 -- ---- what a reply says
 

@@ -37,7 +37,7 @@ module _ (m : BooleanModule) (n : ℕ) (f : Cnf) (codes : List (List Lit)) (l : 
   invariant_refuted old new has adds = to_inv_big m n new (journal_more m n InvNotTrue f (about n l) (asked_until n InvNotTrue) old new (refl, refl) encodes has adds)
 
   pub invariant_cut : (old new : Journal) → HasRefuted m (asked_until n InvNotTrue) old → AddsOpen f (about n l) old new → IsCutAtLevel m n new
-  invariant_cut old new has adds = journal_cut m n InvNotTrue f (about n l) old new (refl, refl) encodes has adds
+  invariant_cut old new has adds = journal_cut m n InvNotTrue f (about n l) old new (refl, refl) (λ e. cc) encodes has adds
 
   pub level_calm : (old new : Journal) → AddsRefuted f (about n l) old new → NoError m n
   level_calm old new adds = none_found m n f codes l wf level count broken adds.unsatisfiable

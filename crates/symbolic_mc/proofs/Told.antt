@@ -10,9 +10,10 @@ use Rattle.tla_meaning.specs.declared.job.Job.{Job}
 use Rattle.tla_meaning.specs.BooleanLayout.{IsBooleanLayout}
 use Rattle.trace_text.specs.declared.verdict.Verdict.{Verdict}
 use Rattle.trace_text.specs.declared.verdict.Verdict.TheVariants.{Clean, Inductive, Error, Overflow, Spent, NotInductive}
+use Rattle.trace_text.specs.declared.verdict.Where.TheVariants.{Level, Typed}
 use Rattle.symbolic_mc.specs.declared.answer.Answer.{Answer}
 use Rattle.symbolic_mc.specs.Report.{status_of, verdict_status, report_of, memory_line}
-use Rattle.symbolic_mc.specs.Top.{IsAnswer, NoCommand, ReadFailed, IsTooLong, NoModule, NotInLayout, WriteFailed, Found, NoFile, Reread, AsksForBooleanLayout, AsksToRecheck, IsStatus, IsVerdictStatus, IsCutStatus, Tells, TellsPart, WritesError, WritesClean, WritesAccepted, module_limit}
+use Rattle.symbolic_mc.specs.Top.{IsAnswer, NoCommand, ReadFailed, IsTooLong, NoModule, NotInLayout, WriteFailed, Found, NoFile, Reread, AsksForBooleanLayout, AsksToRecheck, IsStatus, IsVerdictStatus, IsCutStatus, Tells, TellsPart, WritesError, WritesClean, WritesSpent, WritesAccepted, module_limit}
 use Rattle.symbolic_mc.specs.Verdicts.{IsVerdict}
 use Rattle.symbolic_mc.specs.Words.{Command, Request}
 use Rattle.symbolic_mc.specs.inner.Told.{IsCalm, IsTold}
@@ -46,9 +47,9 @@ answer_status c old new before now _ (Found verdict sections k saved) =
     let of = found_status k.job k.longest k.budget verdict k.checked.verdict_is in
     (inl of.0, omega (arith, of.1))
 answer_status c old new before now _ (NoFile cert asked none stay) = (inr (inl refl), omega arith)
-answer_status c old new before now _ (Reread cert bytes (Accepted r o) asked handed is stay) = (inl (inl refl), omega arith)
-answer_status c old new before now _ (Reread cert bytes (BadLine n) asked handed is stay) = (inr (inl refl), omega arith)
-answer_status c old new before now _ (Reread cert bytes (BadStep q s) asked handed is stay) = (inr (inl refl), omega arith)
+answer_status c old new before now _ (Reread cert bytes (Accepted r o) asked handed is refutes stay) = (inl (inl refl), omega arith)
+answer_status c old new before now _ (Reread cert bytes (BadLine n) asked handed is refutes stay) = (inr (inl refl), omega arith)
+answer_status c old new before now _ (Reread cert bytes (BadStep q s) asked handed is refutes stay) = (inr (inl refl), omega arith)
 
 -- a check and a recheck are asked for by different words
 abbrev pub AreApart : Command → Type 0
@@ -100,7 +101,7 @@ form_answer c old new before now _ apart form stayed (NotInLayout file bytes lon
 form_answer c old new before now _ apart form stayed (WriteFailed verdict sections k rose saved) = absurd (omega arith)
 form_answer c old new before now _ apart form stayed (Found verdict sections k saved) = (found_status k.job k.longest k.budget verdict k.checked.verdict_is).0
 form_answer c old new before now _ apart form stayed (NoFile cert asked none stay) = absurd (apart _ _ form.asked asked)
-form_answer c old new before now _ apart form stayed (Reread cert bytes answer asked handed is stay) = absurd (apart _ _ form.asked asked)
+form_answer c old new before now _ apart form stayed (Reread cert bytes answer asked handed is refutes stay) = absurd (apart _ _ form.asked asked)
 
 cert_answer : (c : Command) (old new : Option Folder) (before now : ℕ) (answer : Answer) → AreApart c → AsksToRecheck c old → Stayed before now
     → IsAnswer c old new before now answer → (status_of answer ≡ 0) ⊎ (status_of answer ≡ 14)
@@ -116,9 +117,9 @@ cert_answer c old new before now _ apart form stayed (NotInLayout file bytes lon
 cert_answer c old new before now _ apart form stayed (WriteFailed verdict sections k rose saved) = absurd (apart _ _ k.asked form.asked)
 cert_answer c old new before now _ apart form stayed (Found verdict sections k saved) = absurd (apart _ _ k.asked form.asked)
 cert_answer c old new before now _ apart form stayed (NoFile cert asked none stay) = inr refl
-cert_answer c old new before now _ apart form stayed (Reread cert bytes (Accepted r o) asked handed is stay) = inl refl
-cert_answer c old new before now _ apart form stayed (Reread cert bytes (BadLine n) asked handed is stay) = inr refl
-cert_answer c old new before now _ apart form stayed (Reread cert bytes (BadStep q s) asked handed is stay) = inr refl
+cert_answer c old new before now _ apart form stayed (Reread cert bytes (Accepted r o) asked handed is refutes stay) = inl refl
+cert_answer c old new before now _ apart form stayed (Reread cert bytes (BadLine n) asked handed is refutes stay) = inr refl
+cert_answer c old new before now _ apart form stayed (Reread cert bytes (BadStep q s) asked handed is refutes stay) = inr refl
 
 usage_answer : (c : Command) (old new : Option Folder) (before now : ℕ) (answer : Answer) → c.0 ≡ None → c.1 ≡ None → IsAnswer c old new before now answer → status_of answer ≡ 31
 usage_answer c old new before now _ none again (NoCommand check recheck stay) = refl
@@ -131,7 +132,7 @@ usage_answer c old new before now _ none again (NotInLayout file bytes longest b
 usage_answer c old new before now _ none again (WriteFailed verdict sections k rose saved) = absurd (none_some (sym none ∙ k.asked))
 usage_answer c old new before now _ none again (Found verdict sections k saved) = absurd (none_some (sym none ∙ k.asked))
 usage_answer c old new before now _ none again (NoFile cert asked other stay) = absurd (none_some (sym again ∙ asked))
-usage_answer c old new before now _ none again (Reread cert bytes answer asked handed is stay) = absurd (none_some (sym again ∙ asked))
+usage_answer c old new before now _ none again (Reread cert bytes answer asked handed is refutes stay) = absurd (none_some (sym again ∙ asked))
 
 -- ---- verdicts that were written
 
@@ -151,9 +152,9 @@ error_answer c old new before now was is _ coded added (Found Inductive sections
 error_answer c old new before now was is _ coded added (Found (Overflow w part place trace) sections k saved) = absurd (omega arith)
 error_answer c old new before now was is _ coded added (Found (NotInductive fault trace) sections k saved) = absurd (omega arith)
 error_answer c old new before now was is _ coded added (NoFile cert asked none stay) = absurd (omega arith)
-error_answer c old new before now was is _ coded added (Reread cert bytes (Accepted r o) asked handed rechecked stay) = absurd (omega arith)
-error_answer c old new before now was is _ coded added (Reread cert bytes (BadLine n) asked handed rechecked stay) = absurd (omega arith)
-error_answer c old new before now was is _ coded added (Reread cert bytes (BadStep q s) asked handed rechecked stay) = absurd (omega arith)
+error_answer c old new before now was is _ coded added (Reread cert bytes (Accepted r o) asked handed rechecked refutes stay) = absurd (omega arith)
+error_answer c old new before now was is _ coded added (Reread cert bytes (BadLine n) asked handed rechecked refutes stay) = absurd (omega arith)
+error_answer c old new before now was is _ coded added (Reread cert bytes (BadStep q s) asked handed rechecked refutes stay) = absurd (omega arith)
 
 clean_answer : (c : Command) (old new : Option Folder) (before now : ℕ) (was is : Option (List ℕ)) (answer : Answer) → status_of answer ≡ 0
     → Appends was is (report_of answer) → IsAnswer c old new before now answer → WritesClean c old new was is ⊎ WritesAccepted c old new was is
@@ -171,10 +172,31 @@ clean_answer c old new before now was is _ coded added (Found Inductive sections
 clean_answer c old new before now was is _ coded added (Found (Overflow w part place trace) sections k saved) = absurd (omega arith)
 clean_answer c old new before now was is _ coded added (Found (NotInductive fault trace) sections k saved) = absurd (omega arith)
 clean_answer c old new before now was is _ coded added (NoFile cert asked none stay) = absurd (omega arith)
-clean_answer c old new before now was is _ coded added (Reread cert bytes (Accepted r o) asked handed rechecked stay) =
-    inr record { cert = cert; asked = asked; bytes = bytes; handed = handed; answer = Accepted r o; rechecked = rechecked; files_stay = stay; written = added }
-clean_answer c old new before now was is _ coded added (Reread cert bytes (BadLine n) asked handed rechecked stay) = absurd (omega arith)
-clean_answer c old new before now was is _ coded added (Reread cert bytes (BadStep q s) asked handed rechecked stay) = absurd (omega arith)
+clean_answer c old new before now was is _ coded added (Reread cert bytes (Accepted r o) asked handed rechecked refutes stay) =
+    inr record { cert = cert; asked = asked; bytes = bytes; handed = handed; refuted = r; left = o; rechecked = rechecked; unsatisfiable = refutes; files_stay = stay; written = added }
+clean_answer c old new before now was is _ coded added (Reread cert bytes (BadLine n) asked handed rechecked refutes stay) = absurd (omega arith)
+clean_answer c old new before now was is _ coded added (Reread cert bytes (BadStep q s) asked handed rechecked refutes stay) = absurd (omega arith)
+
+spent_answer : (c : Command) (old new : Option Folder) (before now : ℕ) (was is : Option (List ℕ)) (answer : Answer) → status_of answer ≡ 21
+    → Appends was is (report_of answer) → IsAnswer c old new before now answer → WritesSpent c old new was is
+spent_answer c old new before now was is _ coded added (NoCommand none again stay) = absurd (omega arith)
+spent_answer c old new before now was is _ coded added (ReadFailed file limit names rose stay) = absurd (omega arith)
+spent_answer c old new before now was is _ coded added (IsTooLong file limit names long stay) = absurd (omega arith)
+spent_answer c old new before now was is _ coded added (NoModule file name longest budget asked none named stay) = absurd (omega arith)
+spent_answer c old new before now was is _ coded added (NotInLayout file bytes longest budget asked handed none stay) = absurd (omega arith)
+spent_answer c old new before now was is _ coded added (WriteFailed verdict sections k rose saved) = absurd (omega arith)
+spent_answer c old new before now was is _ coded added (Found (Spent n (Level l)) sections k saved) =
+    record { conflicts = n; level = l; sections = sections; checks = k; saved = saved; written = added }
+spent_answer c old new before now was is _ coded added (Found (Spent n Typed) sections k saved) = absurd k.checked.verdict_is
+spent_answer c old new before now was is _ coded added (Found (Clean n) sections k saved) = absurd (omega arith)
+spent_answer c old new before now was is _ coded added (Found (Error n fault trace) sections k saved) = absurd (omega arith)
+spent_answer c old new before now was is _ coded added (Found Inductive sections k saved) = absurd (omega arith)
+spent_answer c old new before now was is _ coded added (Found (Overflow w part place trace) sections k saved) = absurd (omega arith)
+spent_answer c old new before now was is _ coded added (Found (NotInductive fault trace) sections k saved) = absurd (omega arith)
+spent_answer c old new before now was is _ coded added (NoFile cert asked none stay) = absurd (omega arith)
+spent_answer c old new before now was is _ coded added (Reread cert bytes (Accepted r o) asked handed rechecked refutes stay) = absurd (omega arith)
+spent_answer c old new before now was is _ coded added (Reread cert bytes (BadLine n) asked handed rechecked refutes stay) = absurd (omega arith)
+spent_answer c old new before now was is _ coded added (Reread cert bytes (BadStep q s) asked handed rechecked refutes stay) = absurd (omega arith)
 
 -- ---- what the status says
 
@@ -216,6 +238,11 @@ module _ (c : Command) (old new : Option Folder) (before now : ℕ) (was is : Op
   told_clean (inl all) coded = clean_answer c old new before now was is answer (sym all.0 ∙ coded) all.1 cause
   told_clean (inr (inl cut)) coded = absurd (let status = cut.0 in omega arith)
   told_clean (inr (inr none)) coded = absurd (let status = none.0 in omega arith)
+
+  pub told_spent : IsTold answer was is sink_before sink_now result → result ≡ 21 → WritesSpent c old new was is
+  told_spent (inl all) coded = spent_answer c old new before now was is answer (sym all.0 ∙ coded) all.1 cause
+  told_spent (inr (inl cut)) coded = absurd (let status = cut.0 in omega arith)
+  told_spent (inr (inr none)) coded = absurd (let status = none.0 in omega arith)
 
   pub told_usage : IsTold answer was is sink_before sink_now result → c.0 ≡ None → c.1 ≡ None → (result ≡ 31) ⊎ IsCutStatus result
   told_usage (inl all) none again = inl (all.0 ∙ usage_answer c old new before now answer none again cause)

@@ -6,6 +6,8 @@ use Rattle.refutation_checker.specs.declared.log.Step.{Step}
 use Rattle.refutation_checker.specs.declared.section.QueryName.{QueryName}
 use Rattle.refutation_checker.specs.declared.section.QueryName.TheVariants as name
 use Rattle.refutation_checker.specs.declared.section.Section.{Section}
+use Rattle.sat_formula.specs.Clause.{NamesBelow}
+use Rattle.sat_formula.specs.Lit.{IsBelow}
 use Rattle.tla_meaning.specs.declared.job.Job.{Job}
 use Rattle.tla_meaning.specs.declared.questions.Query.{Query}
 use Rattle.tla_meaning.specs.declared.questions.Query.TheVariants.{StepWrong, StepBig, InvNotTrue, InvBig, AssumeBig}
@@ -40,12 +42,15 @@ name_of InvNotTrue = name.InvNotTrue
 name_of InvBig = name.InvBig
 name_of AssumeBig = name.AssumeBig
 
--- the section asks the question, and no step of its log but the empty clause contains what stands before it
+-- the section asks the question over the first variables; no step of its log but the empty clause contains what stands
+-- before it
 pub record Asks (w : Width) (job : Job) (asked : Asked) (s : Section) : Type 0 where
   pub level : s.level ≡ asked.0
   pub typed : s.typed ≡ false
   pub query : s.query ≡ name_of asked.1
   pub encodes : Encodes w job asked.0 asked.1 s.formula
+  pub clauses : NamesBelow s.formula.vars s.formula.clauses
+  pub steps : All (λ step. All (IsBelow s.formula.vars) step.lits) s.log
   pub new : EachNew s.formula.clauses s.log
 
 -- and its log refutes it

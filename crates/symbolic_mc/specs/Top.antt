@@ -2,9 +2,10 @@
 use Rattle.std.specs.Prelude.{◌≡◌, ◌⊎◌, ℕ, ◌≤◌, List, length, Option, None, Some}
 use Rattle.std.specs.Io.KnownBytes.{Appends}
 use Rattle.refutation_checker.specs.declared.answers.Recheck.{Recheck}
+use Rattle.refutation_checker.specs.declared.answers.Recheck.TheVariants.{Accepted}
 use Rattle.refutation_checker.specs.declared.section.Section.{Section}
 use Rattle.refutation_checker.specs.Certificate.{certificate_text}
-use Rattle.refutation_checker.specs.Rechecking.{IsRechecked}
+use Rattle.refutation_checker.specs.Rechecking.{IsRechecked, RefutesClosed, WhereAccepted}
 use Rattle.tool_outside.specs.Causes.{Holds, IsLong, HandedOut, IsCut, WritesPrefix}
 use Rattle.tool_outside.specs.Outside.{Folder, Changes, Rose, file_at}
 use Rattle.tla_meaning.specs.declared.job.Job.{Job}
@@ -13,7 +14,8 @@ use Rattle.trace_text.specs.Reports as reports
 use Rattle.trace_text.specs.declared.verdict.Fault.{Fault}
 use Rattle.trace_text.specs.declared.verdict.Trace.{Trace}
 use Rattle.trace_text.specs.declared.verdict.Verdict.{Verdict}
-use Rattle.trace_text.specs.declared.verdict.Verdict.TheVariants.{Clean, Error}
+use Rattle.trace_text.specs.declared.verdict.Verdict.TheVariants.{Clean, Error, Spent}
+use Rattle.trace_text.specs.declared.verdict.Where.TheVariants.{Level}
 use Rattle.symbolic_mc.specs.declared.answer.Answer.{Answer}
 use Rattle.symbolic_mc.specs.declared.answer.Answer.TheVariants.{Usage, ReadFault, TooLong, Missing, NotBuilt, WriteFault, Checked, NoCertificate, Rechecked}
 use Rattle.symbolic_mc.specs.Naming.{IsModuleOf, certificate_name}
@@ -93,7 +95,7 @@ pub data IsAnswer (c : Command) (old new : Option Folder) (before now : ℕ) : A
       → IsAnswer c old new before now NoCertificate
   -- what the checker answers to the certificate's bytes
   Reread : (cert bytes : List ℕ) (answer : Recheck) → c.1 ≡ Some cert
-      → HandedOut old cert certificate_limit bytes → IsRechecked bytes answer → new ≡ old
+      → HandedOut old cert certificate_limit bytes → IsRechecked bytes answer → WhereAccepted answer (RefutesClosed bytes) → new ≡ old
       → IsAnswer c old new before now (Rechecked answer)
 
 -- an answer with this status and its cause, whose report was written
@@ -129,16 +131,27 @@ pub record WritesClean (c : Command) (old new : Option Folder) (was is : Option 
   pub saved : Saves checks.file sections old new
   pub written : Appends was is (reports.report_of (Clean level) checks.job.names checks.job.files)
 
--- a certificate that was accepted
+-- the conflicts of the command were spent at a level
+pub record WritesSpent (c : Command) (old new : Option Folder) (was is : Option (List ℕ)) : Type 0 where
+  pub conflicts : ℕ
+  pub level : ℕ
+  pub sections : List Section
+  pub checks : Checks c old (Spent conflicts (Level level)) sections
+  pub saved : Saves checks.file sections old new
+  pub written : Appends was is (reports.report_of (Spent conflicts (Level level)) checks.job.names checks.job.files)
+
+-- a certificate that was accepted: no assignment satisfies the formula of a section that is not open
 pub record WritesAccepted (c : Command) (old new : Option Folder) (was is : Option (List ℕ)) : Type 0 where
   pub cert : List ℕ
   pub asked : c.1 ≡ Some cert
   pub bytes : List ℕ
   pub handed : HandedOut old cert certificate_limit bytes
-  pub answer : Recheck
-  pub rechecked : IsRechecked bytes answer
+  pub refuted : ℕ
+  pub left : ℕ
+  pub rechecked : IsRechecked bytes (Accepted refuted left)
+  pub unsatisfiable : RefutesClosed bytes
   pub files_stay : new ≡ old
-  pub written : Appends was is (recheck_report answer)
+  pub written : Appends was is (recheck_report (Accepted refuted left))
 
 -- ---- files
 

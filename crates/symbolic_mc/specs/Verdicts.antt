@@ -4,7 +4,7 @@ use Rattle.refutation_checker.specs.declared.section.Section.{Section}
 use Rattle.tla_meaning.specs.declared.job.Job.{Job}
 use Rattle.tla_meaning.specs.declared.job.State.{State}
 use Rattle.tla_meaning.specs.declared.questions.Query.{Query}
-use Rattle.tla_meaning.specs.declared.questions.Query.TheVariants.{InvNotTrue}
+use Rattle.tla_meaning.specs.declared.questions.Query.TheVariants.{InvNotTrue, AssumeBig}
 use Rattle.tla_meaning.specs.Executions.{IsExecution, Errs, invariant, last_of}
 use Rattle.tla_meaning.specs.Numbers.{Width}
 use Rattle.tla_meaning.specs.Operators.{yes_no}
@@ -57,6 +57,7 @@ IsVerdict job longest budget (NotInductive fault trace) = ⊥
 -- the questions up to one that was left open, by as many conflicts as could be spent
 pub record IsCutAt (job : Job) (conflicts n : ℕ) (sections : List Section) : Type 0 where
   pub query : Query
+  pub of_levels : query ≡ AssumeBig → ⊥
   pub refuted : List Section
   pub last : Section
   pub sections_are : sections ≡ refuted ++ last ∷ []

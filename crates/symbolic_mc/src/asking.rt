@@ -1,5 +1,7 @@
 // One question after another, each with a section of the certificate.
 ghost use Rattle.std.specs.Prelude.{◌≡◌, ◌<◌, ◌≤◌, [], ◌∷◌, ◌++◌, IfOk, OnOk};
+ghost use Rattle.cdcl_solver.specs.Answers.{clauses_with};
+ghost use Rattle.sat_formula.specs.Clause.{NamesBelow};
 ghost use Rattle.symbolic_mc.specs.Sections.{conflicts_in, IsWithin};
 ghost use Rattle.symbolic_mc.specs.inner.Asking.{left_after, section_of, IsReply};
 
@@ -85,6 +87,7 @@ impl Journal {
         requires { question.literal.var < formula.now.vars }
         ensures sections { OnOk result (self.new.sections.items
             ≡ self.old.sections.items ++ section_of formula.now question log is_open ∷ []) }
+        ensures within { OnOk result (NamesBelow formula.now.vars (clauses_with formula.now question.literal)) }
         ensures budget { self.new.budget ≡ self.old.budget }
         ensures left { self.new.left ≡ self.old.left }
     {

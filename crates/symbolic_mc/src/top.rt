@@ -5,7 +5,7 @@ ghost use Rattle.tool_outside.specs.Outside.{Rose};
 ghost use Rattle.tla_meaning.specs.BooleanLayout.{IsBooleanModule};
 ghost use Rattle.symbolic_mc.specs.Report.{memory_line};
 ghost use Rattle.symbolic_mc.specs.inner.Told.{IsTold, IsModuleRead, IsReadFault, IsCalm, requests};
-ghost use Rattle.symbolic_mc.specs.Top.{module_limit, WritesError, WritesClean, WritesAccepted, Tells, TellsPart, Touches, IsAnswer, AsksForBooleanLayout, AsksToRecheck, IsStatus, IsVerdictStatus, IsCutStatus};
+ghost use Rattle.symbolic_mc.specs.Top.{module_limit, WritesError, WritesClean, WritesSpent, WritesAccepted, Tells, TellsPart, Touches, IsAnswer, AsksForBooleanLayout, AsksToRecheck, IsStatus, IsVerdictStatus, IsCutStatus};
 ghost use Rattle.symbolic_mc.specs.Words.{command_of, request_of, recheck_of};
 
 use crate::answer::Answer;
@@ -38,6 +38,7 @@ pub fn run<F: Files, K: Sink>(alloc: Global, words: &[String], files: &mut F, ou
     ensures error { result ≡ 12 → WritesError (command_of words.now) (F.held files.old) (F.held files.new) (K.written out.old) (K.written out.new) }
     ensures clean { result ≡ 0 → WritesClean (command_of words.now) (F.held files.old) (F.held files.new) (K.written out.old) (K.written out.new)
         ⊎ WritesAccepted (command_of words.now) (F.held files.old) (F.held files.new) (K.written out.old) (K.written out.new) }
+    ensures spent { result ≡ 21 → WritesSpent (command_of words.now) (F.held files.old) (F.held files.new) (K.written out.old) (K.written out.new) }
     ensures told { (IsCutStatus result → ⊥) → Tells (command_of words.now) (F.held files.old) (F.held files.new)
         (F.faults files.old) (F.faults files.new) (K.written out.old) (K.written out.new) result }
     ensures unwritten { result ≡ 41 → (Rose (K.faults out.old) (K.faults out.new) × TellsPart (command_of words.now) (F.held files.old) (F.held files.new)

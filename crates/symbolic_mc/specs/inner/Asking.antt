@@ -4,6 +4,7 @@ use Rattle.cdcl_solver.specs.Answers.{clauses_with, IsModel, IsRefutation, IsSpe
 use Rattle.refutation_checker.specs.Follows.{IsUnsatisfiable}
 use Rattle.refutation_checker.specs.declared.log.Step.{Step}
 use Rattle.refutation_checker.specs.declared.section.Section.{Section}
+use Rattle.sat_formula.specs.Clause.{NamesBelow}
 use Rattle.sat_formula.specs.declared.cnf.Cnf.{Cnf}
 use Rattle.tla_meaning.specs.declared.boolean.BooleanModule.{BooleanModule}
 use Rattle.tla_meaning.specs.BooleanLayout.{job_of}
@@ -34,6 +35,7 @@ pub record AddsRefuted (f : Cnf) (q : Question) (old new : Journal) : Type 0 whe
   pub log : List Step
   pub refutation : IsRefutation f.vars (clauses_with f q.literal) old.left log
   pub unsatisfiable : IsUnsatisfiable (clauses_with f q.literal)
+  pub within : NamesBelow f.vars (clauses_with f q.literal)
   pub sections : new.sections.items ≡ old.sections.items ++ section_of f q log false ∷ []
   pub left : new.left ≡ left_after old.left (conflicts_in log)
   pub budget : new.budget ≡ old.budget
@@ -42,6 +44,7 @@ pub record AddsRefuted (f : Cnf) (q : Question) (old new : Journal) : Type 0 whe
 pub record AddsOpen (f : Cnf) (q : Question) (old new : Journal) : Type 0 where
   pub log : List Step
   pub spent : IsSpent f.vars (clauses_with f q.literal) old.left log
+  pub within : NamesBelow f.vars (clauses_with f q.literal)
   pub sections : new.sections.items ≡ old.sections.items ++ section_of f q log true ∷ []
   pub budget : new.budget ≡ old.budget
 

@@ -13,7 +13,7 @@ returns-in_ok-recheck-in-Ok-Some-clause-answer g c =
     reread c.args.cert.now c.in-Ok-Some.bytes.items c.deref.result.now (g.F.Files.held c.args.files.now) _ _ _ c.in_ok-recheck-in-Ok-Some.field-0
     (handed_out (g.F.Files.held c.args.files.now) _ _ _ _ (ap (option_map (λ (b : Vec ℕ Global). b.items)) c.in-Ok-Some.field-0-is) c.in-Ok-Some.ensures.bytes
     (some_of c.in-Ok-Some.field-0 _ (λ (b : Vec ℕ Global). length b.items ≤ certificate_limit) c.in-Ok-Some.field-0-is c.in-Ok-Some.ensures.within))
-    c.deref.ensures.value c.in_ok-recheck-in-Ok-Some.ensures.exact c.in-Ok-Some.ensures.keeps
+    c.deref.ensures.value c.in_ok-recheck-in-Ok-Some.ensures.exact c.in_ok-recheck-in-Ok-Some.ensures.refuted c.in-Ok-Some.ensures.keeps
 
 pub returns-in-Ok-None-clause-answer : goal.returns-in-Ok-None-clause-answer
 returns-in-Ok-None-clause-answer g c =

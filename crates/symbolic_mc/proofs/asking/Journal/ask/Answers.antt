@@ -12,6 +12,7 @@ returns-in_ok-add-in-Unsat c = record {
   log = c.in-Unsat.log;
   refutation = unsat_log _ _ _ _ c.in-Unsat.log c.in_ok-assignment.ensures.answer c.in-Unsat.is;
   unsatisfiable = c.in_ok-assignment.ensures.refuted c.in-Unsat.log c.in-Unsat.is;
+  within = c.in_ok-add-in-Unsat.ensures.within;
   sections = c.in_ok-add-in-Unsat.ensures.sections;
   left = c.in_ok-add-in-Unsat.ensures.left ∙ c.left_after-self.ensures;
   budget = c.in_ok-add-in-Unsat.ensures.budget;
