@@ -1,5 +1,7 @@
 pub mod Effects
 pub mod Excepts
+pub mod Families
+pub mod Gives
 pub mod Mentions
 pub mod Nodes
 pub mod Results

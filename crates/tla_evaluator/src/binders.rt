@@ -7,10 +7,9 @@ use crate::functions::function_of;
 use crate::records::paired;
 use crate::sequences::sequence;
 pub(crate) use crate::sets::choices_of;
-use crate::sets::copy_onto;
 use std::alloc::{AllocError, Global};
 use tla_meaning::{Op, Outcome, Place};
-use tla_values::{List, Value, copy_value, set_of};
+use tla_values::{List, Value, copy_onto, copy_value, set_of};
 
 // The row of a binder: its choices with the body's value at each.
 pub(crate) fn bound_table(

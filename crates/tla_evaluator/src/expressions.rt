@@ -19,15 +19,16 @@ use crate::binders::{bound_table, choices_of};
 use crate::excepts::{Reached, at_path, set_path};
 use crate::logic::yes_no;
 use crate::memberships::{self, FormOutcome, JoinedForms, join_form};
-use crate::names::{copy_names, read_bound, read_name, with_bound};
+use crate::names::{read_bound, read_name, with_bound};
 use crate::numbers::number;
 use crate::operands::value_and_items;
 use crate::operators::table;
+use crate::stops::told;
 use crate::outcomes::{Joined, fault_of, fault_or, is_fault, join, join_faults, nothing, truth};
 use crate::trees::{after, front, is_expanded_op};
 use std::alloc::{AllocError, Global};
 use tla_meaning::{Expr, Fault, Op, Outcome, Place, SetForm, State};
-use tla_values::{List, Text, Value, copy_text, copy_value};
+use tla_values::{List, Text, Value, copy_text, copy_texts, copy_value};
 
 // The outcome of a tree, where bound names have values.
 #[cycle(eval)]
@@ -47,7 +48,7 @@ pub(crate) fn value(
     let args = e.args.as_slice();
     match &e.op {
         Op::Bool(b) => Ok(yes_no(*b)),
-        Op::Int(n) => Ok(number(*n, width, e.place)),
+        Op::Int(n) => told(number(*n, width, e.place)),
         Op::Str(text) => read_text(alloc, text),
         Op::Name(i, primed) => read_name(alloc, *i, if *primed { t } else { s }, e.place),
         Op::Bound(name) => read_bound(alloc, name, env, e.place),
@@ -666,7 +667,7 @@ fn form(
         Op::FunSet => function_set(alloc, e, env, s, t, width),
         Op::RecSet(names) => {
             let all = forms(alloc, e.args.as_slice(), env, s, t, width)?;
-            let fields = copy_names(alloc, names)?;
+            let fields = copy_texts(alloc, names)?;
             Ok(memberships::records_of(fields, all, e.place))
         }
         Op::Product => {

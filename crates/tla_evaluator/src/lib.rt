@@ -17,6 +17,7 @@ mod outcomes;
 mod records;
 mod sequences;
 mod sets;
+mod stops;
 mod tops;
 mod trees;
 

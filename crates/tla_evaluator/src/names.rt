@@ -5,7 +5,7 @@ ghost use Rattle.tla_meaning.specs.Scopes.{bound_to, find_last, same_text, value
 
 use std::alloc::{AllocError, Global};
 use tla_meaning::{Outcome, Place, State};
-use tla_values::{List, Text, Value, copy_text, copy_value};
+use tla_values::{Text, Value, copy_text, copy_value};
 
 // The value of a constant or variable.
 pub(crate) fn read_name(
@@ -106,14 +106,4 @@ fn value_or_false(alloc: Global, values: &[Value], i: usize) -> Result<Value, Al
         Some(v) => copy_value(alloc, v),
         None => Ok(Value::Bool(false)),
     }
-}
-
-pub(crate) fn copy_names(alloc: Global, names: &List<Text>) -> Result<List<Text>, AllocError>
-    ensures { IfOk result (λ l. l ≡ names.now) }
-{
-    let mut copies = Vec::new(alloc);
-    for name in names.as_slice() {
-        copies.push(copy_text(alloc, name)?)?;
-    }
-    Ok(List::from_vec(copies))
 }

@@ -29,12 +29,12 @@ use Rattle.tla_evaluator.proofs.expressions.+eval.Goals.{value-then-primed, valu
 
 pub value-returns-in-Bool : goal.value-returns-in-Bool
 value-returns-in-Bool t c =
-    c.yes_no.ensures.value ∙ bool_is c.args.width c.args.e.now c.args.env.now c.args.s.now c.args.t.now _ c.in-Bool.is
+    c.yes_no.ensures ∙ bool_is c.args.width c.args.e.now c.args.env.now c.args.s.now c.args.t.now _ c.in-Bool.is
 
 pub value-returns-in-Int : goal.value-returns-in-Int
 value-returns-in-Int t c =
-    let is : c.number.result ≡ number (Some c.args.width) (out-Expr c.args.e.now).place c.in-Int.n = search (rules, c.number.ensures) in
-    is ∙ int_is c.args.width c.args.e.now c.args.env.now c.args.s.now c.args.t.now _ c.in-Int.is
+    via _ (int_is c.args.width c.args.e.now c.args.env.now c.args.s.now c.args.t.now _ c.in-Int.is)
+    (c.told.ensures _ (search (rules, c.number.ensures)))
 
 pub value-returns-in-Str : goal.value-returns-in-Str
 value-returns-in-Str t c =
