@@ -317,6 +317,21 @@ if_fault w m q vars s t (a ∷ b ∷ c ∷ []) e o f low high is h k =
     guard_fault q o f yes no k ∙ ap (λ x. guarded q x yes no) (h ∙ ap (λ x. value_at w x vars s t) is)
 if_fault w m q vars s t (a ∷ b ∷ c ∷ d ∷ es) e o f low high is h k = absurd (omega arith)
 
+pub if_taken : (w : ℕ) (m : Assignable) (q : Place) (vars : List (List ℕ × Value)) (s t : State) (args : List Expr) (e y n : Expr) (v : Bool) →
+    3 ≤ length args → length args < 4 → e ≡ get_or args 0 e → y ≡ get_or args 1 y → n ≡ get_or args 2 n → value_at w e vars s t ≡ yes_no v →
+    (if v then effect_at w m y vars s t else effect_at w m n vars s t) ≡ if_effect q (outcomes_at w args vars s t) (effects_at w m args vars s t)
+if_taken w m q vars s t [] e y n v low high ie iy iz h = absurd (omega arith)
+if_taken w m q vars s t (a ∷ []) e y n v low high ie iy iz h = absurd (omega arith)
+if_taken w m q vars s t (a ∷ b ∷ []) e y n v low high ie iy iz h = absurd (omega arith)
+if_taken w m q vars s t (a ∷ b ∷ c ∷ []) e y n v low high ie iy iz h =
+    by v ∙ ap (λ o. guarded q o (effect_at w m y vars s t) (effect_at w m n vars s t)) (sym h ∙ ap (λ x. value_at w x vars s t) ie)
+    ∙ ap₂ (λ x z. guarded q (value_at w a vars s t) (effect_at w m x vars s t) (effect_at w m z vars s t)) iy iz
+  where
+    by : (v : Bool) → (if v then effect_at w m y vars s t else effect_at w m n vars s t) ≡ guarded q (yes_no v) (effect_at w m y vars s t) (effect_at w m n vars s t)
+    by true = sym (guard_true q (effect_at w m y vars s t) (effect_at w m n vars s t))
+    by false = sym (guard_false q (effect_at w m y vars s t) (effect_at w m n vars s t))
+if_taken w m q vars s t (a ∷ b ∷ c ∷ d ∷ es) e y n v low high ie iy iz h = absurd (omega arith)
+
 module _ (w : ℕ) (m : Assignable) (q : Place) (vars : List (List ℕ × Value)) (s t : State) (args : List Expr) where
   -- the cases from the i-th tree on
   abbrev cases : List Expr → Effect

@@ -135,7 +135,7 @@ pub case_leaves : (p : Place) (c a : Outcome) (os : List Outcome) → c ≡ yes_
 case_leaves p c a os is = sym (ap (λ z. choose p z a (case_chosen p os)) is ∙ chosen false p a (case_chosen p os))
 
 module _ {X : Type 0} (f : X → Outcome) (xs : List X) (i : ℕ) where
-  two_next : (x y : X) → 2 * i + 1 < length xs → x ≡ get_or xs (2 * i) x → y ≡ get_or xs (2 * i + 1) y →
+  pub two_next : (x y : X) → 2 * i + 1 < length xs → x ≡ get_or xs (2 * i) x → y ≡ get_or xs (2 * i + 1) y →
       map f (drop (2 * i) xs) ≡ f x ∷ f y ∷ map f (drop (2 * (i + 1)) xs)
   two_next x y lt a b =
       map_next f xs (2 * i) x (f x) (omega (arith, lt)) a refl

@@ -20,3 +20,4 @@ pub mod OutcomeLemmas
 pub mod TopLemmas
 pub mod TreeLemmas
 pub mod TreeSizes
+pub mod StopLemmas

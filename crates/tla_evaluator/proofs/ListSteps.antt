@@ -1,5 +1,5 @@
 -- Steps of the loops over indexes, updates and folds.
-use Rattle.std.proofs.Common.{◌≡◌, ℕ, zero, suc, ◌+◌, ◌<◌, ◌≤◌, List, [], ◌∷◌, ◌++◌, take, drop, get_or, length, refl, ap, ◌∙◌, sym, subst, Some, arith, drop-cons, add-one, append_assoc, option_map}
+use Rattle.std.proofs.Common.{◌≡◌, ℕ, zero, suc, ◌+◌, ◌<◌, ◌≤◌, List, [], ◌∷◌, ◌++◌, take, drop, get_or, length, refl, ap, ◌∙◌, sym, subst, Some, arith, drop-cons, add-one, append_assoc, option_map, Err}
 use Rattle.std.specs.List.{All, AllByRecursion}
 use Rattle.std.proofs.lemmas.List.Elements.{All-from_recursion, recursion_from_All}
 use denote.Param.Weighed.{most}
@@ -21,6 +21,8 @@ use Rattle.tla_meaning.specs.Outcomes.{join_faults, joined, values, with_value}
 use Rattle.tla_meaning.proofs.Joins.{both_assoc, joined_append}
 use Rattle.tla_meaning.specs.Outcomes.{IsNormalOutcome}
 use Rattle.tla_meaning.proofs.NormalNodes.{NormalOutcomes, NormalReached, at_path_normal, values_normal}
+use Rattle.tla_evaluator.specs.declared.stops.Stop.{Stop}
+use Rattle.tla_evaluator.specs.inner.Gives.{Gives}
 use Rattle.tla_evaluator.specs.inner.Nodes.{index_trees, paths_at, update_at, updates_at}
 use Rattle.tla_evaluator.specs.Trees.{AreNormal, first_at, outcomes_at, value_at}
 use Rattle.tla_evaluator.proofs.ExpandedLaws.{value_normal}
@@ -184,12 +186,12 @@ module _ (w : ℕ) (p : Place) (xs : List (List ℕ)) (vars : List (List ℕ × 
       step (updates_at w p xs (drop (i + 1) paths) next vars s t)
       ∙ ap (λ us. updated p us f) (updates_next path sides next lt is pa sa na) ∙ k
 
-  pub updated_ends : (path : List Value) (sides : List Expr) (f : Value) (o all : Outcome) → i < length paths → u ≡ get_or paths i u → path ≡ u.1 → sides ≡ drop u.0 rest →
-      ((us : List Update) → o ≡ updated p (update_at w p xs path sides vars s t ∷ us) f) →
-      updated p (updates_at w p xs (drop i paths) rest vars s t) f ≡ all → o ≡ all
-  updated_ends path sides f o all lt is pa sa step k =
-      step (updates_at w p xs (drop (i + 1) paths) (drop 1 sides) vars s t)
-      ∙ ap (λ us. updated p us f) (updates_next path sides (drop 1 sides) lt is pa sa refl) ∙ k
+  pub updated_stops : (z : Stop) (path : List Value) (sides : List Expr) (f : Value) (all : Outcome) → i < length paths → u ≡ get_or paths i u → path ≡ u.1 → sides ≡ drop u.0 rest →
+      ((us : List Update) → Gives (updated p (update_at w p xs path sides vars s t ∷ us) f) (Err z)) →
+      updated p (updates_at w p xs (drop i paths) rest vars s t) f ≡ all → Gives all (Err z)
+  updated_stops z path sides f all lt is pa sa step k =
+      subst (λ q. Gives q (Err z)) (ap (λ us. updated p us f) (updates_next path sides (drop 1 sides) lt is pa sa refl) ∙ k)
+      (step (updates_at w p xs (drop (i + 1) paths) (drop 1 sides) vars s t))
 
 -- ---- the next item of a fold
 

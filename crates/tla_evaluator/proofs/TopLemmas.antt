@@ -1,6 +1,7 @@
 -- What a whole job's parts give, by the effects and outcomes of its expanded trees.
-use Rattle.std.specs.Prelude.{IfOk}
-use Rattle.std.proofs.Common.{Result, Ok, Err, ◌≡◌, ℕ, Bool, true, false, ◌&&◌, IsTrue, List, [], ◌∷◌, ◌++◌, Some, suc, ◌+◌, ◌<◌, add-one, drop, drop-cons, get_or, length, map, take, refl, ap, ap₂, ◌∙◌, sym, subst}
+use Rattle.std.specs.Prelude.{IfOk, IfSome, option_copied, unwrap_or}
+use Rattle.tla_values.specs.Sets.{Normal}
+use Rattle.std.proofs.Common.{Bor, Option, None, Result, Ok, Err, ◌≡◌, ℕ, Bool, true, false, ◌&&◌, IsTrue, List, [], ◌∷◌, ◌++◌, Some, suc, ◌+◌, ◌<◌, add-one, drop, drop-cons, get_or, length, map, take, refl, ap, ap₂, ◌∙◌, sym, subst}
 use Rattle.std.specs.List.{All, list_all}
 use Rattle.std.proofs.lemmas.List.Elements.{All-more}
 use Rattle.tla_meaning.specs.declared.expr.Expr.{Expr, out-Expr}
@@ -192,3 +193,13 @@ module _ (w : ℕ) (s : State) (invs : List (List ℕ × Expr)) where
 
     pub no_at : is_yes o ≡ false → (d : List ℕ × Expr) → i < length invs → (o ≡ at (get_or invs i d)) × (IsYes o → ⊥)
     no_at h d lt' = (outcome_is ∙ ap at (is ∙ get_or-default invs i x d lt), λ yes. absurd (false≢true (sym h ∙ yes)))
+
+-- ---- the next state, where there is one
+
+pub next_or : (o : Option (Bor State)) (d : Bor State) → (unwrap_or o d).now ≡ unwrap_or (option_copied o) d.now
+next_or None d = refl
+next_or (Some n) d = refl
+
+pub next_normal : (o : Option (Bor State)) (d : Bor State) → IfSome o (λ n. All Normal n.now.vals) → All Normal d.now.vals → All Normal (unwrap_or o d).now.vals
+next_normal None d h k = k
+next_normal (Some n) d h k = h

@@ -50,7 +50,11 @@ impl Row<'_> {
     }
 
     // The value at an argument, and Wrong where it is none.
-    pub(crate) fn value_at(&self, pairs: &List<(Value, Value)>, argument: &Value) -> Result<Value, Stop>
+    pub(crate) fn value_at(
+        &self,
+        pairs: &List<(Value, Value)>,
+        argument: &Value,
+    ) -> Result<Value, Stop>
         requires { Normal (Value.Fun pairs.now) }
         ensures { Gives (or_wrong self.now.place (apply pairs.now argument.now)) result }
     {

@@ -3,11 +3,13 @@ ghost use Rattle.std.specs.Prelude.{◌≡◌, ◌++◌, ◌∷◌, [], IsTrue, 
 ghost use Rattle.tla_meaning.specs.Meaning.{choose};
 ghost use Rattle.tla_meaning.specs.Operators.{yes_no};
 ghost use Rattle.tla_meaning.specs.Outcomes.{before, join_faults, fault_of, least, fault_or, values};
+ghost use Rattle.tla_evaluator.specs.inner.Gives.{Gives, GivesAll, Guards};
 
+use crate::stops::Stop;
 use std::alloc::{AllocError, Global};
 use std::cmp::Ordering;
 use tla_meaning::{Fault, Outcome, Place};
-use tla_values::Value;
+use tla_values::{List, Value};
 
 pub(crate) fn before(p: Place, q: Place) -> bool
     ensures { result ≡ before p q }
@@ -92,15 +94,45 @@ pub(crate) fn join(joined: &mut Joined, outcome: Outcome) -> Result<(), AllocErr
     }
 }
 
-// A truth value, or the outcome that stands in its place.
-pub(crate) fn truth(outcome: Outcome, place: Place) -> Result<bool, Outcome>
-    ensures { MatchResult result (λ b. outcome ≡ yes_no b) (λ f. (x y : Outcome) → choose place outcome x y ≡ f) }
+// The values of what was joined, or the join of the faults.
+pub(crate) fn all_values(joined: Joined) -> Result<List<Value>, Stop>
+    ensures { GivesAll joined.fault joined.values.items result }
+{
+    match joined.fault {
+        Fault::NoFault => Ok(List::from_vec(joined.values)),
+        Fault::IsWrong(p) => Err(Stop::Wrong(p)),
+        Fault::IsBig(p) => Err(Stop::Big(p)),
+    }
+}
+
+// The value of an outcome that stands behind a fault.
+pub(crate) fn value_behind(fault: Fault, outcome: Outcome) -> Result<Value, Stop>
+    ensures { Gives (fault_or fault outcome) result }
+{
+    match fault {
+        Fault::NoFault => stopped(outcome),
+        Fault::IsWrong(p) => Err(Stop::Wrong(p)),
+        Fault::IsBig(p) => Err(Stop::Big(p)),
+    }
+}
+
+pub(crate) fn stopped(outcome: Outcome) -> Result<Value, Stop>
+    ensures { Gives outcome result }
 {
     match outcome {
-        Outcome::Val(Value::Bool(b)) => Ok(b),
-        Outcome::Val(_) => Err(Outcome::Wrong(place)),
-        Outcome::Wrong(p) => Err(Outcome::Wrong(p)),
-        Outcome::Big(p) => Err(Outcome::Big(p)),
+        Outcome::Val(v) => Ok(v),
+        Outcome::Wrong(p) => Err(Stop::Wrong(p)),
+        Outcome::Big(p) => Err(Stop::Big(p)),
+    }
+}
+
+// The truth value of a guard.
+pub(crate) fn truth(v: Value, place: Place) -> Result<bool, Stop>
+    ensures { Guards place (Outcome.Val v) result }
+{
+    match v {
+        Value::Bool(b) => Ok(b),
+        _ => Err(Stop::Wrong(place)),
     }
 }
 
@@ -112,6 +144,18 @@ pub(crate) fn fault_of(outcome: &Outcome) -> Fault
         Outcome::Val(_) => Fault::NoFault,
         Outcome::Wrong(p) => Fault::IsWrong(*p),
         Outcome::Big(p) => Fault::IsBig(*p),
+    }
+}
+
+// A truth value, or the outcome that stands in its place.
+pub(crate) fn truth_of(outcome: Outcome, place: Place) -> Result<bool, Outcome>
+    ensures { MatchResult result (λ b. outcome ≡ yes_no b) (λ f. (x y : Outcome) → choose place outcome x y ≡ f) }
+{
+    match outcome {
+        Outcome::Val(Value::Bool(b)) => Ok(b),
+        Outcome::Val(_) => Err(Outcome::Wrong(place)),
+        Outcome::Wrong(p) => Err(Outcome::Wrong(p)),
+        Outcome::Big(p) => Err(Outcome::Big(p)),
     }
 }
 

@@ -12,6 +12,7 @@ use Rattle.tla_meaning.specs.Actions.{exists_effect, fails_by}
 use Rattle.tla_meaning.specs.Outcomes.{join_faults}
 use Rattle.tla_meaning.specs.Scopes.{bound_to}
 use Rattle.tla_evaluator.specs.Trees.{effect_at, outcomes_at}
+use Rattle.tla_evaluator.specs.inner.Readings.{Reading}
 
 -- an effect behind a fault that came before
 abbrev pub behind : Fault → Effect → Effect
@@ -35,3 +36,10 @@ abbrev pub exists_at : ℕ → Assignable → Place → List (List ℕ) → List
 exists_at w m p xs es vars s t =
     exists_effect p (outcomes_at w (take (length xs) es) vars s t)
     (λ c. first_effect w m p (drop (length xs) es) (vars ++ bound_to xs c) s t)
+
+-- the same, by what an evaluation reads
+abbrev pub body_in : Reading → Assignable → Expr → List (List ℕ) → List Value → Effect
+body_in r m e xs c = body_effect r.width m e xs r.bound r.state r.next c
+
+abbrev pub exists_in : Reading → Assignable → Place → List (List ℕ) → List Expr → Effect
+exists_in r m p xs es = exists_at r.width m p xs es r.bound r.state r.next

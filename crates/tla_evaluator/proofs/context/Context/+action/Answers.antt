@@ -1,4 +1,4 @@
-use Rattle.std.proofs.Common.{arith, ◌≡◌, ℕ, Bool, ◌<◌, ◌≤◌, List, get_or, length, option_map, ap, ap₂, subst, sym, ◌∙◌}
+use Rattle.std.proofs.Common.{arith, true, false, ◌≡◌, ℕ, Bool, ◌<◌, ◌≤◌, List, get_or, length, option_map, ap, ap₂, refl, sym, ◌∙◌}
 use Rattle.std.specs.List.{All, list_any}
 use Rattle.std.proofs.lemmas.List.Elements.{All-same}
 use Rattle.tla_values.specs.Sets.{Normal}
@@ -7,14 +7,15 @@ use Rattle.tla_meaning.specs.declared.outcome.Fault.TheVariants.{NoFault}
 use denote.Param.Weighed.{most}
 use Rattle.tla_meaning.specs.declared.expr.Expr.{Expr, out-Expr, size-Expr}
 use Rattle.tla_meaning.specs.Actions.{case_effect, effects_and, effects_or, if_effect}
+use Rattle.tla_meaning.specs.Operators.{yes_no}
 use Rattle.tla_meaning.specs.declared.actions.Assignable.{Assignable}
-use Rattle.tla_evaluator.specs.inner.Effects.{exists_at, first_effect}
+use Rattle.tla_evaluator.specs.inner.Effects.{exists_in, first_effect}
 use Rattle.tla_evaluator.specs.inner.Mentions.{mentions}
-use Rattle.tla_evaluator.specs.Trees.{AreNormal, effects_at, outcomes_at}
-use Rattle.tla_evaluator.proofs.ActionNodes.{is_now, at_value, at_and, at_or, at_or_value, at_if, at_if_value, at_case, at_case_value, at_exists, at_noted, and_next, or_next, bodies_next, case_false, case_fault, if_fault, exists_body, exists_fault, first_some, first_none, no_deeper}
-use Rattle.tla_evaluator.proofs.NormalBinds.{longer_normal, choices_are_normal}
-use Rattle.tla_evaluator.proofs.actions.+action.Goals as goal
-use Rattle.tla_evaluator.proofs.actions.+action.Goals.{action-in_default-via-in-Or+else-any_mentions, action-in_default-via-in-If+else-any_mentions-2, action-in_default-via-in-Case+else-any_mentions-3, action-in_default-via-in_default}
+use Rattle.tla_evaluator.specs.inner.Readings.{effect_in, effects_in, outcomes_in}
+use Rattle.tla_evaluator.proofs.ActionNodes.{is_now, at_value, at_and, at_or, at_or_value, at_if, at_if_value, at_case, at_case_value, at_exists, at_noted, and_next, or_next, bodies_next, case_false, case_fault, case_true, if_fault, if_taken, exists_body, exists_fault, first_some, first_none, no_deeper}
+use Rattle.tla_evaluator.proofs.NormalBinds.{choices_are_normal}
+use Rattle.tla_evaluator.proofs.context.Context.+action.Goals as goal
+use Rattle.tla_evaluator.proofs.context.Context.+action.Goals.{action-in_default-via-in-Or+else-any_mentions, action-in_default-via-in-If+else-any_mentions-2, action-in_default-via-in-Case+else-any_mentions-3, action-in_default-via-in_default}
 
 -- whether a child is marked, as the call says
 here : (m : Assignable) (es args : List Expr) (b : Bool) → es ≡ args → b ≡ list_any (mentions m) es → list_any (mentions m) args ≡ b
@@ -34,108 +35,100 @@ pub case_effect-loop-i-preserved : goal.case_effect-loop-i-preserved
 case_effect-loop-i-preserved t c = record {
   within = omega arith;
   same =
-      case_false _ _ c.args.place _ _ _ c.args.args.now _ _ _ _ _ c.loop-i-test.true c.index-args-i.is c.in_ok-outcome.ensures
+      case_false _ _ c.args.place _ _ _ c.args.args.now _ _ _ _ _ c.loop-i-test.true c.index-args-i.is (c.in_ok-outcome.ensures _ c.value.ensures)
       c.in-Ok-false.ensures c.in-Ok-false.field-0-test c.loop-i.invariant.same;
 }
 
 pub case_effect-returns-in-Err : goal.case_effect-returns-in-Err
 case_effect-returns-in-Err t c =
     c.effect_of.ensures
-    ∙ case_fault _ _ c.args.place _ _ _ c.args.args.now _ _ _ _ _ c.loop-i-test.true c.index-args-i.is c.in_ok-outcome.ensures
+    ∙ case_fault _ _ c.args.place _ _ _ c.args.args.now _ _ _ _ _ c.loop-i-test.true c.index-args-i.is (c.in_ok-outcome.ensures _ c.value.ensures)
     c.in-Err.ensures c.loop-i.invariant.same
 
 pub if_effect-returns-in-Err : goal.if_effect-returns-in-Err
 if_effect-returns-in-Err t c =
     c.effect_of.ensures
     ∙ if_fault _ _ c.args.place _ _ _ c.args.args.now _ _ _ c.in-len3.len_at_least c.in-len3.len_below c.guard-item.is
-    c.in_ok-outcome-in-len3.ensures c.in-Err.ensures
+    (c.in_ok-outcome-in-len3.ensures _ c.value.ensures) c.in-Err.ensures
 
 pub exists_effect-returns-then-is_fault : goal.exists_effect-returns-then-is_fault
 exists_effect-returns-then-is_fault t c =
     c.fails_by.ensures
-    ∙ exists_fault _ _ c.args.place c.args.names.now c.args.args.now _ _ _ _ _ c.front.ensures c.in_ok-domains.ensures.fault (c.is_fault.ensures.yes c.if-is_fault.true)
+    ∙ exists_fault _ _ c.args.site.place c.args.site.names.now c.args.args.now _ _ _ _ _ c.front.ensures c.in_ok-domains.ensures.fault (c.is_fault.ensures.yes c.if-is_fault.true)
 
 pub exists_effect-body_effects-requires : goal.exists_effect-body_effects-requires
 exists_effect-body_effects-requires t c =
     let deep : size-Expr c.body-item.result ≤ most size-Expr c.args.args.now =
-    no_deeper size-Expr (length c.args.names.now) c.args.args.now c.after.result.now c.body-item.result c.after.ensures c.in-len1-up.len_at_least c.body-item.is in
+    no_deeper size-Expr (length c.args.site.names.now) c.args.args.now c.after.result.now c.body-item.result c.after.ensures c.in-len1-up.len_at_least c.body-item.is in
     let sets : All Normal c.as_slice.result.now = All-same Normal _ _ c.as_slice.ensures.value c.in_ok-domains.ensures.normal in
     let chosen : All (λ d. All Normal d) c.in-Some.choices.items =
     choices_are_normal _ _ sets (c.in_ok-choices.ensures ∙ ap (option_map (λ v. v.items)) c.in-Some.is) in
-    let normal : All (λ d. All Normal d) c.as_slice-choices.result.now = All-same (λ d. All Normal d) _ _ c.as_slice-choices.ensures.value chosen in
-    (omega arith, (c.requires.narrow, (c.requires.wide, (c.requires.normal, normal))))
+    let normal : All (λ d. All Normal d) c.as_slice-in-len1-up.result.now = All-same (λ d. All Normal d) _ _ c.as_slice-in-len1-up.ensures.value chosen in
+    (omega arith, normal)
 
 pub exists_effect-returns-in-len1-up : goal.exists_effect-returns-in-len1-up
 exists_effect-returns-in-len1-up t c =
     let none : c.in_ok-domains.domains.fault ≡ NoFault = c.is_fault.ensures.no c.if-is_fault.false in
     is_now c.body_effects.result _ _
-    (exists_body _ _ c.args.place _ _ _ _ _ _ _ c.in_ok-domains.domains.fault c.in_ok-domains.domains.values.items c.as_slice.result.now c.in-Some.choices.items c.as_slice-choices.result.now _
+    (exists_body _ _ c.args.site.place _ _ _ _ _ _ _ c.in_ok-domains.domains.fault c.in_ok-domains.domains.values.items c.as_slice.result.now c.in-Some.choices.items c.as_slice-in-len1-up.result.now _
     c.front.ensures c.after.ensures c.in_ok-domains.ensures.fault none c.in_ok-domains.ensures.values c.as_slice.ensures.value
-    (c.in_ok-choices.ensures ∙ ap (option_map (λ v. v.items)) c.in-Some.is) c.as_slice-choices.ensures.value c.in-len1-up.len_at_least c.body-item.is)
+    (c.in_ok-choices.ensures ∙ ap (option_map (λ v. v.items)) c.in-Some.is) c.as_slice-in-len1-up.ensures.value c.in-len1-up.len_at_least c.body-item.is)
     c.body_effects.ensures
 
 pub body_effects-loop-choice-preserved : goal.body_effects-loop-choice-preserved
 body_effects-loop-choice-preserved t c =
-    bodies_next _ _ _ _ _ _ _ c.args.choices.now _ _ c.as_slice.result.now c.as_slice-in-loop-choice.result.now c.in_ok-one.one _ _ _
-    c.loop-choice-test.true c.choice-item.is c.as_slice.ensures (c.as_slice-in-loop-choice.ensures.value ∙ c.in_ok-bound.ensures) c.in_ok-one.ensures
+    bodies_next _ _ _ _ _ _ _ c.args.choices.now _ _ c.as_slice.result.now _ c.in_ok-one.one _ _ _
+    c.loop-choice-test.true c.choice-item.is c.as_slice.ensures refl (c.in_ok-one.ensures ∙ ap (λ r. effect_in r c.args.assigned c.args.body.now) c.in_ok-inner.ensures)
     c.either-all.ensures c.loop-choice.invariant
-
-this_choice : (P : List Value → Type 0) (xs : List (List Value)) (i : ℕ) (x : List Value) → i < length xs → x ≡ get_or xs i x → All P xs → P x
-this_choice P xs i x lt is h = subst P (sym is) (h i x lt)
-
-pub body_effects-action-requires : goal.body_effects-action-requires
-body_effects-action-requires t c =
-    let normal : AreNormal c.as_slice-in-loop-choice.result.now c.args.s.now c.args.t.now =
-    longer_normal _ _ _ _ _ _ (c.as_slice-in-loop-choice.ensures.value ∙ c.in_ok-bound.ensures) c.requires.normal
-    (All-same Normal _ _ c.as_slice.ensures (this_choice (λ d. All Normal d) _ _ _ c.loop-choice-test.true c.choice-item.is c.requires.choices)) in
-    (omega arith, (c.requires.narrow, (c.requires.wide, normal)))
 
 pub action-returns-in-And : goal.action-returns-in-And
 action-returns-in-And t c =
     is_now c.all_effects.result _ _
-    (ap (λ es. effects_and (effects_at c.args.width c.args.assigned es c.args.env.now c.args.s.now c.args.t.now)) c.as_slice-args.ensures
+    (ap (λ es. effects_and (effects_in c.args.self.now c.args.assigned es)) c.as_slice-args.ensures
     ∙ sym (at_and _ _ _ _ _ _ c.in-And.is))
     c.all_effects.ensures
 
 pub action-returns-in-Exists : goal.action-returns-in-Exists
 action-returns-in-Exists t c =
     is_now c.exists_effect.result _ _
-    (ap₂ (λ xs es. exists_at c.args.width c.args.assigned (out-Expr c.args.e.now).place xs es c.args.env.now c.args.s.now c.args.t.now) c.as_slice-names.ensures c.as_slice-args.ensures
+    (ap₂ (λ xs es. exists_in c.args.self.now c.args.assigned (out-Expr c.args.e.now).place xs es) c.as_slice-names.ensures c.as_slice-args.ensures
     ∙ sym (at_exists _ _ _ _ _ _ c.in-Exists.is))
     c.exists_effect.ensures
 
 pub action-returns-in-empty : goal.action-returns-in-empty
 action-returns-in-empty t c =
-    c.fails_by.ensures ∙ first_none c.args.width c.args.assigned _ c.as_slice-args.result.now c.args.env.now c.args.s.now c.args.t.now c.in-empty.len_below
-    ∙ ap (λ es. first_effect c.args.width c.args.assigned (out-Expr c.args.e.now).place es c.args.env.now c.args.s.now c.args.t.now) c.as_slice-args.ensures
+    let r = c.args.self.now in
+    c.fails_by.ensures ∙ first_none r.width c.args.assigned _ c.as_slice-args.result.now r.bound r.state r.next c.in-empty.len_below
+    ∙ ap (λ es. first_effect r.width c.args.assigned (out-Expr c.args.e.now).place es r.bound r.state r.next) c.as_slice-args.ensures
     ∙ sym (at_noted _ _ _ _ _ _ _ c.in-Noted.is)
 
 pub action-returns-in-len1-up : goal.action-returns-in-len1-up
 action-returns-in-len1-up t c =
+    let r = c.args.self.now in
     is_now c.action.result _ _
-    (first_some c.args.width c.args.assigned _ c.as_slice-args.result.now _ c.args.env.now c.args.s.now c.args.t.now c.in-len1-up.len_at_least c.child-item.is
-    ∙ ap (λ es. first_effect c.args.width c.args.assigned (out-Expr c.args.e.now).place es c.args.env.now c.args.s.now c.args.t.now) c.as_slice-args.ensures
+    (first_some r.width c.args.assigned _ c.as_slice-args.result.now _ r.bound r.state r.next c.in-len1-up.len_at_least c.child-item.is
+    ∙ ap (λ es. first_effect r.width c.args.assigned (out-Expr c.args.e.now).place es r.bound r.state r.next) c.as_slice-args.ensures
     ∙ sym (at_noted _ _ _ _ _ _ _ c.in-Noted.is))
     c.action.ensures
 
 pub action-returns-in-Or : goal.action-returns-in-Or
 action-returns-in-Or t c =
     is_now c.some_effect.result _ _
-    (ap (λ es. effects_or (effects_at c.args.width c.args.assigned es c.args.env.now c.args.s.now c.args.t.now)) c.as_slice-args.ensures
+    (ap (λ es. effects_or (effects_in c.args.self.now c.args.assigned es)) c.as_slice-args.ensures
     ∙ sym (at_or _ _ _ _ _ _ c.in-Or.is (here c.args.assigned _ _ _ c.as_slice-args.ensures c.if-any_mentions.ensures)))
     c.some_effect.ensures
 
 pub action-returns-in-If : goal.action-returns-in-If
 action-returns-in-If t c =
     is_now c.if_effect.result _ _
-    (ap (λ es. if_effect (out-Expr c.args.e.now).place (outcomes_at c.args.width es c.args.env.now c.args.s.now c.args.t.now) (effects_at c.args.width c.args.assigned es c.args.env.now c.args.s.now c.args.t.now)) c.as_slice-args.ensures
+    (ap (λ es. if_effect (out-Expr c.args.e.now).place (outcomes_in c.args.self.now es) (effects_in c.args.self.now c.args.assigned es)) c.as_slice-args.ensures
     ∙ sym (at_if _ _ _ _ _ _ c.in-If.is (here c.args.assigned _ _ _ c.as_slice-args.ensures c.if-any_mentions-2.ensures)))
     c.if_effect.ensures
 
 pub action-returns-in-Case : goal.action-returns-in-Case
 action-returns-in-Case t c =
     is_now c.case_effect.result _ _
-    (ap (λ es. case_effect (out-Expr c.args.e.now).place (outcomes_at c.args.width es c.args.env.now c.args.s.now c.args.t.now) (effects_at c.args.width c.args.assigned es c.args.env.now c.args.s.now c.args.t.now)) c.as_slice-args.ensures
+    (ap (λ es. case_effect (out-Expr c.args.e.now).place (outcomes_in c.args.self.now es) (effects_in c.args.self.now c.args.assigned es)) c.as_slice-args.ensures
     ∙ sym (at_case _ _ _ _ _ _ _ c.in-Case.is (here c.args.assigned _ _ _ c.as_slice-args.ensures c.if-any_mentions-3.ensures)))
     c.case_effect.ensures
 
@@ -159,3 +152,27 @@ action-returns-in_default t c =
       })
     ]))
     c.by_value.ensures
+
+pub case_effect-returns-in-Ok-true : goal.case_effect-returns-in-Ok-true
+case_effect-returns-in-Ok-true t c =
+    let r = c.args.self.now in
+    is_now c.action.result _ _
+    (case_true r.width c.args.assigned c.args.place r.bound r.state r.next c.args.args.now c.loop-i.i _ _ _ _ _ c.loop-i-test.true c.index-args-i.is c.index-args-i-in-Ok-true.is
+    (c.in_ok-outcome.ensures _ c.value.ensures) c.in-Ok-true.ensures c.in-Ok-true.field-0-test c.loop-i.invariant.same)
+    c.action.ensures
+
+pub if_effect-returns-in-Ok-true : goal.if_effect-returns-in-Ok-true
+if_effect-returns-in-Ok-true t c =
+    let r = c.args.self.now in
+    is_now c.action.result _ _
+    (if_taken r.width c.args.assigned c.args.place r.bound r.state r.next c.args.args.now _ c.yes-item.result c.no-item.result true c.in-len3.len_at_least c.in-len3.len_below c.guard-item.is c.yes-item.is c.no-item.is
+    (sym (c.in_ok-outcome-in-len3.ensures _ c.value.ensures) ∙ c.in-Ok-true.ensures ∙ ap yes_no c.in-Ok-true.field-0-test))
+    c.action.ensures
+
+pub if_effect-returns-in-Ok-false : goal.if_effect-returns-in-Ok-false
+if_effect-returns-in-Ok-false t c =
+    let r = c.args.self.now in
+    is_now c.action-in-Ok-false.result _ _
+    (if_taken r.width c.args.assigned c.args.place r.bound r.state r.next c.args.args.now _ c.yes-item.result c.no-item.result false c.in-len3.len_at_least c.in-len3.len_below c.guard-item.is c.yes-item.is c.no-item.is
+    (sym (c.in_ok-outcome-in-len3.ensures _ c.value.ensures) ∙ c.in-Ok-false.ensures ∙ ap yes_no c.in-Ok-false.field-0-test))
+    c.action-in-Ok-false.ensures
