@@ -1,6 +1,6 @@
 -- What the effect of a tree is, for each operator at its node.
 use Rattle.std.specs.Prelude.{if◌then◌else◌}
-use Rattle.std.proofs.Common.{◌≡◌, ℕ, zero, suc, ◌<◌, ◌≤◌, ◌+◌, Bool, true, false, not, ◌||◌, List, [], ◌∷◌, ◌++◌, drop, get_or, length, map, replicate, take, Option, Some, None, option_map, Result, IfOk, refl, ap, ap₂, ◌∙◌, sym, subst, arith, drop-cons, add-one}
+use Rattle.std.proofs.Common.{◌≡◌, ℕ, zero, suc, ◌<◌, ◌≤◌, ◌+◌, Bool, true, false, not, ◌||◌, List, [], ◌∷◌, ◌++◌, drop, get_or, length, map, replicate, take, Option, Some, None, option_map, Result, Err, IfOk, refl, ap, ap₂, ◌∙◌, sym, subst, arith, drop-cons, add-one}
 use Rattle.std.specs.List.{list_any}
 use denote.Param.Weighed.{at_most, most}
 use Rattle.tla_values.specs.Order.{Layer}
@@ -17,7 +17,7 @@ use Rattle.tla_meaning.specs.declared.place.Place.{Place}
 use Rattle.tla_meaning.specs.declared.outcome.Fault.{Fault}
 use Rattle.tla_meaning.specs.declared.outcome.Fault.TheVariants.{NoFault, IsWrong, IsBig}
 use Rattle.tla_meaning.specs.declared.outcome.Outcome.{Outcome}
-use Rattle.tla_meaning.specs.declared.outcome.Outcome.TheVariants.{Val, Wrong, Big}
+use Rattle.tla_meaning.specs.declared.outcome.Outcome.TheVariants as outcome
 use Rattle.tla_meaning.specs.Actions.{any_mentions, case_effect, effect_of, effects, effects_and, effects_or, exists_effect, fails_by, guard, guarded, if_effect, denotation_of}
 use Rattle.tla_meaning.specs.Meaning.{Meaning, by_truth, choose, inner, child, outcomes, outer, role, view}
 use Rattle.tla_meaning.specs.Operators.{yes_no}
@@ -28,6 +28,11 @@ use Rattle.tla_meaning.proofs.Joins.{both_assoc, both_same}
 use Rattle.tla_meaning.specs.declared.actions.Assignable.{Assignable}
 use Rattle.tla_meaning.specs.declared.actions.Effect.{Effect}
 use Rattle.tla_evaluator.specs.inner.Effects.{behind, body_effect, either, exists_at, first_effect}
+use Rattle.std.proofs.lemmas.Result.{IfOk-weaker}
+use Rattle.std.specs.declared.alloc.AllocError.{AllocError}
+use Rattle.tla_evaluator.specs.declared.stops.Stop.{Stop}
+use Rattle.tla_evaluator.specs.declared.stops.Stop.TheVariants.{Wrong, Big, Memory}
+use Rattle.tla_evaluator.specs.inner.Gives.{FailsBy, Gives, GivesAll}
 use Rattle.tla_evaluator.specs.inner.Mentions.{mentions}
 use Rattle.tla_evaluator.specs.Trees.{effect_at, effects_at, expanded_meaning, expanded_node, outcomes_at, scope_at, is_expanded_op, value_at}
 use Rattle.tla_evaluator.proofs.MentionLaws.{holds_as}
@@ -192,6 +197,53 @@ pub first_none : (w : ℕ) (m : Assignable) (q : Place) (es : List Expr) (vars :
 first_none w m q [] vars s t none = refl
 first_none w m q (e ∷ es) vars s t none = absurd (omega arith)
 
+-- ---- members of the domains
+
+module _ (q : Place) (at_choice : List Value → Effect) where
+  pub members : Option (List (List Value)) → Effect
+  members o = elim o [ None ↦ fails_by (IsWrong q) | Some xss ↦ effects_or (map at_choice (choices xss)) ]
+
+  -- by the fault of the domains
+  abbrev by : List Outcome → Fault → Effect
+  by os f = elim f as (λ _. Effect) [
+    | NoFault ↦ members (all_set_items (values os))
+    | IsWrong r ↦ fails_by (IsWrong r)
+    | IsBig r ↦ fails_by (IsBig r)
+  ]
+
+  pub exists_by : (os : List Outcome) (f : Fault) → joined os ≡ f → exists_effect q os at_choice ≡ by os f
+  unfolding members
+  exists_by os f h = ap (by os) h
+
+  without_fault : (os : List Outcome) → joined os ≡ NoFault → exists_effect q os at_choice ≡ members (all_set_items (values os))
+  unfolding members
+  without_fault os h = exists_by os NoFault h
+
+  at_choices : (o : Option (List (List Value))) (cs : List (List Value)) → option_map choices o ≡ Some cs → members o ≡ effects_or (map at_choice cs)
+  unfolding members
+  at_choices None cs e = absurd (cc)
+  at_choices (Some xss) cs e = let same : choices xss ≡ cs = cc in ap (λ yss. effects_or (map at_choice yss)) same
+
+-- ---- what stops a part
+
+pub value_fails : (r : Result Effect AllocError) (s : Stop) (o : Outcome) → Gives o (Err s) → IfOk r (FailsBy s) → IfOk r (λ f. f ≡ effect_of o)
+value_fails r (Wrong p) o h k = IfOk-weaker r (FailsBy (Wrong p)) (λ f. f ≡ effect_of o) (λ f e. e ∙ ap effect_of (sym h)) k
+value_fails r (Big p) o h k = IfOk-weaker r (FailsBy (Big p)) (λ f. f ≡ effect_of o) (λ f e. e ∙ ap effect_of (sym h)) k
+value_fails r (Memory e) o h k = IfOk-weaker r (FailsBy (Memory e)) (λ f. f ≡ effect_of o) (λ f e. absurd e) k
+
+-- the outcome of every choice by a guard that is stopped
+pub choice_fails : (s : Stop) (q : Place) (o : Outcome) → ((x y : Outcome) → Gives (choose q o x y) (Err s)) → (f : Effect) → FailsBy s f →
+    (z : Outcome) × ((x y : Outcome) → choose q o x y ≡ z) × (f ≡ effect_of z)
+choice_fails (Wrong p) q o h f k = (outcome.Wrong p, h, k)
+choice_fails (Big p) q o h f k = (outcome.Big p, h, k)
+choice_fails (Memory e) q o h f k = absurd k
+
+pub domains_fail : (s : Stop) (q : Place) (os : List Outcome) (body : List Value → Effect) (f : Effect) → GivesAll (joined os) (values os) (Err s) → FailsBy s f →
+    f ≡ exists_effect q os body
+domains_fail (Wrong p) q os body f h k = k ∙ sym (exists_by q body os (IsWrong p) h)
+domains_fail (Big p) q os body f h k = k ∙ sym (exists_by q body os (IsBig p) h)
+domains_fail (Memory e) q os body f h k = absurd k
+
 -- ---- several effects
 
 pub behind_twice : (f g : Fault) (x : Effect) → behind (join_faults f g) x ≡ behind f (behind g x)
@@ -293,17 +345,17 @@ guard_false q a b = ap (λ l. guard q l a b) (value.outs-Bool false)
 
 -- an outcome that chooses neither of any two is a fault
 pub guard_fault : (q : Place) (o f : Outcome) (a b : Effect) → ((x y : Outcome) → choose q o x y ≡ f) → effect_of f ≡ guarded q o a b
-guard_fault q (Val v) f a b h = go (out-Value v) h
+guard_fault q (outcome.Val v) f a b h = go (out-Value v) h
   where
-    differ : Wrong q ≡ Big q → ⊥
+    differ : outcome.Wrong q ≡ outcome.Big q → ⊥
     differ e = cc
 
     go : (l : Layer Value) → ((x y : Outcome) → by_truth q l x y ≡ f) → effect_of f ≡ guard q l a b
-    go (layer.Bool true) k = absurd (differ (k (Wrong q) (Wrong q) ∙ sym (k (Big q) (Big q))))
-    go (layer.Bool false) k = absurd (differ (k (Wrong q) (Wrong q) ∙ sym (k (Big q) (Big q))))
-    go l k = ap effect_of (sym (k (Wrong q) (Wrong q)))
-guard_fault q (Wrong r) f a b h = ap effect_of (sym (h (Wrong r) (Wrong r)))
-guard_fault q (Big r) f a b h = ap effect_of (sym (h (Wrong r) (Wrong r)))
+    go (layer.Bool true) k = absurd (differ (k (outcome.Wrong q) (outcome.Wrong q) ∙ sym (k (outcome.Big q) (outcome.Big q))))
+    go (layer.Bool false) k = absurd (differ (k (outcome.Wrong q) (outcome.Wrong q) ∙ sym (k (outcome.Big q) (outcome.Big q))))
+    go l k = ap effect_of (sym (k (outcome.Wrong q) (outcome.Wrong q)))
+guard_fault q (outcome.Wrong r) f a b h = ap effect_of (sym (h (outcome.Wrong r) (outcome.Wrong r)))
+guard_fault q (outcome.Big r) f a b h = ap effect_of (sym (h (outcome.Wrong r) (outcome.Wrong r)))
 
 pub if_fault : (w : ℕ) (m : Assignable) (q : Place) (vars : List (List ℕ × Value)) (s t : State) (args : List Expr) (e : Expr) (o f : Outcome) →
     3 ≤ length args → length args < 4 → e ≡ get_or args 0 e → o ≡ value_at w e vars s t → ((x y : Outcome) → choose q o x y ≡ f) →
@@ -381,45 +433,7 @@ module _ (w : ℕ) (m : Assignable) (q : Place) (vars : List (List ℕ × Value)
   pub case_none : (i : ℕ) (all : Effect) → length args ≤ i → cases (drop i args) ≡ all → fails_by (IsWrong q) ≡ all
   case_none i all past old = sym (ap cases (drop_end i args past)) ∙ old
 
--- ---- members of the domains
-
-module _ (q : Place) (at_choice : List Value → Effect) where
-  members : Option (List (List Value)) → Effect
-  members o = elim o [ None ↦ fails_by (IsWrong q) | Some xss ↦ effects_or (map at_choice (choices xss)) ]
-
-  -- by the fault of the domains
-  abbrev by : List Outcome → Fault → Effect
-  by os f = elim f as (λ _. Effect) [
-    | NoFault ↦ members (all_set_items (values os))
-    | IsWrong r ↦ fails_by (IsWrong r)
-    | IsBig r ↦ fails_by (IsBig r)
-  ]
-
-  by_fault : (os : List Outcome) (f : Fault) → joined os ≡ f → exists_effect q os at_choice ≡ by os f
-  unfolding members
-  by_fault os f h = ap (by os) h
-
-  without_fault : (os : List Outcome) → joined os ≡ NoFault → exists_effect q os at_choice ≡ members (all_set_items (values os))
-  unfolding members
-  without_fault os h = by_fault os NoFault h
-
-  with_fault : (os : List Outcome) (f : Fault) → joined os ≡ f → ((a b : Outcome) → fault_or f a ≡ fault_or f b) → fails_by f ≡ exists_effect q os at_choice
-  with_fault os NoFault h k = let same : Wrong q ≡ Big q = k (Wrong q) (Big q) in absurd (cc)
-  with_fault os (IsWrong r) h k = sym (by_fault os (IsWrong r) h)
-  with_fault os (IsBig r) h k = sym (by_fault os (IsBig r) h)
-
-  at_choices : (o : Option (List (List Value))) (cs : List (List Value)) → option_map choices o ≡ Some cs → members o ≡ effects_or (map at_choice cs)
-  unfolding members
-  at_choices None cs e = absurd (cc)
-  at_choices (Some xss) cs e = let same : choices xss ≡ cs = cc in ap (λ yss. effects_or (map at_choice yss)) same
-
 module _ (w : ℕ) (m : Assignable) (q : Place) (names : List (List ℕ)) (args : List Expr) (vars : List (List ℕ × Value)) (s t : State) where
-  pub exists_fault : (sets : List Expr) (f : Fault) → sets ≡ take (length names) args → f ≡ joined (outcomes_at w sets vars s t) →
-      ((a b : Outcome) → fault_or f a ≡ fault_or f b) → fails_by f ≡ exists_at w m q names args vars s t
-  exists_fault sets f front fault is =
-      with_fault q (λ c. first_effect w m q (drop (length names) args) (vars ++ bound_to names c) s t) (outcomes_at w (take (length names) args) vars s t) f
-      (ap (λ es. joined (outcomes_at w es vars s t)) (sym front) ∙ sym fault) is
-
   pub exists_body : (sets rest : List Expr) (f : Fault) (vs vs' : List Value) (cs cs' : List (List Value)) (body : Expr) →
       sets ≡ take (length names) args → rest ≡ drop (length names) args →
       f ≡ joined (outcomes_at w sets vars s t) → f ≡ NoFault → vs ≡ values (outcomes_at w sets vars s t) → vs' ≡ vs →

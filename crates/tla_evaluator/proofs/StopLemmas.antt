@@ -1,5 +1,7 @@
 -- What stops an evaluation.
-use Rattle.std.proofs.Common.{◌≡◌, ℕ, ◌+◌, ◌*◌, ◌<◌, ◌≤◌, Bool, true, false, List, [], ◌∷◌, map, drop, get_or, length, refl, ap, ◌∙◌, sym, subst, Result, Ok, Err, arith}
+use Rattle.std.proofs.Common.{◌≡◌, ℕ, ◌++◌, append-nil, ap₂, cond, option_and_then, if◌then◌else◌, ◌+◌, ◌*◌, ◌<◌, ◌≤◌, Bool, true, false, List, [], ◌∷◌, map, drop, get_or, length, refl, ap, ◌∙◌, sym, subst, Result, Ok, Err, arith}
+use Rattle.std.specs.Prelude.{IfOk}
+use Rattle.std.specs.List.{All}
 use Rattle.tla_values.specs.Sets.{Normal}
 use Rattle.tla_values.specs.declared.value.Value.{Value}
 use Rattle.tla_meaning.specs.declared.outcome.Fault.{Fault}
@@ -7,12 +9,17 @@ use Rattle.tla_meaning.specs.declared.outcome.Fault.TheVariants.{NoFault, IsWron
 use Rattle.tla_meaning.specs.declared.outcome.Outcome.{Outcome}
 use Rattle.tla_meaning.specs.declared.outcome.Outcome.TheVariants as outcome
 use Rattle.tla_meaning.specs.declared.place.Place.{Place}
-use Rattle.tla_meaning.specs.Meaning.{Update, case_chosen, choose, conjoined, disjoined, first_updated, folded, implied, updated}
+use Rattle.tla_values.specs.declared.value.Value.{out-Value}
+use Rattle.tla_meaning.specs.declared.forms.SetForm.{SetForm}
+use Rattle.tla_meaning.specs.Forms.{Broken, Formed, Made, all_set_forms, fault_or_form, form_fault, form_faults, is_set_form, made}
+use Rattle.tla_meaning.specs.Shapes.{set_items}
+use Rattle.tla_meaning.proofs.Joins.{both_unit}
+use Rattle.tla_meaning.specs.Meaning.{Update, form_of_all, form_of_one, plain, function_form, functions_from, in_form, layer_of, case_chosen, choose, conjoined, disjoined, first_updated, folded, implied, updated}
 use Rattle.tla_meaning.specs.Operators.{yes_no}
 use Rattle.tla_meaning.specs.Outcomes.{fault_of, fault_or, join_faults, joined, strict, values, with_value}
 use Rattle.tla_evaluator.specs.declared.stops.Stop.{Stop}
 use Rattle.tla_evaluator.specs.declared.stops.Stop.TheVariants.{Wrong, Big, Memory}
-use Rattle.tla_evaluator.specs.inner.Gives.{Gives, GivesAll, Guards}
+use Rattle.tla_evaluator.specs.inner.Gives.{Gives, GivesAll, GivesForm, GivesForms, Guards, Joins, both}
 use Rattle.tla_meaning.specs.declared.expr.Expr.{Expr}
 use Rattle.tla_evaluator.specs.inner.Nodes.{except_in, index_trees, junction, paths_in, updates_in}
 use Rattle.tla_evaluator.specs.inner.Readings.{Reading, outcomes_in, value_in}
@@ -20,6 +27,9 @@ use Rattle.tla_evaluator.proofs.EvalSteps.{chosen, map_next, same_item, strict_d
 
 pub gives_as : (r : Result Value Stop) {x y : Outcome} → x ≡ y → Gives x r → Gives y r
 gives_as r e h = subst (λ o. Gives o r) e h
+
+pub form_gives_as : (r : Result SetForm Stop) {x y : Formed} → x ≡ y → GivesForm x r → GivesForm y r
+form_gives_as r e h = subst (λ o. GivesForm o r) e h
 
 -- what stops one outcome stops another that is no value either
 pub stops_as : (s : Stop) (o q : Outcome) → Gives o (Err s) → ((p : Place) → o ≡ outcome.Wrong p → q ≡ outcome.Wrong p) →
@@ -67,59 +77,172 @@ strict_stops (Memory e) os g h = tt
 pub strict_goes : (vs : List Value) (os : List Outcome) (g : List Value → Outcome) → GivesAll (joined os) (values os) (Ok vs) → g vs ≡ strict os g
 strict_goes vs os g h = ap g (sym h.1) ∙ ap (λ f. fault_or f (g (values os))) (sym h.0)
 
--- the value of one operand, where the others have no fault
-module _ (o : Outcome) (os : List Outcome) where
-  abbrev behind : Outcome
-  behind = fault_or (join_faults (fault_of o) (joined os)) o
+-- ---- two that are joined
 
-  pub first_stops : (s : Stop) (g : List Value → Outcome) → Gives behind (Err s) → Gives (strict (o ∷ os) g) (Err s)
-  first_stops s g h = stops_as s behind (strict (o ∷ os) g) h (λ p e. wrong o (joined os) p e) (λ p e. big o (joined os) p e)
-    where
-      wrong : (o : Outcome) (f : Fault) (p : Place) → fault_or (join_faults (fault_of o) f) o ≡ outcome.Wrong p →
-          fault_or (join_faults (fault_of o) f) (g (values (o ∷ os))) ≡ outcome.Wrong p
-      wrong (outcome.Val v) NoFault p e = absurd (cc)
-      wrong (outcome.Val v) (IsWrong q) p e = e
-      wrong (outcome.Val v) (IsBig q) p e = e
-      wrong (outcome.Wrong q) NoFault p e = e
-      wrong (outcome.Wrong q) (IsWrong r) p e = e
-      wrong (outcome.Wrong q) (IsBig r) p e = e
-      wrong (outcome.Big q) NoFault p e = e
-      wrong (outcome.Big q) (IsWrong r) p e = e
-      wrong (outcome.Big q) (IsBig r) p e = e
+-- the fault of an answer
+abbrev pub StopsBy : Fault → Stop → Type 0
+StopsBy f (Wrong p) = f ≡ IsWrong p
+StopsBy f (Big p) = f ≡ IsBig p
+StopsBy f (Memory e) = Unit {0}
 
-      big : (o : Outcome) (f : Fault) (p : Place) → fault_or (join_faults (fault_of o) f) o ≡ outcome.Big p →
-          fault_or (join_faults (fault_of o) f) (g (values (o ∷ os))) ≡ outcome.Big p
-      big (outcome.Val v) NoFault p e = absurd (cc)
-      big (outcome.Val v) (IsWrong q) p e = e
-      big (outcome.Val v) (IsBig q) p e = e
-      big (outcome.Wrong q) NoFault p e = e
-      big (outcome.Wrong q) (IsWrong r) p e = e
-      big (outcome.Wrong q) (IsBig r) p e = e
-      big (outcome.Big q) NoFault p e = e
-      big (outcome.Big q) (IsWrong r) p e = e
-      big (outcome.Big q) (IsBig r) p e = e
+abbrev pub GivesFault : {X : Type 0} → Fault → Result X Stop → Type 0
+GivesFault f (Ok x) = f ≡ NoFault
+GivesFault f (Err s) = StopsBy f s
 
-  -- it has no fault, and the first operand is the value
-  pub first_goes : (v : Value) (p : Place) (us : List Update) → Gives behind (Ok v) →
-      (o ≡ outcome.Val v) × (updated p us v ≡ strict (o ∷ os) (first_updated p us))
-  first_goes v p us h = go o (joined os) refl refl h
-    where
-      go : (q : Outcome) (f : Fault) → o ≡ q → joined os ≡ f → fault_or (join_faults (fault_of q) f) q ≡ outcome.Val v →
-          (o ≡ outcome.Val v) × (updated p us v ≡ strict (o ∷ os) (first_updated p us))
-      go (outcome.Val u) NoFault eo ef e =
-          let same : o ≡ outcome.Val v = eo ∙ e in (
-            same,
-            sym (ap (λ q. fault_or (join_faults (fault_of q) (joined os)) (first_updated p us (values (q ∷ os)))) same
-                ∙ ap (λ g. fault_or g (updated p us v)) ef),
-          )
-      go (outcome.Val u) (IsWrong q) eo ef e = absurd (cc)
-      go (outcome.Val u) (IsBig q) eo ef e = absurd (cc)
-      go (outcome.Wrong q) NoFault eo ef e = absurd (cc)
-      go (outcome.Wrong q) (IsWrong r) eo ef e = absurd (cc)
-      go (outcome.Wrong q) (IsBig r) eo ef e = absurd (cc)
-      go (outcome.Big q) NoFault eo ef e = absurd (cc)
-      go (outcome.Big q) (IsWrong r) eo ef e = absurd (cc)
-      go (outcome.Big q) (IsBig r) eo ef e = absurd (cc)
+pub joins_both : {X Y : Type 0} (a : Result X Stop) (b : Result Y Stop) (f g : Fault) → GivesFault f a → GivesFault g b → GivesFault (join_faults f g) (both a b)
+joins_both (Ok x) (Ok y) f g h k = ap₂ join_faults h k
+joins_both (Ok x) (Err (Wrong q)) f g h k = ap₂ join_faults h k
+joins_both (Ok x) (Err (Big q)) f g h k = ap₂ join_faults h k
+joins_both (Ok x) (Err (Memory e)) f g h k = tt
+joins_both (Err (Wrong p)) (Ok y) f g h k = ap₂ join_faults h k
+joins_both (Err (Wrong p)) (Err (Wrong q)) f g h k = ap₂ join_faults h k
+joins_both (Err (Wrong p)) (Err (Big q)) f g h k = ap₂ join_faults h k
+joins_both (Err (Wrong p)) (Err (Memory e)) f g h k = tt
+joins_both (Err (Big p)) (Ok y) f g h k = ap₂ join_faults h k
+joins_both (Err (Big p)) (Err (Wrong q)) f g h k = ap₂ join_faults h k
+joins_both (Err (Big p)) (Err (Big q)) f g h k = ap₂ join_faults h k
+joins_both (Err (Big p)) (Err (Memory e)) f g h k = tt
+joins_both (Err (Memory e)) (Ok y) f g h k = tt
+joins_both (Err (Memory e)) (Err t) f g h k = tt
+
+pub both_parts : {X Y : Type 0} (a : Result X Stop) (b : Result Y Stop) (z : X × Y) → both a b ≡ Ok z → (a ≡ Ok z.0) × (b ≡ Ok z.1)
+both_parts {X} {Y} (Ok x) (Ok y) z e =
+    let pair : X × Y = (x, y) in
+    let same : pair ≡ z = cc in (ap (λ u. Ok u.0) same, ap (λ u. Ok u.1) same)
+both_parts (Ok x) (Err t) z e = absurd (cc)
+both_parts (Err s) (Ok y) z e = absurd (cc)
+both_parts (Err s) (Err t) z e = absurd (cc)
+
+pub value_fault : (a : Result Value Stop) (o : Outcome) → Gives o a → GivesFault (fault_of o) a
+value_fault (Ok v) o h = ap fault_of h
+value_fault (Err (Wrong p)) o h = ap fault_of h
+value_fault (Err (Big p)) o h = ap fault_of h
+value_fault (Err (Memory e)) o h = tt
+
+pub one_form_fault : (a : Result SetForm Stop) (f : Formed) → GivesForm f a → GivesFault (form_fault f) a
+one_form_fault (Ok g) f h = ap form_fault h
+one_form_fault (Err (Wrong p)) f h = ap form_fault h
+one_form_fault (Err (Big p)) f h = ap form_fault h
+one_form_fault (Err (Memory e)) f h = tt
+
+pub no_form_faults : (gs : List SetForm) → form_faults (map (λ g. Made g) gs) ≡ NoFault
+no_form_faults [] = refl
+no_form_faults (g ∷ gs) = no_form_faults gs
+
+pub made_all : (gs : List SetForm) → made (map (λ g. Made g) gs) ≡ gs
+made_all [] = refl
+made_all (g ∷ gs) = ap (λ l. g ∷ l) (made_all gs)
+
+pub forms_fault : (a : Result (List SetForm) Stop) (fs : List Formed) → GivesForms fs a → GivesFault (form_faults fs) a
+forms_fault (Ok gs) fs h = ap form_faults h ∙ no_form_faults gs
+forms_fault (Err (Wrong p)) fs h = h
+forms_fault (Err (Big p)) fs h = h
+forms_fault (Err (Memory e)) fs h = tt
+
+pub all_fault : {X : Type 0} (a : Result (List X) Stop) (f : Fault) (xs : List X) → GivesAll f xs a → GivesFault f a
+all_fault (Ok ys) f xs h = h.0
+all_fault (Err (Wrong p)) f xs h = h
+all_fault (Err (Big p)) f xs h = h
+all_fault (Err (Memory e)) f xs h = tt
+
+pub fault_stops : (s : Stop) (f : Fault) (o : Outcome) → StopsBy f s → Gives (fault_or f o) (Err s)
+fault_stops (Wrong p) f o h = ap (λ g. fault_or g o) h
+fault_stops (Big p) f o h = ap (λ g. fault_or g o) h
+fault_stops (Memory e) f o h = tt
+
+pub form_fault_stops : (s : Stop) (f : Fault) (d : Formed) → StopsBy f s → GivesForm (fault_or_form f d) (Err s)
+form_fault_stops (Wrong p) f d h = ap (λ g. fault_or_form g d) h
+form_fault_stops (Big p) f d h = ap (λ g. fault_or_form g d) h
+form_fault_stops (Memory e) f d h = tt
+
+pub gives_all_as : {X : Type 0} (a : Result (List X) Stop) {f g : Fault} {xs ys : List X} → f ≡ g → xs ≡ ys → GivesAll f xs a → GivesAll g ys a
+gives_all_as a {f = f} {ys = ys} e d h = subst (λ k. GivesAll k ys a) e (subst (λ zs. GivesAll f zs a) d h)
+
+pub given_normal : (a : Result (List Value) Stop) (f : Fault) (xs : List Value) → GivesAll f xs a → All Normal xs → IfOk a (λ vs. All Normal vs)
+given_normal (Ok vs) f xs h k = subst (λ l. All Normal l) h.1 k
+given_normal (Err s) f xs h k = tt
+
+-- ---- one form
+
+pub only_item : {X : Type 0} (xs : List X) (a : X) → 1 ≤ length xs → length xs < 2 → a ≡ get_or xs 0 a → xs ≡ a ∷ []
+only_item [] a low high is = absurd (omega (arith, low))
+only_item (x ∷ []) a low high is = ap (λ z. z ∷ []) (sym is)
+only_item (x ∷ y ∷ xs) a low high is = absurd (omega (arith, high))
+
+pub plain_stops : (s : Stop) (o : Outcome) → Gives o (Err s) → GivesForm (plain o) (Err s)
+plain_stops (Wrong p) o h = ap plain h
+plain_stops (Big p) o h = ap plain h
+plain_stops (Memory e) o h = tt
+
+pub one_form_stops : (s : Stop) (p : Place) (make : SetForm → SetForm) (f : Formed) → GivesForm f (Err s) → GivesForm (form_of_one p make (f ∷ [])) (Err s)
+one_form_stops (Wrong q) p make f h = ap (λ g. form_of_one p make (g ∷ [])) h
+one_form_stops (Big q) p make f h = ap (λ g. form_of_one p make (g ∷ [])) h
+one_form_stops (Memory e) p make f h = tt
+
+-- ---- memberships
+
+module _ (p : Place) (test : Value → SetForm → Outcome) (os : List Outcome) (d : Formed) where
+  abbrev without : Fault → Outcome
+  without f = elim f as (λ _. Outcome) [ NoFault ↦ outcome.Wrong p | IsWrong q ↦ outcome.Wrong q | IsBig q ↦ outcome.Big q ]
+
+  without_stops : (s : Stop) (f : Fault) → StopsBy f s → Gives (without f) (Err s)
+  without_stops (Wrong q) f h = ap without h
+  without_stops (Big q) f h = ap without h
+  without_stops (Memory e) f h = tt
+
+  in_form_stops : (s : Stop) (o : Outcome) (f : Formed) → StopsBy (join_faults (fault_of o) (form_fault f)) s →
+      Gives (in_form p test (o ∷ os) (d ∷ f ∷ [])) (Err s)
+  in_form_stops (Wrong q) (outcome.Val v) (Made g) h = absurd (cc)
+  in_form_stops (Big q) (outcome.Val v) (Made g) h = absurd (cc)
+  in_form_stops (Memory e) (outcome.Val v) (Made g) h = tt
+  in_form_stops s (outcome.Val v) (Broken g) h = without_stops s g h
+  in_form_stops s (outcome.Wrong r) f h = without_stops s (join_faults (IsWrong r) (form_fault f)) h
+  in_form_stops s (outcome.Big r) f h = without_stops s (join_faults (IsBig r) (form_fault f)) h
+
+  pub membership_stops : (s : Stop) (a : Result Value Stop) (b : Result SetForm Stop) (o : Outcome) (f : Formed) → Gives o a → GivesForm f b → both a b ≡ Err s →
+      Gives (in_form p test (o ∷ os) (d ∷ f ∷ [])) (Err s)
+  membership_stops s a b o f h k e =
+      in_form_stops s o f (subst (λ (z : Result (Value × SetForm) Stop). GivesFault (join_faults (fault_of o) (form_fault f)) z) e
+      (joins_both a b (fault_of o) (form_fault f) (value_fault a o h) (one_form_fault b f k)))
+
+  pub membership_goes : (z : Value × SetForm) (a : Result Value Stop) (b : Result SetForm Stop) (o : Outcome) (f : Formed) → Gives o a → GivesForm f b → both a b ≡ Ok z →
+      (if is_set_form z.1 then test z.0 z.1 else outcome.Wrong p) ≡ in_form p test (o ∷ os) (d ∷ f ∷ [])
+  membership_goes z a b o f h k e =
+      let parts = both_parts a b z e in
+      let ho : o ≡ outcome.Val z.0 = subst (λ (r : Result Value Stop). Gives o r) parts.0 h in
+      let hf : f ≡ Made z.1 = subst (λ (r : Result SetForm Stop). GivesForm f r) parts.1 k in
+      sym (ap (λ q. in_form p test (q ∷ os) (d ∷ f ∷ [])) ho ∙ ap (λ g. in_form p test (outcome.Val z.0 ∷ os) (d ∷ g ∷ [])) hf)
+
+-- ---- sets of functions
+
+module _ (p : Place) (os : List Outcome) (d : Formed) (a : Result Value Stop) (b : Result (List SetForm) Stop) (o : Outcome) (fs : List Formed) (ha : Gives o a) (hb : GivesForms fs b) where
+  pub functions_stop : (s : Stop) → both a b ≡ Err s → GivesForm (function_form p (o ∷ os) (d ∷ fs)) (Err s)
+  functions_stop s e =
+      form_fault_stops s (join_faults (fault_of o) (form_faults fs)) (functions_from p (option_and_then set_items (layer_of o)) fs)
+      (subst (λ (z : Result (Value × List SetForm) Stop). GivesFault (join_faults (fault_of o) (form_faults fs)) z) e
+      (joins_both a b (fault_of o) (form_faults fs) (value_fault a o ha) (forms_fault b fs hb)))
+
+  pub functions_go : (z : Value × List SetForm) → both a b ≡ Ok z →
+      functions_from p (set_items (out-Value z.0)) (map (λ g. Made g) z.1) ≡ function_form p (o ∷ os) (d ∷ fs)
+  functions_go z e =
+      let parts = both_parts a b z e in
+      let ho : o ≡ outcome.Val z.0 = subst (λ (r : Result Value Stop). Gives o r) parts.0 ha in
+      let hf : fs ≡ map (λ g. Made g) z.1 = subst (λ (r : Result (List SetForm) Stop). GivesForms fs r) parts.1 hb in
+      sym (ap (λ q. function_form p (q ∷ os) (d ∷ fs)) ho ∙ ap (λ l. function_form p (outcome.Val z.0 ∷ os) (d ∷ l)) hf
+      ∙ ap (λ f. fault_or_form f (functions_from p (set_items (out-Value z.0)) (map (λ g. Made g) z.1))) (no_form_faults z.1))
+
+-- ---- forms that are each a set form
+
+pub set_forms_are : (p : Place) (fs : List Formed) (gs : List SetForm) (b : Bool) → fs ≡ map (λ g. Made g) gs → b ≡ all_set_forms gs → (make : List SetForm → SetForm) →
+    form_of_all p make fs ≡ (if b then Made (make gs) else Broken (IsWrong p))
+set_forms_are p fs gs b e h make =
+    ap (form_of_all p make) e
+    ∙ ap₂ (λ f hs. fault_or_form f (if all_set_forms hs then Made (make hs) else Broken (IsWrong p))) (no_form_faults gs) (made_all gs)
+    ∙ ap (λ b. cond b (Made (make gs)) (Broken (IsWrong p))) (sym h)
+
+pub set_forms_stop : (s : Stop) (p : Place) (fs : List Formed) → GivesForms fs (Err s) → (make : List SetForm → SetForm) → GivesForm (form_of_all p make fs) (Err s)
+set_forms_stop s p fs h make =
+    form_fault_stops s (form_faults fs) (if all_set_forms (made fs) then Made (make (made fs)) else Broken (IsWrong p)) (forms_fault (Err s) fs h)
 
 -- ---- two operands
 
@@ -130,21 +253,21 @@ two_items (x ∷ y ∷ []) a b low high ia ib = ap (λ z. z ∷ y ∷ []) (sym i
 two_items (x ∷ y ∷ z ∷ zs) a b low high ia ib = absurd (omega (arith, high))
 
 module _ {X : Type 0} (f : X → Outcome) (p : Place) (xs : List X) (a b : X) (two : xs ≡ a ∷ b ∷ []) where
-  abbrev then : Outcome
-  then = choose p (f b) (yes_no true) (yes_no false)
+  abbrev conclusion : Outcome
+  conclusion = choose p (f b) (yes_no true) (yes_no false)
 
-  whole : implied p (map f xs) ≡ choose p (f a) then (yes_no true)
+  whole : implied p (map f xs) ≡ choose p (f a) conclusion (yes_no true)
   whole = ap (λ l. implied p (map f l)) two
 
   pub premise_stops : (s : Stop) → ((y z : Outcome) → Gives (choose p (f a) y z) (Err s)) → Gives (implied p (map f xs)) (Err s)
-  premise_stops s h = subst (λ o. Gives o (Err s)) (sym whole) (h then (yes_no true))
+  premise_stops s h = subst (λ o. Gives o (Err s)) (sym whole) (h conclusion (yes_no true))
 
   pub premise_fails : (c : Bool) → f a ≡ yes_no c → c ≡ false → implied p (map f xs) ≡ yes_no true
   premise_fails true is h = absurd (cc)
-  premise_fails false is h = whole ∙ ap (λ o. choose p o then (yes_no true)) is ∙ chosen false p then (yes_no true)
+  premise_fails false is h = whole ∙ ap (λ o. choose p o conclusion (yes_no true)) is ∙ chosen false p conclusion (yes_no true)
 
-  pub premise_holds : (c : Bool) → f a ≡ yes_no c → c ≡ true → implied p (map f xs) ≡ then
-  premise_holds true is h = whole ∙ ap (λ o. choose p o then (yes_no true)) is ∙ chosen true p then (yes_no true)
+  pub premise_holds : (c : Bool) → f a ≡ yes_no c → c ≡ true → implied p (map f xs) ≡ conclusion
+  premise_holds true is h = whole ∙ ap (λ o. choose p o conclusion (yes_no true)) is ∙ chosen true p conclusion (yes_no true)
   premise_holds false is h = absurd (cc)
 
   pub conclusion_stops : (s : Stop) (c : Bool) → f a ≡ yes_no c → c ≡ true → ((y z : Outcome) → Gives (choose p (f b) y z) (Err s)) →
@@ -165,27 +288,70 @@ one_item [] a low is = absurd (omega (arith, low))
 one_item (x ∷ xs) a low is = ap (λ z. z ∷ xs) (sym is)
 
 module _ (r : Reading) (p : Place) (ns : List ℕ) (xs : List (List ℕ)) (es rest : List Expr) (e : Expr) (some : 1 ≤ length es) (is : e ≡ get_or es 0 e) (back : rest ≡ drop 1 es)
-    (o : Outcome) (f g h : Fault) (oe : o ≡ value_in r e) (fe : f ≡ fault_of o) (ge : g ≡ joined (outcomes_in r (index_trees ns rest))) (he : h ≡ join_faults f g) where
-  abbrev indexes : List Outcome
-  indexes = outcomes_in r (index_trees ns rest)
+    (a : Result Value Stop) (b : Result (List (ℕ × List Value)) Stop) (ha : Gives (value_in r e) a) (hb : GivesAll (joined (outcomes_in r (index_trees ns rest))) (paths_in r ns rest) b) where
+  abbrev fault : Fault
+  fault = join_faults (fault_of (value_in r e)) (joined (outcomes_in r (index_trees ns rest)))
 
-  all : strict (value_in r e ∷ indexes) (first_updated p (updates_in r p xs (paths_in r ns rest) rest)) ≡ except_in r p ns xs es
-  all =
-      ap (λ l. except_in r p ns xs (e ∷ l)) back ∙ ap (except_in r p ns xs) (sym (one_item es e some is))
+  all : strict (value_in r e ∷ outcomes_in r (index_trees ns rest)) (first_updated p (updates_in r p xs (paths_in r ns rest) rest)) ≡ except_in r p ns xs es
+  all = ap (λ l. except_in r p ns xs (e ∷ l)) back ∙ ap (except_in r p ns xs) (sym (one_item es e some is))
 
-  fault_is : fault_or h o ≡ behind (value_in r e) indexes
-  fault_is =
-      ap (λ k. fault_or k o) (he ∙ ap (λ k. join_faults k g) fe ∙ ap (join_faults (fault_of o)) ge)
-      ∙ ap (λ q. fault_or (join_faults (fault_of q) (joined indexes)) q) oe
+  joined_fault : GivesFault fault (both a b)
+  joined_fault = joins_both a b (fault_of (value_in r e)) (joined (outcomes_in r (index_trees ns rest))) (value_fault a (value_in r e) ha) (all_fault b _ (paths_in r ns rest) hb)
 
-  pub except_stops : (s : Stop) → Gives (fault_or h o) (Err s) → Gives (except_in r p ns xs es) (Err s)
+  pub except_stops : (s : Stop) → both a b ≡ Err s → Gives (except_in r p ns xs es) (Err s)
   except_stops s k =
-      subst (λ q. Gives q (Err s)) all (first_stops (value_in r e) indexes s (first_updated p (updates_in r p xs (paths_in r ns rest) rest))
-      (subst (λ q. Gives q (Err s)) fault_is k))
+      subst (λ q. Gives q (Err s)) all (fault_stops s fault _
+      (subst (λ (z : Result (Value × List (ℕ × List Value)) Stop). GivesFault fault z) k joined_fault))
 
-  pub except_goes : (v : Value) (ps : List (ℕ × List Value)) → ps ≡ paths_in r ns rest → Gives (fault_or h o) (Ok v) →
-      (value_in r e ≡ outcome.Val v) × (updated p (updates_in r p xs ps rest) v ≡ except_in r p ns xs es)
-  except_goes v ps same k =
-      let us : List Update = updates_in r p xs (paths_in r ns rest) rest in
-      let q = first_goes (value_in r e) indexes v p us (subst (λ q. Gives q (Ok v)) fault_is k) in
-      (q.0, ap (λ z. updated p (updates_in r p xs z rest) v) same ∙ q.1 ∙ all)
+  pub except_goes : (z : Value × List (ℕ × List Value)) → both a b ≡ Ok z →
+      (value_in r e ≡ outcome.Val z.0) × (updated p (updates_in r p xs z.1 rest) z.0 ≡ except_in r p ns xs es)
+  except_goes z k =
+      let parts = both_parts a b z k in
+      let value : value_in r e ≡ outcome.Val z.0 = subst (λ (q : Result Value Stop). Gives (value_in r e) q) parts.0 ha in
+      let found : (joined (outcomes_in r (index_trees ns rest)) ≡ NoFault) × (paths_in r ns rest ≡ z.1) =
+      subst (λ (q : Result (List (ℕ × List Value)) Stop). GivesAll (joined (outcomes_in r (index_trees ns rest))) (paths_in r ns rest) q) parts.1 hb in
+      let us : List (ℕ × List Value) → List Update = λ ps. updates_in r p xs ps rest in (
+        value,
+        ap (λ ps. updated p (us ps) z.0) (sym found.1)
+            ∙ sym (ap (λ o. strict (o ∷ outcomes_in r (index_trees ns rest)) (first_updated p (us (paths_in r ns rest)))) value
+            ∙ ap (λ f. fault_or f (updated p (us (paths_in r ns rest)) z.0)) found.0)
+            ∙ all,
+      )
+
+-- ---- one more
+
+pub joins_value : (a : Result Value Stop) (o : Outcome) (f g : Fault) (xs ys : List Value) → Gives o a → Joins f xs a g ys →
+    (g ≡ join_faults f (fault_of o)) × (ys ≡ xs ++ values (o ∷ []))
+joins_value (Ok v) o f g xs ys h k = (k.0 ∙ sym (both_unit f) ∙ ap (λ q. join_faults f (fault_of q)) (sym h), k.1 ∙ ap (λ q. xs ++ values (q ∷ [])) (sym h))
+joins_value (Err (Wrong p)) o f g xs ys h k = (k.0 ∙ ap (λ q. join_faults f (fault_of q)) (sym h), k.1 ∙ sym (append-nil xs) ∙ ap (λ q. xs ++ values (q ∷ [])) (sym h))
+joins_value (Err (Big p)) o f g xs ys h k = (k.0 ∙ ap (λ q. join_faults f (fault_of q)) (sym h), k.1 ∙ sym (append-nil xs) ∙ ap (λ q. xs ++ values (q ∷ [])) (sym h))
+joins_value (Err (Memory e)) o f g xs ys h k = absurd k
+
+never_none : (f g : Fault) → (g ≡ NoFault → ⊥) → join_faults f g ≡ NoFault → ⊥
+never_none NoFault g h e = h e
+never_none (IsWrong q) NoFault h e = h refl
+never_none (IsWrong q) (IsWrong r) h e = cc
+never_none (IsWrong q) (IsBig r) h e = cc
+never_none (IsBig q) NoFault h e = h refl
+never_none (IsBig q) (IsWrong r) h e = cc
+never_none (IsBig q) (IsBig r) h e = cc
+
+abbrev pub formed : List SetForm → List Formed
+formed gs = map (λ g. Made g) gs
+
+-- without a fault every form so far was made
+pub joins_form : (a : Result SetForm Stop) (d : Formed) (f g : Fault) (xs ys : List SetForm) → GivesForm d a → Joins f xs a g ys →
+    (g ≡ join_faults f (form_fault d)) × (g ≡ NoFault → (f ≡ NoFault) × (formed ys ≡ formed xs ++ d ∷ []))
+joins_form (Ok v) d f g xs ys h k = (
+  k.0 ∙ sym (both_unit f) ∙ ap (λ q. join_faults f (form_fault q)) (sym h),
+  λ none. (sym k.0 ∙ none, ap formed k.1 ∙ more xs v ∙ ap (λ q. formed xs ++ q ∷ []) (sym h)),
+)
+  where
+    more : (xs : List SetForm) (v : SetForm) → formed (xs ++ v ∷ []) ≡ formed xs ++ Made v ∷ []
+    more [] v = refl
+    more (x ∷ xs) v = ap (λ l. Made x ∷ l) (more xs v)
+joins_form (Err (Wrong p)) d f g xs ys h k =
+    (k.0 ∙ ap (λ q. join_faults f (form_fault q)) (sym h), λ none. absurd (never_none f (IsWrong p) (λ e. cc) (sym k.0 ∙ none)))
+joins_form (Err (Big p)) d f g xs ys h k =
+    (k.0 ∙ ap (λ q. join_faults f (form_fault q)) (sym h), λ none. absurd (never_none f (IsBig p) (λ e. cc) (sym k.0 ∙ none)))
+joins_form (Err (Memory e)) d f g xs ys h k = absurd k

@@ -7,4 +7,4 @@ pub mod Mentions
 pub mod Nodes
 pub mod Readings
 pub mod Results
-pub mod SetRules
+pub mod SetForms

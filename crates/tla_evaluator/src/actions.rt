@@ -5,16 +5,17 @@ ghost use Rattle.tla_values.specs.Sets.{Normal};
 ghost use Rattle.tla_values.specs.declared.value.Value.{out-Value};
 ghost use Rattle.tla_meaning.specs.Actions.{case_effect, effect_of, effects_and, effects_or, fails_by, if_effect, is_true};
 ghost use Rattle.tla_evaluator.specs.inner.Effects.{body_in, either, exists_in};
+ghost use Rattle.tla_evaluator.specs.inner.Gives.{FailsBy};
 ghost use Rattle.tla_evaluator.specs.inner.Readings.{effect_in, effects_in, outcomes_in, value_in};
 
 use crate::context::Context;
 use crate::expressions::Site;
-use crate::outcomes::{is_fault, join_faults, truth_of};
+use crate::outcomes::join_faults;
 use crate::sets::choices_of;
-use crate::stops::told;
+use crate::stops::Stop;
 use crate::trees::{after, any_mentions, front};
 use std::alloc::AllocError;
-use tla_meaning::{Assignable, Effect, Expr, Fault, Op, Outcome, Place};
+use tla_meaning::{Assignable, Effect, Expr, Fault, Op, Place};
 use tla_values::{List, Text, Value};
 
 fn fails_by(fault: Fault) -> Effect
@@ -26,17 +27,14 @@ fn fails_by(fault: Fault) -> Effect
     }
 }
 
-// An action holds where its value is TRUE.
-pub(crate) fn effect_of(outcome: &Outcome) -> Effect
-    ensures { result ≡ effect_of outcome.now }
+// The effect of what stops a part.
+fn stopped(stop: Stop) -> Result<Effect, AllocError>
+    ensures { IfOk result (FailsBy stop) }
 {
-    match outcome {
-        Outcome::Val(v) => Effect {
-            holds: is_true(v),
-            fault: Fault::NoFault,
-        },
-        Outcome::Wrong(p) => fails_by(Fault::IsWrong(*p)),
-        Outcome::Big(p) => fails_by(Fault::IsBig(*p)),
+    match stop {
+        Stop::Wrong(p) => Ok(fails_by(Fault::IsWrong(p))),
+        Stop::Big(p) => Ok(fails_by(Fault::IsBig(p))),
+        Stop::Memory(e) => Err(e),
     }
 }
 
@@ -74,8 +72,13 @@ impl Context<'_> {
     pub(crate) fn by_value(&self, e: &Expr) -> Result<Effect, AllocError>
         ensures { IfOk result (λ f. f ≡ effect_of (value_in self.now e.now)) }
     {
-        let outcome = told(self.value(e))?;
-        Ok(effect_of(&outcome))
+        match self.value(e) {
+            Ok(v) => Ok(Effect {
+                holds: is_true(&v),
+                fault: Fault::NoFault,
+            }),
+            Err(stop) => stopped(stop),
+        }
     }
 
     // The effect of an action.
@@ -146,14 +149,11 @@ impl Context<'_> {
         ensures { IfOk result (λ f. f ≡ if_effect place (outcomes_in self.now args.now) (effects_in self.now assigned args.now)) }
     {
         match args {
-            [guard, yes, no] => {
-                let outcome = told(self.value(guard))?;
-                match truth_of(outcome, place) {
-                    Ok(true) => self.action(yes, assigned),
-                    Ok(false) => self.action(no, assigned),
-                    Err(fault) => Ok(effect_of(&fault)),
-                }
-            }
+            [guard, yes, no] => match self.guard(guard, place) {
+                Ok(true) => self.action(yes, assigned),
+                Ok(false) => self.action(no, assigned),
+                Err(stop) => stopped(stop),
+            },
             _ => Ok(fails_by(Fault::IsWrong(place))),
         }
     }
@@ -170,11 +170,10 @@ impl Context<'_> {
     {
         let mut i = 0;
         while i + 1 < args.len() {
-            let outcome = told(self.value(&args[i]))?;
-            match truth_of(outcome, place) {
+            match self.guard(&args[i], place) {
                 Ok(true) => return self.action(&args[i + 1], assigned),
                 Ok(false) => i += 2,
-                Err(fault) => return Ok(effect_of(&fault)),
+                Err(stop) => return stopped(stop),
             }
         }
         match args.get(i) {
@@ -194,16 +193,15 @@ impl Context<'_> {
         ensures { IfOk result (λ f. f ≡ exists_in self.now assigned site.entry.place site.entry.names.now args.now) }
     {
         let count = site.names.len();
-        let domains = self.joined(front(args, count))?;
-        if is_fault(domains.fault) {
-            return Ok(fails_by(domains.fault));
-        }
-        match choices_of(self.alloc(), domains.values.as_slice())? {
-            Some(choices) => match after(args, count) {
-                [body, ..] => self.body_effects(body, site.names, choices.as_slice(), assigned),
-                [] => Ok(at_no_body(choices.as_slice(), site.place)),
+        match self.operands(front(args, count)) {
+            Ok(domains) => match choices_of(self.alloc(), domains.as_slice())? {
+                Some(choices) => match after(args, count) {
+                    [body, ..] => self.body_effects(body, site.names, choices.as_slice(), assigned),
+                    [] => Ok(at_no_body(choices.as_slice(), site.place)),
+                },
+                None => Ok(fails_by(Fault::IsWrong(site.place))),
             },
-            None => Ok(fails_by(Fault::IsWrong(site.place))),
+            Err(stop) => stopped(stop),
         }
     }
 

@@ -3,26 +3,24 @@
 ghost use Rattle.std.specs.Prelude.{◌≡◌, ◌∷◌, [], IfOk, Some};
 ghost use Rattle.std.specs.List.{All};
 ghost use Rattle.tla_values.specs.Sets.{Normal};
-ghost use Rattle.tla_meaning.specs.Forms.{form_faults, made, results};
-ghost use Rattle.tla_meaning.specs.Meaning.{case_chosen, folded, function_form, if_chosen, implied, in_form, updated};
+ghost use Rattle.tla_meaning.specs.Forms.{results};
+ghost use Rattle.tla_meaning.specs.Meaning.{case_chosen, folded, form_of_one, function_form, if_chosen, implied, in_form, updated};
 ghost use Rattle.tla_meaning.specs.Operators.{table};
 ghost use Rattle.tla_meaning.specs.Outcomes.{joined, strict, values};
-ghost use Rattle.tla_evaluator.specs.inner.Gives.{Gives, Guards, Updates};
-ghost use Rattle.tla_evaluator.specs.inner.SetRules.{formed_of};
+ghost use Rattle.tla_evaluator.specs.inner.Gives.{Gives, GivesAll, GivesForm, GivesForms, Guards, Updates};
+ghost use Rattle.tla_evaluator.specs.inner.SetForms.{GivesSetForms};
 ghost use Rattle.tla_evaluator.specs.inner.Nodes.{bodies_in, bound_in, except_in, fold_in, form_node, index_trees, junction, membership_test, node_in, one_form, paths_in, update_in, updates_in};
 ghost use Rattle.tla_evaluator.specs.inner.Readings.{first_in, form_in, forms_in, outcomes_in, value_in, with_names};
 
 use crate::binders::{bound_table, choices_of};
 use crate::context::Context;
 use crate::excepts::{Reached, at_path, set_path};
-use crate::memberships::{self, FormOutcome, JoinedForms, join_form};
+use crate::memberships::{all_set_forms, functions_from, one_form, tested};
 use crate::numbers::number;
 use crate::operands::value_and_items;
 use crate::operators::row_of;
-use crate::outcomes::{
-    Joined, all_values, fault_of, join, join_faults, nothing, stopped, truth, value_behind,
-};
-use crate::stops::{Stop, told};
+use crate::outcomes::{Joined, all_of, both, join, join_faults, nothing, truth};
+use crate::stops::Stop;
 use crate::trees::{after, front, has_form};
 use std::alloc::{AllocError, Global};
 use tla_meaning::{Expr, Fault, Op, Place, SetForm};
@@ -111,18 +109,27 @@ impl Context<'_> {
 
     // All operands, joined.
     #[cycle(eval)]
-    pub(crate) fn joined(&self, trees: &[Expr]) -> Result<Joined, AllocError>
+    fn joined(&self, trees: &[Expr]) -> Result<Joined<Value>, AllocError>
         ensures fault { IfOk result (λ j. j.fault ≡ joined (outcomes_in self.now trees.now)) }
-        ensures values { IfOk result (λ j. j.values.items ≡ values (outcomes_in self.now trees.now)) }
-        ensures normal { IfOk result (λ j. All Normal j.values.items) }
+        ensures values { IfOk result (λ j. j.items.items ≡ values (outcomes_in self.now trees.now)) }
     {
-        self.is_readable();
         let mut all = nothing(self.alloc());
         for e in trees {
-            let outcome = told(self.value(e))?;
-            join(&mut all, outcome)?;
+            let one = self.value(e);
+            join(&mut all, one)?;
         }
         Ok(all)
+    }
+
+    // The values of all operands, or the join of their faults.
+    #[cycle(eval)]
+    pub(crate) fn operands(&self, trees: &[Expr]) -> Result<List<Value>, Stop>
+        ensures values { GivesAll (joined (outcomes_in self.now trees.now)) (values (outcomes_in self.now trees.now)) result }
+        ensures normal { IfOk result (λ vs. All Normal vs) }
+    {
+        self.is_readable();
+        let all = self.joined(trees)?;
+        all_of(all)
     }
 
     // An operator that joins its operands, and then has its row of the table.
@@ -130,8 +137,7 @@ impl Context<'_> {
     fn strict(&self, op: &Op, place: Place, trees: &[Expr]) -> Result<Value, Stop>
         ensures { Gives (strict (outcomes_in self.now trees.now) (table (Some self.now.width) place op.now)) result }
     {
-        let all = self.joined(trees)?;
-        let operands = all_values(all)?;
+        let operands = self.operands(trees)?;
         row_of(self.alloc(), op, place, operands.into_vec(), self.width())
     }
 
@@ -200,9 +206,10 @@ impl Context<'_> {
     {
         match trees {
             [left, right] => {
-                let outcome = told(self.value(left))?;
-                let set = self.form(right)?;
-                stopped(memberships::tested(op, outcome, set, place))
+                let value = self.value(left);
+                let form = self.form(right);
+                let (v, set) = both(value, form)?;
+                tested(op, &v, &set, place)
             }
             _ => Err(Stop::Wrong(place)),
         }
@@ -213,13 +220,11 @@ impl Context<'_> {
     fn binder(&self, op: &Op, site: Site<'_>, args: &[Expr]) -> Result<Value, Stop>
         ensures { Gives (bound_in self.now site.entry.place op.now site.entry.names.now args.now) result }
     {
-        let domains = self.joined(front(args, site.names.len()))?;
-        let sets = all_values(domains)?;
+        let sets = self.operands(front(args, site.names.len()))?;
         match choices_of(self.alloc(), sets.as_slice())? {
             Some(choices) => {
                 let trees = after(args, site.names.len());
-                let all = self.bodies(site, trees, choices.as_slice())?;
-                let values = all_values(all)?;
+                let values = self.bodies(site, trees, choices.as_slice())?;
                 bound_table(
                     self.alloc(),
                     op,
@@ -239,17 +244,17 @@ impl Context<'_> {
         site: Site<'_>,
         trees: &[Expr],
         choices: &[List<Value>],
-    ) -> Result<Joined, AllocError>
+    ) -> Result<List<Value>, Stop>
         requires { All (All Normal) choices.now }
-        ensures fault { IfOk result (λ j. j.fault ≡ joined (bodies_in self.now site.entry.place site.entry.names.now trees.now choices.now)) }
-        ensures values { IfOk result (λ j. j.values.items ≡ values (bodies_in self.now site.entry.place site.entry.names.now trees.now choices.now)) }
+        ensures { GivesAll (joined (bodies_in self.now site.entry.place site.entry.names.now trees.now choices.now))
+            (values (bodies_in self.now site.entry.place site.entry.names.now trees.now choices.now)) result }
     {
         let mut all = nothing(self.alloc());
         for choice in choices {
-            let outcome = told(self.under(site, trees, choice.as_slice()))?;
-            join(&mut all, outcome)?;
+            let one = self.under(site, trees, choice.as_slice());
+            join(&mut all, one)?;
         }
-        Ok(all)
+        all_of(all)
     }
 
     // EXCEPT: the function and all indexes, and then the updates in order.
@@ -261,20 +266,18 @@ impl Context<'_> {
             [function, ..] => {
                 self.is_readable();
                 let rest = after(args, 1);
-                let outcome = told(self.value(function))?;
-                let found = self.indexes(counts, rest)?;
-                let fault = join_faults(fault_of(&outcome), found.fault);
-                let start = value_behind(fault, outcome)?;
-                self.updated(site, rest, found.paths.as_slice(), start)
+                let value = self.value(function);
+                let paths = self.indexes(counts, rest);
+                let (start, found) = both(value, paths)?;
+                self.updated(site, rest, found.as_slice(), start)
             }
             [] => Err(Stop::Wrong(site.place)),
         }
     }
 
     #[cycle(eval)]
-    fn indexes(&self, counts: &[usize], trees: &[Expr]) -> Result<JoinedPaths, AllocError>
-        ensures fault { IfOk result (λ i. i.fault ≡ joined (outcomes_in self.now (index_trees counts.now trees.now))) }
-        ensures paths { IfOk result (λ i. i.paths.items ≡ paths_in self.now counts.now trees.now) }
+    fn indexes(&self, counts: &[usize], trees: &[Expr]) -> Result<List<(usize, List<Value>)>, Stop>
+        ensures { GivesAll (joined (outcomes_in self.now (index_trees counts.now trees.now))) (paths_in self.now counts.now trees.now) result }
     {
         let mut fault = Fault::NoFault;
         let mut paths = Vec::new(self.alloc());
@@ -282,10 +285,14 @@ impl Context<'_> {
         for n in counts {
             let part = self.joined(front(rest, *n))?;
             fault = join_faults(fault, part.fault);
-            paths.push((*n, List::from_vec(part.values)))?;
+            paths.push((*n, List::from_vec(part.items)))?;
             rest = after(after(rest, *n), 1);
         }
-        Ok(JoinedPaths { fault, paths })
+        let all = Joined {
+            fault,
+            items: paths,
+        };
+        all_of(all)
     }
 
     // Each update to the result so far.
@@ -340,8 +347,7 @@ impl Context<'_> {
     fn fold(&self, site: Site<'_>, args: &[Expr]) -> Result<Value, Stop>
         ensures { Gives (fold_in self.now site.entry.place site.entry.names.now args.now) result }
     {
-        let all = self.joined(after(args, 1))?;
-        let operands = all_values(all)?;
+        let operands = self.operands(after(args, 1))?;
         match value_and_items(operands.into_vec()) {
             Some((start, items)) => self.folded(site, args, start, items.as_slice()),
             None => Err(Stop::Wrong(site.place)),
@@ -372,100 +378,99 @@ impl Context<'_> {
 
     // The set form of a tree, or the set that its value is.
     #[cycle(eval)]
-    fn form(&self, e: &Expr) -> Result<FormOutcome, AllocError>
-        ensures { IfOk result (λ f. formed_of f ≡ form_in self.now e.now) }
+    fn form(&self, e: &Expr) -> Result<SetForm, Stop>
+        ensures { GivesForm (form_in self.now e.now) result }
     {
         if has_form(&e.op) {
             self.form_of(&e.op, e.place, e.args.as_slice())
         } else {
-            let outcome = told(self.value(e))?;
-            Ok(memberships::plain(outcome))
+            let v = self.value(e)?;
+            Ok(SetForm::Plain(v))
         }
     }
 
     // The form of a node that describes a set by what belongs to it.
     #[cycle(eval)]
-    fn form_of(&self, op: &Op, place: Place, trees: &[Expr]) -> Result<FormOutcome, AllocError>
-        ensures { IfOk result (λ f. formed_of f ≡ form_node self.now place op.now trees.now) }
+    fn form_of(&self, op: &Op, place: Place, trees: &[Expr]) -> Result<SetForm, Stop>
+        ensures { GivesForm (form_node self.now place op.now trees.now) result }
     {
         match op {
-            Op::IntSet => Ok(FormOutcome::Made(SetForm::AllInts)),
-            Op::NatSet => Ok(FormOutcome::Made(SetForm::AllNats)),
-            Op::StringSet => Ok(FormOutcome::Made(SetForm::AllTexts)),
+            Op::IntSet => Ok(SetForm::AllInts),
+            Op::NatSet => Ok(SetForm::AllNats),
+            Op::StringSet => Ok(SetForm::AllTexts),
             Op::SeqSet | Op::Powerset => self.one_form(op, place, trees),
             Op::FunSet => self.function_set(place, trees),
             Op::RecSet(names) => {
-                let all = self.forms(trees)?;
-                let fields = copy_texts(self.alloc(), names)?;
-                Ok(memberships::records_of(fields, all, place))
+                let forms = self.set_forms(place, trees)?;
+                Ok(SetForm::Records(copy_texts(self.alloc(), names)?, forms))
             }
             Op::Product => {
-                let all = self.forms(trees)?;
-                Ok(memberships::tuples_of(all, place))
+                let forms = self.set_forms(place, trees)?;
+                Ok(SetForm::Tuples(forms))
             }
             Op::Noted(_) => match trees {
                 [noted, ..] => self.form(noted),
-                [] => Ok(FormOutcome::Broken(Fault::IsWrong(place))),
+                [] => Err(Stop::Wrong(place)),
             },
-            _ => Ok(FormOutcome::Broken(Fault::IsWrong(place))),
+            _ => Err(Stop::Wrong(place)),
         }
     }
 
     // `Seq(F)` and `SUBSET F`.
     #[cycle(eval)]
-    fn one_form(&self, op: &Op, place: Place, trees: &[Expr]) -> Result<FormOutcome, AllocError>
-        ensures { IfOk result (λ f. formed_of f ≡ one_form op.now place (forms_in self.now trees.now)) }
+    fn one_form(&self, op: &Op, place: Place, trees: &[Expr]) -> Result<SetForm, Stop>
+        ensures { GivesForm (form_of_one place (one_form op.now) (forms_in self.now trees.now)) result }
     {
         match trees {
             [only] => {
-                let inner = self.form(only)?;
-                match op {
-                    Op::SeqSet => memberships::sequences_of(self.alloc(), inner, place),
-                    Op::Powerset => memberships::subsets_of(self.alloc(), inner, place),
-                    _ => Ok(FormOutcome::Broken(Fault::IsWrong(place))),
-                }
+                let part = self.form(only)?;
+                one_form(self.alloc(), op, part, place)
             }
-            _ => Ok(FormOutcome::Broken(Fault::IsWrong(place))),
+            _ => Err(Stop::Wrong(place)),
         }
     }
 
     // `[S -> F]`: the set S, and the form F.
     #[cycle(eval)]
-    fn function_set(&self, place: Place, trees: &[Expr]) -> Result<FormOutcome, AllocError>
-        ensures { IfOk result (λ f. formed_of f ≡ function_form place (outcomes_in self.now trees.now) (forms_in self.now trees.now)) }
+    fn function_set(&self, place: Place, trees: &[Expr]) -> Result<SetForm, Stop>
+        ensures { GivesForm (function_form place (outcomes_in self.now trees.now) (forms_in self.now trees.now)) result }
     {
         match trees {
-            [domain, ..] => {
-                let outcome = told(self.value(domain))?;
-                let results = after(trees, 1);
-                let all = self.forms(results)?;
-                memberships::function_form(self.alloc(), place, outcome, all, results.len())
+            [first, ..] => {
+                let value = self.value(first);
+                let results = self.forms(after(trees, 1));
+                let (domain, forms) = both(value, results)?;
+                functions_from(self.alloc(), domain, forms, place)
             }
-            [] => Ok(FormOutcome::Broken(Fault::IsWrong(place))),
+            [] => Err(Stop::Wrong(place)),
         }
     }
 
-    // All forms, joined.
+    // Forms that are each to be a set form.
     #[cycle(eval)]
-    fn forms(&self, trees: &[Expr]) -> Result<JoinedForms, AllocError>
-        ensures fault { IfOk result (λ j. j.fault ≡ form_faults (forms_in self.now trees.now)) }
-        ensures forms { IfOk result (λ j. j.forms.items ≡ made (forms_in self.now trees.now)) }
+    fn set_forms(&self, place: Place, trees: &[Expr]) -> Result<List<SetForm>, Stop>
+        ensures { GivesSetForms place (forms_in self.now trees.now) result }
     {
-        let mut all = memberships::nothing(self.alloc());
-        for e in trees {
-            let one = self.form(e)?;
-            join_form(&mut all, one)?;
+        let forms = self.forms(trees)?;
+        if all_set_forms(forms.as_slice()) {
+            Ok(forms)
+        } else {
+            Err(Stop::Wrong(place))
         }
-        Ok(all)
     }
-}
 
-// What the indexes of all updates come to: the join of their faults, and of each update the number of its indexes
-// with their values.
-#[derive(Drop)]
-struct JoinedPaths {
-    fault: Fault,
-    paths: Vec<(usize, List<Value>)>,
+    // All forms, or the join of their faults.
+    #[cycle(eval)]
+    fn forms(&self, trees: &[Expr]) -> Result<List<SetForm>, Stop>
+        ensures { GivesForms (forms_in self.now trees.now) result }
+    {
+        let mut all = nothing(self.alloc());
+        for e in trees {
+            let one = self.form(e);
+            join(&mut all, one)?;
+        }
+        all_of(all)
+    }
 }
 
 fn one_value(alloc: Global, v: &Value) -> Result<Vec<Value>, AllocError>

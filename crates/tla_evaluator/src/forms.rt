@@ -117,12 +117,7 @@ fn is_text(v: &Value) -> bool
 fn is_among(v: &Value, items: &[Value]) -> bool
     ensures { result ≡ member v.now items.now }
 {
-    for item in items {
-        if same_value(v, item) {
-            return true;
-        }
-    }
-    false
+    items.iter().any(|item| same_value(v, item))
 }
 
 fn is_argument(a: &Value, pairs: &[(Value, Value)]) -> bool

@@ -9,14 +9,8 @@ ghost use Rattle.tla_evaluator.specs.inner.Gives.{Gives};
 use crate::functions::single;
 use crate::operands::Row;
 use crate::stops::Stop;
-use tla_meaning::{Op, Outcome};
+use tla_meaning::Op;
 use tla_values::{Value, same_value};
-
-pub(crate) fn yes_no(b: bool) -> Outcome
-    ensures { result ≡ Outcome.Val (Value.Bool b) }
-{
-    Outcome::Val(Value::Bool(b))
-}
 
 impl Row<'_> {
     // `~a`.

@@ -1,10 +1,10 @@
 // What keeps an evaluation from a value, and the answer of a public call.
-ghost use Rattle.std.specs.Prelude.{◌≡◌, IfOk};
+ghost use Rattle.std.specs.Prelude.{◌≡◌, IfOk, alloc_error};
 ghost use Rattle.tla_meaning.specs.declared.outcome.Outcome.{Outcome as Given};
 ghost use Rattle.tla_evaluator.specs.declared.stops.Stop.TheVariants.{Memory};
 ghost use Rattle.tla_evaluator.specs.inner.Gives.{Gives};
 
-use std::alloc::AllocError;
+use std::alloc::{AllocError, AllocFailed};
 use tla_meaning::{Outcome, Place};
 use tla_values::Value;
 
@@ -21,6 +21,14 @@ impl From<AllocError> for Stop {
 
     fn from(e: AllocError) -> Stop {
         Stop::Memory(e)
+    }
+}
+
+impl<T: Drop> From<AllocFailed<T>> for Stop {
+    ghost from_gives = { λ _ s. s ≡ Memory alloc_error };
+
+    fn from(e: AllocFailed<T>) -> Stop {
+        Stop::Memory(AllocError::from(e))
     }
 }
 

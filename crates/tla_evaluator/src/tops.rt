@@ -11,7 +11,7 @@ ghost use Rattle.tla_meaning.specs.Outcomes.{IsNormalOutcome};
 ghost use Rattle.tla_evaluator.specs.Trees.{AreNormal, is_expanded, value_at};
 
 use crate::context::{Context, names_of};
-use crate::outcomes::{fault_or, join_faults};
+use crate::outcomes::join_faults;
 use crate::stops::told;
 use std::alloc::{AllocError, Global};
 use tla_meaning::{Assignable, Decl, Effect, Env, Expr, Fault, Job, Op, Outcome, State};
@@ -21,7 +21,11 @@ use tla_values::{Text, Value};
 fn outcome_of(f: Effect) -> Outcome
     ensures { result ≡ outcome_of f }
 {
-    fault_or(f.fault, Outcome::Val(Value::Bool(f.holds)))
+    match f.fault {
+        Fault::NoFault => Outcome::Val(Value::Bool(f.holds)),
+        Fault::IsWrong(p) => Outcome::Wrong(p),
+        Fault::IsBig(p) => Outcome::Big(p),
+    }
 }
 
 /// What an expression gives in a state, with a next state for its primed names (Specifying Systems, chapter 16): its

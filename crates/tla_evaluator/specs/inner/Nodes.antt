@@ -12,7 +12,7 @@ use Rattle.tla_meaning.specs.declared.place.Place.{Place}
 use Rattle.tla_meaning.specs.declared.forms.SetForm.{SetForm}
 use Rattle.tla_meaning.specs.declared.forms.SetForm.TheVariants as form
 use Rattle.tla_meaning.specs.declared.outcome.Fault.TheVariants.{IsWrong}
-use Rattle.tla_meaning.specs.Forms.{Broken, Formed, Made, belongs}
+use Rattle.tla_meaning.specs.Forms.{Broken, Formed, Made, belongs, is_set_form}
 use Rattle.tla_meaning.specs.Meaning.{Update, all_in, bound_table, case_chosen, conjoined, disjoined, first_updated, fold_over, form_of_all, form_of_one, function_form, if_chosen, implied, in_form, read}
 use Rattle.tla_meaning.specs.Operators.{on_all_sets, table, yes_no}
 use Rattle.tla_meaning.specs.Outcomes.{strict, values}
@@ -74,6 +74,10 @@ membership_test op.In p v f = yes_no (belongs f v)
 membership_test op.NotIn p v f = yes_no (not (belongs f v))
 membership_test op.SubsetEq p v f = all_in p v f
 membership_test o p v f = Wrong p
+
+-- where the form is a set form
+abbrev pub tested : Op → Place → Value → SetForm → Outcome
+tested o p v f = if is_set_form f then membership_test o p v f else Wrong p
 
 abbrev pub is_membership : Op → Bool
 is_membership op.In = true
@@ -156,19 +160,18 @@ node_in r p op.Boxed xs es = Wrong p
 node_in r p op.Angled xs es = Wrong p
 node_in r p o xs es = strict (outcomes_in r es) (table (Some r.width) p o)
 
--- `Seq(F)` and `SUBSET F`
-abbrev pub one_form : Op → Place → List Formed → Formed
-one_form op.SeqSet p fs = form_of_one p form.Sequences fs
-one_form op.Powerset p fs = form_of_one p form.Subsets fs
-one_form o p fs = Broken (IsWrong p)
+-- `Seq(F)`, and else `SUBSET F`
+abbrev pub one_form : Op → SetForm → SetForm
+one_form op.SeqSet f = form.Sequences f
+one_form o f = form.Subsets f
 
 -- the form of a node that has one, by its operator
 abbrev pub form_node : Reading → Place → Op → List Expr → Formed
 form_node r p op.IntSet es = Made form.AllInts
 form_node r p op.NatSet es = Made form.AllNats
 form_node r p op.StringSet es = Made form.AllTexts
-form_node r p op.SeqSet es = one_form op.SeqSet p (forms_in r es)
-form_node r p op.Powerset es = one_form op.Powerset p (forms_in r es)
+form_node r p op.SeqSet es = form_of_one p (one_form op.SeqSet) (forms_in r es)
+form_node r p op.Powerset es = form_of_one p (one_form op.Powerset) (forms_in r es)
 form_node r p op.FunSet es = function_form p (outcomes_in r es) (forms_in r es)
 form_node r p (op.RecSet names) es = form_of_all p (form.Records names) (forms_in r es)
 form_node r p op.Product es = form_of_all p form.Tuples (forms_in r es)

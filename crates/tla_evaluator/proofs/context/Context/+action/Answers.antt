@@ -1,4 +1,4 @@
-use Rattle.std.proofs.Common.{arith, true, false, ◌≡◌, ℕ, Bool, ◌<◌, ◌≤◌, List, get_or, length, option_map, ap, ap₂, refl, sym, ◌∙◌}
+use Rattle.std.proofs.Common.{arith, true, false, ◌≡◌, ℕ, Bool, ◌<◌, ◌≤◌, List, get_or, length, option_map, take, Err, ap, ap₂, refl, sym, ◌∙◌}
 use Rattle.std.specs.List.{All, list_any}
 use Rattle.std.proofs.lemmas.List.Elements.{All-same}
 use Rattle.tla_values.specs.Sets.{Normal}
@@ -11,9 +11,13 @@ use Rattle.tla_meaning.specs.Operators.{yes_no}
 use Rattle.tla_meaning.specs.declared.actions.Assignable.{Assignable}
 use Rattle.tla_evaluator.specs.inner.Effects.{exists_in, first_effect}
 use Rattle.tla_evaluator.specs.inner.Mentions.{mentions}
-use Rattle.tla_evaluator.specs.inner.Readings.{effect_in, effects_in, outcomes_in}
-use Rattle.tla_evaluator.proofs.ActionNodes.{is_now, at_value, at_and, at_or, at_or_value, at_if, at_if_value, at_case, at_case_value, at_exists, at_noted, and_next, or_next, bodies_next, case_false, case_fault, case_true, if_fault, if_taken, exists_body, exists_fault, first_some, first_none, no_deeper}
-use Rattle.tla_evaluator.proofs.NormalBinds.{choices_are_normal}
+use Rattle.tla_evaluator.specs.inner.Readings.{effect_in, effects_in, outcomes_in, value_in}
+use Rattle.tla_evaluator.proofs.ActionNodes.{is_now, at_value, at_and, at_or, at_or_value, at_if, at_if_value, at_case, at_case_value, at_exists, at_noted, and_next, or_next, bodies_next, case_false, case_fault, case_true, if_fault, if_taken, choice_fails, domains_fail, exists_body, first_some, first_none, no_deeper}
+use Rattle.std.proofs.lemmas.Result.{IfOk-weaker}
+use Rattle.tla_meaning.specs.Outcomes.{joined, values}
+use Rattle.tla_evaluator.specs.inner.Gives.{FailsBy}
+use Rattle.tla_evaluator.proofs.ListSteps.{members_normal}
+use Rattle.tla_evaluator.proofs.StopLemmas.{gives_all_as}
 use Rattle.tla_evaluator.proofs.context.Context.+action.Goals as goal
 use Rattle.tla_evaluator.proofs.context.Context.+action.Goals.{action-in_default-via-in-Or+else-any_mentions, action-in_default-via-in-If+else-any_mentions-2, action-in_default-via-in-Case+else-any_mentions-3, action-in_default-via-in_default}
 
@@ -35,44 +39,39 @@ pub case_effect-loop-i-preserved : goal.case_effect-loop-i-preserved
 case_effect-loop-i-preserved t c = record {
   within = omega arith;
   same =
-      case_false _ _ c.args.place _ _ _ c.args.args.now _ _ _ _ _ c.loop-i-test.true c.index-args-i.is (c.in_ok-outcome.ensures _ c.value.ensures)
+      case_false _ _ c.args.place _ _ _ c.args.args.now _ _ _ _ _ c.loop-i-test.true c.index-args-i.is refl
       c.in-Ok-false.ensures c.in-Ok-false.field-0-test c.loop-i.invariant.same;
 }
 
 pub case_effect-returns-in-Err : goal.case_effect-returns-in-Err
 case_effect-returns-in-Err t c =
-    c.effect_of.ensures
-    ∙ case_fault _ _ c.args.place _ _ _ c.args.args.now _ _ _ _ _ c.loop-i-test.true c.index-args-i.is (c.in_ok-outcome.ensures _ c.value.ensures)
-    c.in-Err.ensures c.loop-i.invariant.same
+    let r = c.args.self.now in
+    IfOk-weaker c.stopped.result (FailsBy _) _ (λ f k.
+    let z = choice_fails _ c.args.place (value_in r c.index-args-i.result) c.in-Err.ensures f k in
+    z.2 ∙ case_fault r.width c.args.assigned c.args.place r.bound r.state r.next c.args.args.now c.loop-i.i _ _ z.0 _ c.loop-i-test.true c.index-args-i.is refl z.1 c.loop-i.invariant.same)
+    c.stopped.ensures
 
 pub if_effect-returns-in-Err : goal.if_effect-returns-in-Err
 if_effect-returns-in-Err t c =
-    c.effect_of.ensures
-    ∙ if_fault _ _ c.args.place _ _ _ c.args.args.now _ _ _ c.in-len3.len_at_least c.in-len3.len_below c.guard-item.is
-    (c.in_ok-outcome-in-len3.ensures _ c.value.ensures) c.in-Err.ensures
-
-pub exists_effect-returns-then-is_fault : goal.exists_effect-returns-then-is_fault
-exists_effect-returns-then-is_fault t c =
-    c.fails_by.ensures
-    ∙ exists_fault _ _ c.args.site.place c.args.site.names.now c.args.args.now _ _ _ _ _ c.front.ensures c.in_ok-domains.ensures.fault (c.is_fault.ensures.yes c.if-is_fault.true)
+    let r = c.args.self.now in
+    IfOk-weaker c.stopped.result (FailsBy _) _ (λ f k.
+    let z = choice_fails _ c.args.place (value_in r c.guard-item.result) c.in-Err.ensures f k in
+    z.2 ∙ if_fault r.width c.args.assigned c.args.place r.bound r.state r.next c.args.args.now _ _ z.0 c.in-len3.len_at_least c.in-len3.len_below c.guard-item.is refl z.1)
+    c.stopped.ensures
 
 pub exists_effect-body_effects-requires : goal.exists_effect-body_effects-requires
 exists_effect-body_effects-requires t c =
     let deep : size-Expr c.body-item.result ≤ most size-Expr c.args.args.now =
     no_deeper size-Expr (length c.args.site.names.now) c.args.args.now c.after.result.now c.body-item.result c.after.ensures c.in-len1-up.len_at_least c.body-item.is in
-    let sets : All Normal c.as_slice.result.now = All-same Normal _ _ c.as_slice.ensures.value c.in_ok-domains.ensures.normal in
-    let chosen : All (λ d. All Normal d) c.in-Some.choices.items =
-    choices_are_normal _ _ sets (c.in_ok-choices.ensures ∙ ap (option_map (λ v. v.items)) c.in-Some.is) in
-    let normal : All (λ d. All Normal d) c.as_slice-in-len1-up.result.now = All-same (λ d. All Normal d) _ _ c.as_slice-in-len1-up.ensures.value chosen in
+    let normal = members_normal _ _ _ _ c.as_slice.ensures c.as_slice-in-len1-up.ensures.value c.in-Ok.ensures.normal (c.in_ok-choices-in-Ok.ensures ∙ ap (option_map (λ v. v.items)) c.in-Some.is) in
     (omega arith, normal)
 
 pub exists_effect-returns-in-len1-up : goal.exists_effect-returns-in-len1-up
 exists_effect-returns-in-len1-up t c =
-    let none : c.in_ok-domains.domains.fault ≡ NoFault = c.is_fault.ensures.no c.if-is_fault.false in
     is_now c.body_effects.result _ _
-    (exists_body _ _ c.args.site.place _ _ _ _ _ _ _ c.in_ok-domains.domains.fault c.in_ok-domains.domains.values.items c.as_slice.result.now c.in-Some.choices.items c.as_slice-in-len1-up.result.now _
-    c.front.ensures c.after.ensures c.in_ok-domains.ensures.fault none c.in_ok-domains.ensures.values c.as_slice.ensures.value
-    (c.in_ok-choices.ensures ∙ ap (option_map (λ v. v.items)) c.in-Some.is) c.as_slice-in-len1-up.ensures.value c.in-len1-up.len_at_least c.body-item.is)
+    (exists_body _ _ c.args.site.place _ _ _ _ _ _ _ NoFault c.in-Ok.domains c.as_slice.result.now c.in-Some.choices.items c.as_slice-in-len1-up.result.now _
+    c.front.ensures c.after.ensures (sym c.in-Ok.ensures.values.0) refl (sym c.in-Ok.ensures.values.1) c.as_slice.ensures
+    (c.in_ok-choices-in-Ok.ensures ∙ ap (option_map (λ v. v.items)) c.in-Some.is) c.as_slice-in-len1-up.ensures.value c.in-len1-up.len_at_least c.body-item.is)
     c.body_effects.ensures
 
 pub body_effects-loop-choice-preserved : goal.body_effects-loop-choice-preserved
@@ -158,7 +157,7 @@ case_effect-returns-in-Ok-true t c =
     let r = c.args.self.now in
     is_now c.action.result _ _
     (case_true r.width c.args.assigned c.args.place r.bound r.state r.next c.args.args.now c.loop-i.i _ _ _ _ _ c.loop-i-test.true c.index-args-i.is c.index-args-i-in-Ok-true.is
-    (c.in_ok-outcome.ensures _ c.value.ensures) c.in-Ok-true.ensures c.in-Ok-true.field-0-test c.loop-i.invariant.same)
+    refl c.in-Ok-true.ensures c.in-Ok-true.field-0-test c.loop-i.invariant.same)
     c.action.ensures
 
 pub if_effect-returns-in-Ok-true : goal.if_effect-returns-in-Ok-true
@@ -166,7 +165,7 @@ if_effect-returns-in-Ok-true t c =
     let r = c.args.self.now in
     is_now c.action.result _ _
     (if_taken r.width c.args.assigned c.args.place r.bound r.state r.next c.args.args.now _ c.yes-item.result c.no-item.result true c.in-len3.len_at_least c.in-len3.len_below c.guard-item.is c.yes-item.is c.no-item.is
-    (sym (c.in_ok-outcome-in-len3.ensures _ c.value.ensures) ∙ c.in-Ok-true.ensures ∙ ap yes_no c.in-Ok-true.field-0-test))
+    (c.in-Ok-true.ensures ∙ ap yes_no c.in-Ok-true.field-0-test))
     c.action.ensures
 
 pub if_effect-returns-in-Ok-false : goal.if_effect-returns-in-Ok-false
@@ -174,5 +173,5 @@ if_effect-returns-in-Ok-false t c =
     let r = c.args.self.now in
     is_now c.action-in-Ok-false.result _ _
     (if_taken r.width c.args.assigned c.args.place r.bound r.state r.next c.args.args.now _ c.yes-item.result c.no-item.result false c.in-len3.len_at_least c.in-len3.len_below c.guard-item.is c.yes-item.is c.no-item.is
-    (sym (c.in_ok-outcome-in-len3.ensures _ c.value.ensures) ∙ c.in-Ok-false.ensures ∙ ap yes_no c.in-Ok-false.field-0-test))
+    (c.in-Ok-false.ensures ∙ ap yes_no c.in-Ok-false.field-0-test))
     c.action-in-Ok-false.ensures

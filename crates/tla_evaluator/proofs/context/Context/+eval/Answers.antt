@@ -1,4 +1,4 @@
-use Rattle.std.proofs.Common.{◌≡◌, ℕ, ◌+◌, ◌≤◌, ◌∙◌, ◌++◌, ◌∷◌, [], ap, arith, drop, get_or, refl, rules, subst, sym, Some, Err}
+use Rattle.std.proofs.Common.{◌≡◌, ℕ, ◌+◌, ◌≤◌, ◌∙◌, ◌++◌, ◌∷◌, [], List, true, false, ap, arith, drop, get_or, refl, rules, subst, sym, Some, Err}
 use Rattle.std.proofs.lemmas.Grind.{common_steps}
 use Rattle.std.proofs.lemmas.Result.{err_from_is_err_and}
 use Rattle.std.specs.Prelude.{option_map}
@@ -7,24 +7,23 @@ use denote.Param.Weighed.{most}
 use Rattle.tla_values.specs.Sets.{Normal}
 use Rattle.tla_values.specs.declared.value.Value.{Value}
 use Rattle.tla_meaning.specs.declared.expr.Expr.{Expr, out-Expr, size-Expr}
-use Rattle.tla_meaning.specs.declared.forms.SetForm.TheVariants.{Records}
+use Rattle.tla_meaning.specs.declared.forms.SetForm.TheVariants.{Records, Tuples}
 use Rattle.tla_meaning.specs.declared.outcome.Outcome.{Outcome}
 use Rattle.tla_meaning.specs.declared.outcome.Outcome.TheVariants.{Val}
-use Rattle.tla_meaning.specs.Forms.{form_faults, made, results}
-use Rattle.tla_meaning.specs.Meaning.{fold_over, folded, form_of_all, function_form, in_form, plain, updated}
+use Rattle.tla_meaning.specs.Forms.{Made, all_set_forms, results}
+use Rattle.tla_meaning.specs.Meaning.{fold_over, folded, form_of_one, in_form, plain, updated}
 use Rattle.tla_meaning.specs.Operators.{yes_no}
-use Rattle.tla_meaning.specs.Outcomes.{join_faults, joined, values}
+use Rattle.tla_meaning.specs.Outcomes.{join_faults, joined, strict, values}
 use Rattle.tla_meaning.specs.Scopes.{bound_to}
-use Rattle.tla_evaluator.specs.inner.SetRules.{formed_of}
-use Rattle.tla_evaluator.specs.inner.Nodes.{form_node, index_trees, membership_test, node_in, paths_in, update_in, updates_in}
+use Rattle.tla_evaluator.specs.inner.Nodes.{form_node, index_trees, one_form, membership_test, node_in, paths_in, update_in, updates_in}
 use Rattle.tla_evaluator.specs.inner.Readings.{first_in, form_in, forms_in, outcomes_in, value_in, with_names}
-use Rattle.tla_evaluator.proofs.EvalSteps.{case_goes, fault_next, same_item, values_done, values_next}
-use Rattle.tla_evaluator.proofs.FormLoops.{form_fault_next, form_via, forms_count, forms_next, function_ok, function_parts, if_case}
+use Rattle.tla_evaluator.proofs.EvalSteps.{case_goes, fault_done, fault_next, same_item, values_done, values_next}
+use Rattle.tla_evaluator.proofs.FormLoops.{form_fault_next, forms_next, function_parts, if_case}
 use Rattle.tla_evaluator.proofs.FormNodes.{form_is_node, plain_is}
 use Rattle.tla_evaluator.proofs.ListSteps.{first_normal, folded_next, further_no_deeper, index_fault_next, item_normal, members_normal, one_is_normal, one_normal, operands_normal, paths_next, reached_normal, results_normal, two_are_normal, updated_at, updated_next, updated_stops}
 use Rattle.tla_evaluator.proofs.NodeLemmas.{node_is}
 use Rattle.tla_evaluator.proofs.NormalBinds.{bound_are_normal}
-use Rattle.tla_evaluator.proofs.StopLemmas.{case_stops, conclusion_is, conclusion_stops, except_goes, except_stops, gives_as, junction_stops, premise_fails, premise_stops, strict_goes, two_items}
+use Rattle.tla_evaluator.proofs.StopLemmas.{case_stops, conclusion_is, conclusion_stops, except_goes, except_stops, form_gives_as, functions_go, functions_stop, given_normal, gives_all_as, gives_as, joins_form, joins_value, junction_stops, membership_goes, one_form_stops, only_item, plain_stops, premise_fails, premise_stops, set_forms_are, set_forms_stop, strict_goes, two_items}
 use Rattle.tla_evaluator.proofs.TreeSizes.{most-drop, most-take}
 use Rattle.tla_evaluator.proofs.context.Context.+eval.Goals as goal
 
@@ -68,73 +67,31 @@ pub implication-returns-in_ok-conclusion-in-len2 : goal.implication-returns-in_o
 implication-returns-in_ok-conclusion-in-len2 t c =
     conclusion_is (value_in c.args.self.now) c.args.place c.args.trees.now _ _ (two_items _ _ _ c.in-len2.len_at_least c.in-len2.len_below c.left-item.is c.right-item.is) _ _ c.in_ok-premise-in-len2.ensures c.if-not-premise.false c.in_ok-conclusion-in-len2.ensures
 
-pub membership-returns-in_ok-set-in-len2 : goal.membership-returns-in_ok-set-in-len2
-membership-returns-in_ok-set-in-len2 t c =
-    let r = c.args.self.now in
-    let test = membership_test c.args.op.now c.args.place in
-    gives_as c.stopped.result
-    (c.tested.ensures (value_in r c.right-item.result ∷ []) (form_in r c.left-item.result)
-    ∙ ap (λ o. in_form c.args.place test (o ∷ value_in r c.right-item.result ∷ []) (form_in r c.left-item.result ∷ formed_of c.in_ok-set-in-len2.set ∷ [])) (c.in_ok-outcome-in-len2.ensures _ c.value.ensures)
-    ∙ ap (λ f. in_form c.args.place test (value_in r c.left-item.result ∷ value_in r c.right-item.result ∷ []) (form_in r c.left-item.result ∷ f ∷ [])) c.in_ok-set-in-len2.ensures
-    ∙ ap (λ es. in_form c.args.place test (outcomes_in r es) (forms_in r es)) (sym (two_items _ _ _ c.in-len2.len_at_least c.in-len2.len_below c.left-item.is c.right-item.is)))
-    c.stopped.ensures
-
 pub joined-loop-e-preserved : goal.joined-loop-e-preserved
 joined-loop-e-preserved t c =
-    let is = c.in_ok-outcome.ensures _ c.value.ensures in
+    let z = joins_value _ _ _ _ _ _ c.value-one.ensures c.in_ok-join.ensures in
     record {
-      fault = fault_next (value_in c.args.self.now) _ _ _ _ _ _ c.loop-e-test.true c.e-item.is is c.in_ok-join.ensures.fault c.loop-e.invariant.fault;
-      values = values_next (value_in c.args.self.now) _ _ _ _ _ _ c.loop-e-test.true c.e-item.is is c.in_ok-join.ensures.values c.loop-e.invariant.values;
+      fault = fault_next (value_in c.args.self.now) _ _ _ _ _ _ c.loop-e-test.true c.e-item.is refl z.0 c.loop-e.invariant.fault;
+      values = values_next (value_in c.args.self.now) _ _ _ _ _ _ c.loop-e-test.true c.e-item.is refl z.1 c.loop-e.invariant.values;
     }
 
-pub joined-returns-clause-normal : goal.joined-returns-clause-normal
-joined-returns-clause-normal t c =
-    operands_normal c.args.self.now.width c.args.self.now.bound c.args.self.now.state c.args.self.now.next c.is_readable.ensures.normal c.args.trees.now _
-    (values_done (value_in c.args.self.now) _ _ _ (omega (arith, c.loop-e-test.false)) c.loop-e.invariant.values)
-
 pub strict-row_of-requires-clause-normal : goal.strict-row_of-requires-clause-normal
-strict-row_of-requires-clause-normal t c = subst (All Normal) (c.in_ok-operands.ensures.1 ∙ sym c.into_vec.ensures) c.in_ok-all.ensures.normal
-
-pub binder-joined-requires : goal.binder-joined-requires
-binder-joined-requires t c = (grind (arith, most-take, common_steps), tt)
+strict-row_of-requires-clause-normal t c = subst (All Normal) (sym c.into_vec.ensures) c.in_ok-operands.ensures.normal
 
 pub binder-bodies-requires : goal.binder-bodies-requires
 binder-bodies-requires t c =
-    let some = members_normal _ _ _ _ (c.as_slice.ensures ∙ sym c.in_ok-sets.ensures.1) c.as_slice-in-Some.ensures.value c.in_ok-domains.ensures.normal
+    let some = members_normal _ _ _ _ c.as_slice.ensures c.as_slice-in-Some.ensures.value c.in_ok-sets.ensures.normal
     (c.in_ok-choices.ensures ∙ ap (option_map (λ v. v.items)) c.in-Some.is) in
     (grind (arith, most-drop, common_steps), some)
 
 pub bodies-loop-choice-preserved : goal.bodies-loop-choice-preserved
 bodies-loop-choice-preserved t c =
-    let at = c.in_ok-outcome.ensures _ c.under.ensures ∙ ap (λ d. first_in (with_names c.args.self.now c.args.site.names.now d) c.args.site.place c.args.trees.now) c.as_slice.ensures in
+    let body = λ (d : List Value). first_in (with_names c.args.self.now c.args.site.names.now d) c.args.site.place c.args.trees.now in
+    let z = joins_value _ _ _ _ _ _ c.under-one.ensures c.in_ok-join.ensures in
     record {
-      fault = fault_next (λ d. first_in (with_names c.args.self.now c.args.site.names.now d) c.args.site.place c.args.trees.now) _ _ _ _ _ _ c.loop-choice-test.true c.choice-item.is at c.in_ok-join.ensures.fault c.loop-choice.invariant.fault;
-      values = values_next (λ d. first_in (with_names c.args.self.now c.args.site.names.now d) c.args.site.place c.args.trees.now) _ _ _ _ _ _ c.loop-choice-test.true c.choice-item.is at c.in_ok-join.ensures.values c.loop-choice.invariant.values;
+      fault = fault_next body _ _ _ _ _ _ c.loop-choice-test.true c.choice-item.is (ap body c.as_slice.ensures) z.0 c.loop-choice.invariant.fault;
+      values = values_next body _ _ _ _ _ _ c.loop-choice-test.true c.choice-item.is (ap body c.as_slice.ensures) z.1 c.loop-choice.invariant.values;
     }
-
-pub except-indexes-requires : goal.except-indexes-requires
-except-indexes-requires t c = (grind (arith, most-drop, common_steps), tt)
-
-pub except-returns-in_err-start-in-len1-up : goal.except-returns-in_err-start-in-len1-up
-except-returns-in_err-start-in-len1-up t c =
-    let p = err_from_is_err_and c.from_residual-in_err-start-in-len1-up.result c.from_residual-in_err-start-in-len1-up.ensures.1 in
-    rw (p.1, p.2) (except_stops c.args.self.now c.args.site.place c.args.counts.now c.args.site.names.now c.args.args.now c.after-rest.result.now c.function-item.result c.in-len1-up.len_at_least c.function-item.is c.after-rest.ensures
-    _ _ _ _ (c.in_ok-outcome-in-len1-up.ensures _ c.value.ensures) c.fault_of.ensures c.in_ok-found-in-len1-up.ensures.fault c.join_faults-fault.ensures _ c.in_err-start-in-len1-up.ensures)
-
-pub except-updated-requires : goal.except-updated-requires
-except-updated-requires t c =
-    let r = c.args.self.now in
-    let found = except_goes c.args.self.now c.args.site.place c.args.counts.now c.args.site.names.now c.args.args.now c.after-rest.result.now c.function-item.result c.in-len1-up.len_at_least c.function-item.is c.after-rest.ensures
-    _ _ _ _ (c.in_ok-outcome-in-len1-up.ensures _ c.value.ensures) c.fault_of.ensures c.in_ok-found-in-len1-up.ensures.fault c.join_faults-fault.ensures
-    c.in_ok-start-in-len1-up.start _ refl c.in_ok-start-in-len1-up.ensures in
-    (grind (arith, most-drop, common_steps), one_normal r.width r.bound r.state r.next c.is_readable.ensures.normal c.function-item.result c.in_ok-start-in-len1-up.start (sym found.0))
-
-pub except-returns-in_ok-start-in-len1-up : goal.except-returns-in_ok-start-in-len1-up
-except-returns-in_ok-start-in-len1-up t c =
-    let found = except_goes c.args.self.now c.args.site.place c.args.counts.now c.args.site.names.now c.args.args.now c.after-rest.result.now c.function-item.result c.in-len1-up.len_at_least c.function-item.is c.after-rest.ensures
-    _ _ _ _ (c.in_ok-outcome-in-len1-up.ensures _ c.value.ensures) c.fault_of.ensures c.in_ok-found-in-len1-up.ensures.fault c.join_faults-fault.ensures
-    c.in_ok-start-in-len1-up.start c.as_slice.result.now (c.as_slice.ensures.value ∙ c.in_ok-found-in-len1-up.ensures.paths) c.in_ok-start-in-len1-up.ensures in
-    gives_as c.updated.result found.1 c.updated.ensures
 
 pub indexes-joined-requires : goal.indexes-joined-requires
 indexes-joined-requires t c =
@@ -192,22 +149,6 @@ update-returns-in_ok-changed-in-At t c =
           ∙ updated_at c.args.site.place (update_in r c.args.site.place c.args.site.names.now c.args.path.now c.args.sides.now) us c.args.function c.in-At.old.now c.in_ok-new-in-At.new c.in-At.ensures is,
     )
 
-pub fold-folded-requires : goal.fold-folded-requires
-fold-folded-requires t c =
-    let ok = c.in-Some.ensures.normal (subst (All Normal) (c.in_ok-operands.ensures.1 ∙ sym c.into_vec.ensures) c.in_ok-all.ensures.normal) in
-    (grind (arith, common_steps), (ok.0, results_normal _ _ c.as_slice.ensures ok.1))
-
-pub fold-returns-in-Some : goal.fold-returns-in-Some
-fold-returns-in-Some t c =
-    let r = c.args.self.now in
-    let body : Value → Value → Outcome = λ a b. first_in (with_names r c.args.site.names.now (a ∷ b ∷ [])) c.args.site.place c.args.args.now in
-    let fault = c.in_ok-all.ensures.fault ∙ ap (λ z. joined (outcomes_in r z)) c.after.ensures in
-    let read = c.in_ok-all.ensures.values ∙ ap (λ z. values (outcomes_in r z)) c.after.ensures in
-    gives_as c.folded.result
-    (ap (λ z. folded body (results z) c.in-Some.start) c.as_slice.ensures ∙ sym (c.in-Some.ensures.some c.args.site.place body) ∙ ap (fold_over c.args.site.place body) c.into_vec.ensures
-    ∙ strict_goes c.in_ok-operands.operands (outcomes_in r (drop 1 c.args.args.now)) (fold_over c.args.site.place body) (sym fault ∙ c.in_ok-operands.ensures.0, sym read ∙ c.in_ok-operands.ensures.1))
-    c.folded.ensures
-
 pub folded-under-requires : goal.folded-under-requires
 folded-under-requires t c =
     let some = two_are_normal _ _ _ _ c.as_slice.ensures.value c.in_ok-pair.ensures c.loop-item.invariant.normal
@@ -226,39 +167,6 @@ folded-loop-item-preserved t c =
       normal = first_normal r.width _ r.state r.next (bound_are_normal _ _ _ _ _ c.is_readable.ensures.normal some) c.args.site.place c.args.args.now c.in_ok-so_far.so_far is;
     }
 
-pub form-returns-then-has_form : goal.form-returns-then-has_form
-form-returns-then-has_form t c =
-    form_via _ (ap (form_node c.args.self.now (out-Expr c.args.e.now).place (out-Expr c.args.e.now).op) c.as_slice.ensures ∙ form_is_node c.args.self.now c.args.e.now (sym c.has_form.ensures ∙ c.if-has_form.true)) c.form_of.ensures
-
-pub form_of-returns-in_ok-fields-in-RecSet : goal.form_of-returns-in_ok-fields-in-RecSet
-form_of-returns-in_ok-fields-in-RecSet t c =
-    c.records_of.ensures (forms_in c.args.self.now c.args.trees.now) c.in_ok-all-in-RecSet.ensures.fault c.in_ok-all-in-RecSet.ensures.forms
-    ∙ ap (λ z. form_of_all c.args.place (Records z) (forms_in c.args.self.now c.args.trees.now)) c.in_ok-fields-in-RecSet.ensures
-    ∙ ap (λ o. form_node c.args.self.now c.args.place o c.args.trees.now) (sym c.in-RecSet.is)
-
-pub form_of-returns-in_ok-all-in-Product : goal.form_of-returns-in_ok-all-in-Product
-form_of-returns-in_ok-all-in-Product t c =
-    c.tuples_of.ensures (forms_in c.args.self.now c.args.trees.now) c.in_ok-all-in-Product.ensures.fault c.in_ok-all-in-Product.ensures.forms
-    ∙ ap (λ o. form_node c.args.self.now c.args.place o c.args.trees.now) (sym c.in-Product.is)
-
-pub function_set-returns-in_ok-all-in-len1-up : goal.function_set-returns-in_ok-all-in-len1-up
-function_set-returns-in_ok-all-in-len1-up t c =
-    let r = c.args.self.now in
-    let os = outcomes_in r (drop 1 c.args.trees.now) in
-    let d = form_in r c.domain-item.result in
-    form_via _ (ap (λ z. function_form c.args.place (c.in_ok-outcome-in-len1-up.outcome ∷ os) (d ∷ forms_in r z)) c.after-results.ensures
-    ∙ ap (λ o. function_form c.args.place (o ∷ os) (d ∷ forms_in r (drop 1 c.args.trees.now))) (c.in_ok-outcome-in-len1-up.ensures _ c.value.ensures)
-    ∙ function_parts r.width r.bound r.state r.next c.args.place c.args.trees.now c.args.trees.now refl _ c.in-len1-up.len_at_least c.domain-item.is)
-    (function_ok c.function_form.result c.args.place _ _ _ _ c.function_form.ensures os d (forms_in r c.after-results.result.now)
-    c.in_ok-all-in-len1-up.ensures.fault c.in_ok-all-in-len1-up.ensures.forms (forms_count r.width c.after-results.result.now r.bound r.state r.next))
-
-pub forms-loop-e-preserved : goal.forms-loop-e-preserved
-forms-loop-e-preserved t c =
-    record {
-      fault = form_fault_next (form_in c.args.self.now) _ _ _ _ _ _ c.loop-e-test.true c.e-item.is c.in_ok-one.ensures c.in_ok-join_form.ensures.fault c.loop-e.invariant.fault;
-      forms = forms_next (form_in c.args.self.now) _ _ _ _ _ _ c.loop-e-test.true c.e-item.is c.in_ok-one.ensures c.in_ok-join_form.ensures.forms c.loop-e.invariant.forms;
-    }
-
 pub cases-loop-i-preserved : goal.cases-loop-i-preserved
 cases-loop-i-preserved t c =
     case_goes (value_in c.args.self.now) _ _ _ c.args.place _ (omega (arith, c.loop-i-test.true)) c.index-trees-i.is refl (c.in_ok-holds.ensures ∙ ap yes_no c.if-holds.false) c.loop-i.invariant
@@ -266,14 +174,122 @@ cases-loop-i-preserved t c =
 pub cases-first-requires : goal.cases-first-requires
 cases-first-requires t c = (grind (arith, most-drop, common_steps), tt)
 
-pub form-returns-in_ok-outcome : goal.form-returns-in_ok-outcome
-form-returns-in_ok-outcome t c =
-    let r = c.args.self.now in
-    c.plain.ensures ∙ ap plain (c.in_ok-outcome.ensures _ c.value.ensures) ∙ plain_is r.width c.args.e.now r.bound r.state r.next (sym c.has_form.ensures ∙ c.if-has_form.false)
-
 pub updated-returns-in_err-result : goal.updated-returns-in_err-result
 updated-returns-in_err-result t c =
     let r = c.args.self.now in
     let p = err_from_is_err_and c.from_residual.result c.from_residual.ensures.1 in
     rw (p.1, p.2) (updated_stops r.width c.args.site.place c.args.site.names.now r.bound r.state r.next c.args.paths.now c.loop-n.n-index c.loop-n-item.result c.loop-n.rest.now _ _ _ _ _
     c.loop-n-test.true c.loop-n-item.is c.as_slice.ensures c.after-sides.ensures c.in_err-result.ensures c.loop-n.invariant.same)
+
+pub operands-returns-clause-normal : goal.operands-returns-clause-normal
+operands-returns-clause-normal t c =
+    given_normal c.all_of.result _ _ c.all_of.ensures (operands_normal c.args.self.now.width c.args.self.now.bound c.args.self.now.state c.args.self.now.next c.is_readable.ensures.normal c.args.trees.now _ c.in_ok-all.ensures.values)
+
+pub binder-operands-requires : goal.binder-operands-requires
+binder-operands-requires t c = (grind (arith, most-take, common_steps), tt)
+
+pub bodies-returns : goal.bodies-returns
+bodies-returns t c =
+    let body = λ (d : List Value). first_in (with_names c.args.self.now c.args.site.names.now d) c.args.site.place c.args.trees.now in
+    gives_all_as c.all_of.result (fault_done body c.args.choices.now _ _ (omega (arith, c.loop-choice-test.false)) c.loop-choice.invariant.fault)
+    (values_done body c.args.choices.now _ _ (omega (arith, c.loop-choice-test.false)) c.loop-choice.invariant.values) c.all_of.ensures
+
+pub fold-folded-requires : goal.fold-folded-requires
+fold-folded-requires t c =
+    let ok = c.in-Some.ensures.normal (subst (All Normal) (sym c.into_vec.ensures) c.in_ok-operands.ensures.normal) in
+    (grind (arith, common_steps), (ok.0, results_normal _ _ c.as_slice.ensures ok.1))
+
+pub fold-returns-in-Some : goal.fold-returns-in-Some
+fold-returns-in-Some t c =
+    let r = c.args.self.now in
+    let body : Value → Value → Outcome = λ a b. first_in (with_names r c.args.site.names.now (a ∷ b ∷ [])) c.args.site.place c.args.args.now in
+    gives_as c.folded.result
+    (ap (λ z. folded body (results z) c.in-Some.start) c.as_slice.ensures ∙ sym (c.in-Some.ensures.some c.args.site.place body) ∙ ap (fold_over c.args.site.place body) c.into_vec.ensures
+    ∙ strict_goes c.in_ok-operands.operands (outcomes_in r c.after.result.now) (fold_over c.args.site.place body) c.in_ok-operands.ensures.values
+    ∙ ap (λ z. strict (outcomes_in r z) (fold_over c.args.site.place body)) c.after.ensures)
+    c.folded.ensures
+
+pub form-returns-then-has_form : goal.form-returns-then-has_form
+form-returns-then-has_form t c =
+    form_gives_as c.form_of.result (ap (form_node c.args.self.now (out-Expr c.args.e.now).place (out-Expr c.args.e.now).op) c.as_slice.ensures ∙ form_is_node c.args.self.now c.args.e.now (sym c.has_form.ensures ∙ c.if-has_form.true)) c.form_of.ensures
+
+pub forms-loop-e-preserved : goal.forms-loop-e-preserved
+forms-loop-e-preserved t c =
+    let z = joins_form _ _ _ _ _ _ c.form-one.ensures c.in_ok-join.ensures in
+    record {
+      fault = form_fault_next (form_in c.args.self.now) _ _ _ _ _ c.loop-e-test.true c.e-item.is z.0 c.loop-e.invariant.fault;
+      forms = λ none. forms_next (form_in c.args.self.now) _ _ _ _ _ c.loop-e-test.true c.e-item.is (z.1 none).1 (c.loop-e.invariant.forms (z.1 none).0);
+    }
+
+pub except-updated-requires : goal.except-updated-requires
+except-updated-requires t c =
+    let r = c.args.self.now in
+    let found = except_goes r c.args.site.place c.args.counts.now c.args.site.names.now c.args.args.now c.after-rest.result.now c.function-item.result c.in-len1-up.len_at_least c.function-item.is c.after-rest.ensures
+    c.value-value.result c.indexes-paths.result c.value-value.ensures c.indexes-paths.ensures (c.in_ok-start-in-len1-up.start, c.in_ok-start-in-len1-up.found) (sym c.in_ok-start-in-len1-up.ensures) in
+    (grind (arith, most-drop, common_steps), one_normal r.width r.bound r.state r.next c.is_readable.ensures.normal c.function-item.result c.in_ok-start-in-len1-up.start (sym found.0))
+
+pub form-returns-in_err-v : goal.form-returns-in_err-v
+form-returns-in_err-v t c =
+    let p = err_from_is_err_and c.from_residual.result c.from_residual.ensures.1 in
+    rw (p.1, p.2) (form_gives_as (Err _) (plain_is c.args.self.now.width c.args.e.now c.args.self.now.bound c.args.self.now.state c.args.self.now.next (sym c.has_form.ensures ∙ c.if-has_form.false)) (plain_stops _ _ c.in_err-v.ensures))
+
+pub form-returns-in_ok-v : goal.form-returns-in_ok-v
+form-returns-in_ok-v t c =
+    sym (plain_is c.args.self.now.width c.args.e.now c.args.self.now.bound c.args.self.now.state c.args.self.now.next (sym c.has_form.ensures ∙ c.if-has_form.false)) ∙ ap plain c.in_ok-v.ensures
+
+pub form_of-returns-in_err-forms-in-RecSet : goal.form_of-returns-in_err-forms-in-RecSet
+form_of-returns-in_err-forms-in-RecSet t c =
+    let p = err_from_is_err_and c.from_residual.result c.from_residual.ensures.1 in
+    rw (p.1, p.2) (form_gives_as (Err _) (ap (λ o. form_node c.args.self.now c.args.place o c.args.trees.now) (sym c.in-RecSet.is)) (c.in_err-forms-in-RecSet.ensures (Records _)))
+
+pub form_of-returns-in_err-forms-in-Product : goal.form_of-returns-in_err-forms-in-Product
+form_of-returns-in_err-forms-in-Product t c =
+    let p = err_from_is_err_and c.from_residual-in_err-forms-in-Product.result c.from_residual-in_err-forms-in-Product.ensures.1 in
+    rw (p.1, p.2) (form_gives_as (Err _) (ap (λ o. form_node c.args.self.now c.args.place o c.args.trees.now) (sym c.in-Product.is)) (c.in_err-forms-in-Product.ensures Tuples))
+
+pub form_of-returns-in_ok-copy_texts-in-RecSet : goal.form_of-returns-in_ok-copy_texts-in-RecSet
+form_of-returns-in_ok-copy_texts-in-RecSet t c =
+    ap (λ o. form_node c.args.self.now c.args.place o c.args.trees.now) c.in-RecSet.is ∙ c.in_ok-forms-in-RecSet.ensures (Records _)
+    ∙ ap (λ z. Made (Records z c.in_ok-forms-in-RecSet.forms)) (sym c.in_ok-copy_texts-in-RecSet.ensures)
+
+pub form_of-returns-in_ok-forms-in-Product : goal.form_of-returns-in_ok-forms-in-Product
+form_of-returns-in_ok-forms-in-Product t c =
+    ap (λ o. form_node c.args.self.now c.args.place o c.args.trees.now) c.in-Product.is ∙ c.in_ok-forms-in-Product.ensures Tuples
+
+pub function_set-returns-in_err-domain-in-len1-up : goal.function_set-returns-in_err-domain-in-len1-up
+function_set-returns-in_err-domain-in-len1-up t c =
+    let p = err_from_is_err_and c.from_residual.result c.from_residual.ensures.1 in
+    rw (p.1, p.2) (form_gives_as (Err _) (function_parts c.args.self.now.width c.args.self.now.bound c.args.self.now.state c.args.self.now.next c.args.place c.args.trees.now c.after.result.now c.first-item.result c.in-len1-up.len_at_least c.first-item.is c.after.ensures)
+    (functions_stop c.args.place (outcomes_in c.args.self.now c.after.result.now) (form_in c.args.self.now c.first-item.result) c.value-value.result c.forms-results.result
+    (value_in c.args.self.now c.first-item.result) (forms_in c.args.self.now c.after.result.now) c.value-value.ensures c.forms-results.ensures _ (sym c.in_err-domain-in-len1-up.ensures)))
+
+pub function_set-returns-in_ok-domain-in-len1-up : goal.function_set-returns-in_ok-domain-in-len1-up
+function_set-returns-in_ok-domain-in-len1-up t c =
+    form_gives_as c.functions_from.result
+    (functions_go c.args.place (outcomes_in c.args.self.now c.after.result.now) (form_in c.args.self.now c.first-item.result) c.value-value.result c.forms-results.result
+    (value_in c.args.self.now c.first-item.result) (forms_in c.args.self.now c.after.result.now) c.value-value.ensures c.forms-results.ensures (c.in_ok-domain-in-len1-up.domain, c.in_ok-domain-in-len1-up.forms) (sym c.in_ok-domain-in-len1-up.ensures)
+    ∙ function_parts c.args.self.now.width c.args.self.now.bound c.args.self.now.state c.args.self.now.next c.args.place c.args.trees.now c.after.result.now c.first-item.result c.in-len1-up.len_at_least c.first-item.is c.after.ensures) c.functions_from.ensures
+
+pub membership-returns-in_ok-v-in-len2 : goal.membership-returns-in_ok-v-in-len2
+membership-returns-in_ok-v-in-len2 t c =
+    let r = c.args.self.now in
+    let test = membership_test c.args.op.now c.args.place in
+    gives_as c.tested.result
+    (membership_goes c.args.place test (value_in r c.right-item.result ∷ []) (form_in r c.left-item.result) (c.in_ok-v-in-len2.v, c.in_ok-v-in-len2.set) c.value-value.result c.form-form.result
+    (value_in r c.left-item.result) (form_in r c.right-item.result) c.value-value.ensures c.form-form.ensures (sym c.in_ok-v-in-len2.ensures)
+    ∙ ap (λ es. in_form c.args.place test (outcomes_in r es) (forms_in r es)) (sym (two_items _ _ _ c.in-len2.len_at_least c.in-len2.len_below c.left-item.is c.right-item.is)))
+    c.tested.ensures
+
+pub one_form-returns-in_err-part-in-len1 : goal.one_form-returns-in_err-part-in-len1
+one_form-returns-in_err-part-in-len1 t c =
+    let p = err_from_is_err_and c.from_residual.result c.from_residual.ensures.1 in
+    rw (p.1, p.2) (form_gives_as (Err _) (ap (λ es. form_of_one c.args.place (one_form c.args.op.now) (forms_in c.args.self.now es)) (sym (only_item _ _ c.in-len1.len_at_least c.in-len1.len_below c.only-item.is)))
+    (one_form_stops _ c.args.place (one_form c.args.op.now) _ c.in_err-part-in-len1.ensures))
+
+pub set_forms-returns-then-all_set_forms : goal.set_forms-returns-then-all_set_forms
+set_forms-returns-then-all_set_forms t c =
+    λ make. set_forms_are c.args.place _ c.in_ok-forms.forms true c.in_ok-forms.ensures (sym c.if-all_set_forms.true ∙ c.all_set_forms.ensures ∙ ap all_set_forms c.as_slice.ensures) make
+
+pub set_forms-returns-else-all_set_forms : goal.set_forms-returns-else-all_set_forms
+set_forms-returns-else-all_set_forms t c =
+    λ make. set_forms_are c.args.place _ c.in_ok-forms.forms false c.in_ok-forms.ensures (sym c.if-all_set_forms.false ∙ c.all_set_forms.ensures ∙ ap all_set_forms c.as_slice.ensures) make

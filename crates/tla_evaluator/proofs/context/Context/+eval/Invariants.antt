@@ -2,17 +2,19 @@ use Rattle.std.proofs.Common.{◌≡◌, ℕ, ◌++◌, ◌∷◌, [], ◌*◌, 
 use denote.Param.Weighed.{most}
 use Rattle.tla_values.specs.Sets.{Normal}
 use Rattle.tla_meaning.specs.declared.expr.Expr.{Expr}
-use Rattle.tla_meaning.specs.Forms.{form_faults, made, results}
+use Rattle.tla_meaning.specs.Forms.{form_faults, results}
 use Rattle.tla_meaning.specs.Meaning.{case_chosen, folded, updated}
 use Rattle.tla_meaning.specs.Outcomes.{join_faults, joined, values}
 use Rattle.tla_evaluator.specs.inner.Nodes.{bodies_in, index_trees, junction, paths_in, updates_in}
 use Rattle.tla_evaluator.specs.inner.Readings.{first_in, forms_in, outcomes_in, with_names}
+use Rattle.tla_meaning.specs.declared.outcome.Fault.TheVariants.{NoFault}
+use Rattle.tla_evaluator.proofs.StopLemmas.{formed}
 use Rattle.tla_evaluator.proofs.context.Context.+eval.Given as goal
 
 abbrev pub invariant-joined-loop-e : goal.invariant-joined-loop-e
 invariant-joined-loop-e l = record {
   fault : join_faults l.all.fault (joined (outcomes_in l.self (drop l.e-index l.trees))) ≡ joined (outcomes_in l.self l.trees);
-  values : l.all.values.items ++ values (outcomes_in l.self (drop l.e-index l.trees)) ≡ values (outcomes_in l.self l.trees);
+  values : l.all.items.items ++ values (outcomes_in l.self (drop l.e-index l.trees)) ≡ values (outcomes_in l.self l.trees);
 }
 
 abbrev pub invariant-junction-loop-e : goal.invariant-junction-loop-e
@@ -27,7 +29,7 @@ abbrev pub invariant-bodies-loop-choice : goal.invariant-bodies-loop-choice
 invariant-bodies-loop-choice l = record {
   fault : join_faults l.all.fault (joined (bodies_in l.self l.site.place l.site.names.now l.trees (drop l.choice-index l.choices)))
       ≡ joined (bodies_in l.self l.site.place l.site.names.now l.trees l.choices);
-  values : l.all.values.items ++ values (bodies_in l.self l.site.place l.site.names.now l.trees (drop l.choice-index l.choices))
+  values : l.all.items.items ++ values (bodies_in l.self l.site.place l.site.names.now l.trees (drop l.choice-index l.choices))
       ≡ values (bodies_in l.self l.site.place l.site.names.now l.trees l.choices);
 }
 
@@ -57,5 +59,5 @@ invariant-folded-loop-item l = record {
 abbrev pub invariant-forms-loop-e : goal.invariant-forms-loop-e
 invariant-forms-loop-e l = record {
   fault : join_faults l.all.fault (form_faults (forms_in l.self (drop l.e-index l.trees))) ≡ form_faults (forms_in l.self l.trees);
-  forms : l.all.forms.items ++ made (forms_in l.self (drop l.e-index l.trees)) ≡ made (forms_in l.self l.trees);
+  forms : l.all.fault ≡ NoFault → formed l.all.items.items ++ forms_in l.self (drop l.e-index l.trees) ≡ forms_in l.self l.trees;
 }

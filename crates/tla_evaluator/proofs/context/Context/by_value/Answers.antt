@@ -1,6 +1,5 @@
-use Rattle.std.proofs.Common.{◌∙◌, ap}
-use Rattle.tla_meaning.specs.Actions.{effect_of}
+use Rattle.tla_evaluator.proofs.ActionNodes.{value_fails}
 use Rattle.tla_evaluator.proofs.context.Context.by_value.Goals as goal
 
-pub returns : goal.returns
-returns c = c.effect_of.ensures ∙ ap effect_of (c.in_ok-outcome.ensures _ c.value.ensures)
+pub returns-in-Err : goal.returns-in-Err
+returns-in-Err c = value_fails c.stopped.result _ _ c.in-Err.ensures c.stopped.ensures
