@@ -238,12 +238,6 @@ choice_fails (Wrong p) q o h f k = (outcome.Wrong p, h, k)
 choice_fails (Big p) q o h f k = (outcome.Big p, h, k)
 choice_fails (Memory e) q o h f k = absurd k
 
-pub domains_fail : (s : Stop) (q : Place) (os : List Outcome) (body : List Value → Effect) (f : Effect) → GivesAll (joined os) (values os) (Err s) → FailsBy s f →
-    f ≡ exists_effect q os body
-domains_fail (Wrong p) q os body f h k = k ∙ sym (exists_by q body os (IsWrong p) h)
-domains_fail (Big p) q os body f h k = k ∙ sym (exists_by q body os (IsBig p) h)
-domains_fail (Memory e) q os body f h k = absurd k
-
 -- ---- several effects
 
 pub behind_twice : (f g : Fault) (x : Effect) → behind (join_faults f g) x ≡ behind f (behind g x)
@@ -320,12 +314,6 @@ pub get_or-default : {X : Type 0} (xs : List X) (i : ℕ) (a b : X) → i < leng
 get_or-default [] i a b lt = absurd (omega arith)
 get_or-default (x ∷ xs) zero a b lt = refl
 get_or-default (x ∷ xs) (suc i) a b lt = get_or-default xs i a b (omega arith)
-
-drop_end : {X : Type 0} (n : ℕ) (xs : List X) → length xs ≤ n → drop n xs ≡ []
-drop_end zero [] le = refl
-drop_end zero (x ∷ xs) le = absurd (omega arith)
-drop_end (suc n) [] le = refl
-drop_end (suc n) (x ∷ xs) le = drop_end n xs (omega arith)
 
 -- a tree behind the first ones is no deeper than all
 pub no_deeper : {X : Type 0} (size : X → ℕ) (n : ℕ) (xs rest : List X) (x : X) → rest ≡ drop n xs → 0 < length rest → x ≡ get_or rest 0 x →
@@ -424,14 +412,6 @@ module _ (w : ℕ) (m : Assignable) (q : Place) (vars : List (List ℕ × Value)
       let d : Expr = get_or args (i + 1) e in
       guard_fault q o f (effect_at w m d vars s t) (cases (drop (i + 2) args)) k
       ∙ case_here i e d o all lt is (get_or-default args (i + 1) e d lt) h old
-
-  pub case_other : (i : ℕ) (e : Expr) (all : Effect) → length args ≡ i + 1 → e ≡ get_or args i e → cases (drop i args) ≡ all →
-      effect_at w m e vars s t ≡ all
-  case_other i e all last is old =
-      sym (ap cases (drop-cons args i e (omega arith) ∙ ap₂ (λ x es. x ∷ es) (sym is) (drop_end (suc i) args (omega arith)))) ∙ old
-
-  pub case_none : (i : ℕ) (all : Effect) → length args ≤ i → cases (drop i args) ≡ all → fails_by (IsWrong q) ≡ all
-  case_none i all past old = sym (ap cases (drop_end i args past)) ∙ old
 
 module _ (w : ℕ) (m : Assignable) (q : Place) (names : List (List ℕ)) (args : List Expr) (vars : List (List ℕ × Value)) (s t : State) where
   pub exists_body : (sets rest : List Expr) (f : Fault) (vs vs' : List Value) (cs cs' : List (List Value)) (body : Expr) →

@@ -122,35 +122,11 @@ module _ (p : Place) (u : Update) (us : List Update) (f : Value) where
   unfolding by
   updated_at old new at is = ap (λ o. with_value o (λ new. updated p us (set_path u.0 new f))) is ∙ ap by at
 
-  pub updated_outside : Outside ≡ at_path f u.0 → updated p us f ≡ updated p (u ∷ us) f
-  unfolding by
-  updated_outside at = ap by at
-
-  pub updated_nowhere : NoFunction ≡ at_path f u.0 → Wrong p ≡ updated p (u ∷ us) f
-  unfolding by
-  updated_nowhere at = ap by at
-
-  pub updated_fault : (old : Value) (o : Outcome) → At old ≡ at_path f u.0 → o ≡ u.1 old → ((v : Value) → o ≡ Val v → ⊥) → o ≡ updated p (u ∷ us) f
-  unfolding by
-  updated_fault old (Val v) at is never = absurd (never v refl)
-  updated_fault old (Wrong q) at is never = ap (λ o. with_value o (λ new. updated p us (set_path u.0 new f))) is ∙ ap by at
-  updated_fault old (Big q) at is never = ap (λ o. with_value o (λ new. updated p us (set_path u.0 new f))) is ∙ ap by at
-
 module _ {X : Type 0} (f : X → ℕ) where
-  -- what stands behind the first ones is no deeper
-  pub behind_no_deeper : (n : ℕ) (xs ys zs : List X) → zs ≡ drop n ys → ys ≡ xs → most f zs ≤ most f xs
-  behind_no_deeper n xs ys zs e same = subst (λ l. most f l ≤ most f xs) (sym (e ∙ ap (drop n) same)) (most-drop f n xs)
-
   pub further_no_deeper : (n : ℕ) (m : ℕ) (ys zs : List X) → zs ≡ drop n ys → most f ys ≤ m → most f zs ≤ m
   further_no_deeper n m ys zs e le =
       let here : most f zs ≤ most f ys = subst (λ l. most f l ≤ most f ys) (sym e) (most-drop f n ys) in
       omega (arith, here, le)
-
--- a body under more names, by the parts that a program has
-pub under_same : (w : ℕ) (p : Place) (vars : List (List ℕ × Value)) (s t : State) (es fs : List Expr) (xs ys : List (List ℕ)) (vs us : List Value) →
-    es ≡ fs → xs ≡ ys → vs ≡ us → first_at w p es (vars ++ bound_to xs vs) s t ≡ first_at w p fs (vars ++ bound_to ys us) s t
-under_same w p vars s t es fs xs ys vs us a b c =
-    ap (λ z. first_at w p z (vars ++ bound_to xs vs) s t) a ∙ ap (λ z. first_at w p fs (vars ++ bound_to z vs) s t) b ∙ ap (λ z. first_at w p fs (vars ++ bound_to ys z) s t) c
 
 pub one_is_normal : (vs us : List Value) (a : Value) → vs ≡ us → us ≡ a ∷ [] → Normal a → All Normal vs
 one_is_normal vs us a e d h = subst (λ l. All Normal l) (sym (e ∙ d)) (All-from_recursion Normal (a ∷ []) (h, tt))
@@ -205,11 +181,3 @@ module _ (f : Value → Value → Outcome) (items : List (Value × Value)) (i : 
   folded_next v u all lt is h k =
       ap (λ o. with_value o (folded f (results (drop (i + 1) items)))) h
       ∙ ap (λ xs. folded f xs v) (sym (results_next lt is)) ∙ k
-
-  pub folded_fault : (v : Value) (o all : Outcome) → i < length items → x ≡ get_or items i x → o ≡ f v x.1 → ((u : Value) → o ≡ Val u → ⊥) →
-      folded f (results (drop i items)) v ≡ all → o ≡ all
-  folded_fault v (Val u) all lt is h never k = absurd (never u refl)
-  folded_fault v (Wrong q) all lt is h never k =
-      ap (λ o. with_value o (folded f (results (drop (i + 1) items)))) h ∙ ap (λ xs. folded f xs v) (sym (results_next lt is)) ∙ k
-  folded_fault v (Big q) all lt is h never k =
-      ap (λ o. with_value o (folded f (results (drop (i + 1) items)))) h ∙ ap (λ xs. folded f xs v) (sym (results_next lt is)) ∙ k

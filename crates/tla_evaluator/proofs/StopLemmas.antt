@@ -23,28 +23,13 @@ use Rattle.tla_evaluator.specs.inner.Gives.{Gives, GivesAll, GivesForm, GivesFor
 use Rattle.tla_meaning.specs.declared.expr.Expr.{Expr}
 use Rattle.tla_evaluator.specs.inner.Nodes.{except_in, index_trees, junction, paths_in, updates_in}
 use Rattle.tla_evaluator.specs.inner.Readings.{Reading, outcomes_in, value_in}
-use Rattle.tla_evaluator.proofs.EvalSteps.{chosen, map_next, same_item, strict_done, two_next}
+use Rattle.tla_evaluator.proofs.EvalSteps.{chosen, map_next, same_item, two_next}
 
 pub gives_as : (r : Result Value Stop) {x y : Outcome} → x ≡ y → Gives x r → Gives y r
 gives_as r e h = subst (λ o. Gives o r) e h
 
 pub form_gives_as : (r : Result SetForm Stop) {x y : Formed} → x ≡ y → GivesForm x r → GivesForm y r
 form_gives_as r e h = subst (λ o. GivesForm o r) e h
-
--- what stops one outcome stops another that is no value either
-pub stops_as : (s : Stop) (o q : Outcome) → Gives o (Err s) → ((p : Place) → o ≡ outcome.Wrong p → q ≡ outcome.Wrong p) →
-    ((p : Place) → o ≡ outcome.Big p → q ≡ outcome.Big p) → Gives q (Err s)
-stops_as (Wrong p) o q h w b = w p h
-stops_as (Big p) o q h w b = b p h
-stops_as (Memory e) o q h w b = tt
-
--- where one is stopped, so is what goes on with its value
-pub goes_on_stops : (s : Stop) (o : Outcome) (f : Value → Outcome) → Gives o (Err s) → Gives (with_value o f) (Err s)
-goes_on_stops s o f h = stops_as s o (with_value o f) h (λ p e. ap (λ q. with_value q f) e) (λ p e. ap (λ q. with_value q f) e)
-
-pub choice_stops : (s : Stop) (p : Place) (o x y : Outcome) → Gives o (Err s) → Gives (choose p o x y) (Err s)
-choice_stops s p o x y h =
-    stops_as s o (choose p o x y) h (λ q e. ap (λ z. choose p z x y) e) (λ q e. ap (λ z. choose p z x y) e)
 
 -- ---- guards
 
@@ -68,11 +53,6 @@ module _ {X : Type 0} (f : X → Outcome) (xs : List X) where
       (h (f y) (case_chosen p rest))
 
 -- ---- what joins its operands
-
-pub strict_stops : (s : Stop) (os : List Outcome) (g : List Value → Outcome) → GivesAll (joined os) (values os) (Err s) → Gives (strict os g) (Err s)
-strict_stops (Wrong p) os g h = ap (λ f. fault_or f (g (values os))) h
-strict_stops (Big p) os g h = ap (λ f. fault_or f (g (values os))) h
-strict_stops (Memory e) os g h = tt
 
 pub strict_goes : (vs : List Value) (os : List Outcome) (g : List Value → Outcome) → GivesAll (joined os) (values os) (Ok vs) → g vs ≡ strict os g
 strict_goes vs os g h = ap g (sym h.1) ∙ ap (λ f. fault_or f (g (values os))) (sym h.0)
@@ -119,12 +99,6 @@ value_fault (Err (Wrong p)) o h = ap fault_of h
 value_fault (Err (Big p)) o h = ap fault_of h
 value_fault (Err (Memory e)) o h = tt
 
-pub one_form_fault : (a : Result SetForm Stop) (f : Formed) → GivesForm f a → GivesFault (form_fault f) a
-one_form_fault (Ok g) f h = ap form_fault h
-one_form_fault (Err (Wrong p)) f h = ap form_fault h
-one_form_fault (Err (Big p)) f h = ap form_fault h
-one_form_fault (Err (Memory e)) f h = tt
-
 pub no_form_faults : (gs : List SetForm) → form_faults (map (λ g. Made g) gs) ≡ NoFault
 no_form_faults [] = refl
 no_form_faults (g ∷ gs) = no_form_faults gs
@@ -138,17 +112,6 @@ forms_fault (Ok gs) fs h = ap form_faults h ∙ no_form_faults gs
 forms_fault (Err (Wrong p)) fs h = h
 forms_fault (Err (Big p)) fs h = h
 forms_fault (Err (Memory e)) fs h = tt
-
-pub all_fault : {X : Type 0} (a : Result (List X) Stop) (f : Fault) (xs : List X) → GivesAll f xs a → GivesFault f a
-all_fault (Ok ys) f xs h = h.0
-all_fault (Err (Wrong p)) f xs h = h
-all_fault (Err (Big p)) f xs h = h
-all_fault (Err (Memory e)) f xs h = tt
-
-pub fault_stops : (s : Stop) (f : Fault) (o : Outcome) → StopsBy f s → Gives (fault_or f o) (Err s)
-fault_stops (Wrong p) f o h = ap (λ g. fault_or g o) h
-fault_stops (Big p) f o h = ap (λ g. fault_or g o) h
-fault_stops (Memory e) f o h = tt
 
 pub form_fault_stops : (s : Stop) (f : Fault) (d : Formed) → StopsBy f s → GivesForm (fault_or_form f d) (Err s)
 form_fault_stops (Wrong p) f d h = ap (λ g. fault_or_form g d) h
@@ -185,26 +148,6 @@ module _ (p : Place) (test : Value → SetForm → Outcome) (os : List Outcome) 
   abbrev without : Fault → Outcome
   without f = elim f as (λ _. Outcome) [ NoFault ↦ outcome.Wrong p | IsWrong q ↦ outcome.Wrong q | IsBig q ↦ outcome.Big q ]
 
-  without_stops : (s : Stop) (f : Fault) → StopsBy f s → Gives (without f) (Err s)
-  without_stops (Wrong q) f h = ap without h
-  without_stops (Big q) f h = ap without h
-  without_stops (Memory e) f h = tt
-
-  in_form_stops : (s : Stop) (o : Outcome) (f : Formed) → StopsBy (join_faults (fault_of o) (form_fault f)) s →
-      Gives (in_form p test (o ∷ os) (d ∷ f ∷ [])) (Err s)
-  in_form_stops (Wrong q) (outcome.Val v) (Made g) h = absurd (cc)
-  in_form_stops (Big q) (outcome.Val v) (Made g) h = absurd (cc)
-  in_form_stops (Memory e) (outcome.Val v) (Made g) h = tt
-  in_form_stops s (outcome.Val v) (Broken g) h = without_stops s g h
-  in_form_stops s (outcome.Wrong r) f h = without_stops s (join_faults (IsWrong r) (form_fault f)) h
-  in_form_stops s (outcome.Big r) f h = without_stops s (join_faults (IsBig r) (form_fault f)) h
-
-  pub membership_stops : (s : Stop) (a : Result Value Stop) (b : Result SetForm Stop) (o : Outcome) (f : Formed) → Gives o a → GivesForm f b → both a b ≡ Err s →
-      Gives (in_form p test (o ∷ os) (d ∷ f ∷ [])) (Err s)
-  membership_stops s a b o f h k e =
-      in_form_stops s o f (subst (λ (z : Result (Value × SetForm) Stop). GivesFault (join_faults (fault_of o) (form_fault f)) z) e
-      (joins_both a b (fault_of o) (form_fault f) (value_fault a o h) (one_form_fault b f k)))
-
   pub membership_goes : (z : Value × SetForm) (a : Result Value Stop) (b : Result SetForm Stop) (o : Outcome) (f : Formed) → Gives o a → GivesForm f b → both a b ≡ Ok z →
       (if is_set_form z.1 then test z.0 z.1 else outcome.Wrong p) ≡ in_form p test (o ∷ os) (d ∷ f ∷ [])
   membership_goes z a b o f h k e =
@@ -239,10 +182,6 @@ set_forms_are p fs gs b e h make =
     ap (form_of_all p make) e
     ∙ ap₂ (λ f hs. fault_or_form f (if all_set_forms hs then Made (make hs) else Broken (IsWrong p))) (no_form_faults gs) (made_all gs)
     ∙ ap (λ b. cond b (Made (make gs)) (Broken (IsWrong p))) (sym h)
-
-pub set_forms_stop : (s : Stop) (p : Place) (fs : List Formed) → GivesForms fs (Err s) → (make : List SetForm → SetForm) → GivesForm (form_of_all p make fs) (Err s)
-set_forms_stop s p fs h make =
-    form_fault_stops s (form_faults fs) (if all_set_forms (made fs) then Made (make (made fs)) else Broken (IsWrong p)) (forms_fault (Err s) fs h)
 
 -- ---- two operands
 
@@ -294,14 +233,6 @@ module _ (r : Reading) (p : Place) (ns : List ℕ) (xs : List (List ℕ)) (es re
 
   all : strict (value_in r e ∷ outcomes_in r (index_trees ns rest)) (first_updated p (updates_in r p xs (paths_in r ns rest) rest)) ≡ except_in r p ns xs es
   all = ap (λ l. except_in r p ns xs (e ∷ l)) back ∙ ap (except_in r p ns xs) (sym (one_item es e some is))
-
-  joined_fault : GivesFault fault (both a b)
-  joined_fault = joins_both a b (fault_of (value_in r e)) (joined (outcomes_in r (index_trees ns rest))) (value_fault a (value_in r e) ha) (all_fault b _ (paths_in r ns rest) hb)
-
-  pub except_stops : (s : Stop) → both a b ≡ Err s → Gives (except_in r p ns xs es) (Err s)
-  except_stops s k =
-      subst (λ q. Gives q (Err s)) all (fault_stops s fault _
-      (subst (λ (z : Result (Value × List (ℕ × List Value)) Stop). GivesFault fault z) k joined_fault))
 
   pub except_goes : (z : Value × List (ℕ × List Value)) → both a b ≡ Ok z →
       (value_in r e ≡ outcome.Val z.0) × (updated p (updates_in r p xs z.1 rest) z.0 ≡ except_in r p ns xs es)

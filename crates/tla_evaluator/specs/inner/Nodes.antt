@@ -79,20 +79,6 @@ membership_test o p v f = Wrong p
 abbrev pub tested : Op → Place → Value → SetForm → Outcome
 tested o p v f = if is_set_form f then membership_test o p v f else Wrong p
 
-abbrev pub is_membership : Op → Bool
-is_membership op.In = true
-is_membership op.NotIn = true
-is_membership op.SubsetEq = true
-is_membership o = false
-
-abbrev pub is_binder : Op → Bool
-is_binder op.Exists = true
-is_binder op.Forall = true
-is_binder op.Filter = true
-is_binder op.MapTo = true
-is_binder op.Lambda = true
-is_binder o = false
-
 -- the operators that describe a set by what belongs to it, and notes, which stand for what they note
 abbrev pub has_form : Op → Bool
 has_form op.IntSet = true

@@ -3,9 +3,6 @@ use Rattle.std.specs.Prelude.{List, [], ◌∷◌, ◌++◌, if◌then◌else◌
 use Rattle.tla_values.specs.Sets.{Normal, arguments, insert_pair, member}
 use Rattle.tla_values.specs.declared.value.Value.{Value}
 
-abbrev pub IsNormalPair : Value × Value → Type 0
-IsNormalPair p = Normal p.0 × Normal p.1
-
 -- the function with one more pair, where its argument is a new one
 abbrev pub with_last : List (Value × Value) → Value × Value → List (Value × Value)
 with_last ps q = if member q.0 (arguments ps) then ps else insert_pair q ps

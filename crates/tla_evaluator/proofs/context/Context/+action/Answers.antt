@@ -12,7 +12,7 @@ use Rattle.tla_meaning.specs.declared.actions.Assignable.{Assignable}
 use Rattle.tla_evaluator.specs.inner.Effects.{exists_in, first_effect}
 use Rattle.tla_evaluator.specs.inner.Mentions.{mentions}
 use Rattle.tla_evaluator.specs.inner.Readings.{effect_in, effects_in, outcomes_in, value_in}
-use Rattle.tla_evaluator.proofs.ActionNodes.{is_now, at_value, at_and, at_or, at_or_value, at_if, at_if_value, at_case, at_case_value, at_exists, at_noted, and_next, or_next, bodies_next, case_false, case_fault, case_true, if_fault, if_taken, choice_fails, domains_fail, exists_body, first_some, first_none, no_deeper}
+use Rattle.tla_evaluator.proofs.ActionNodes.{is_now, at_value, at_and, at_or, at_or_value, at_if, at_if_value, at_case, at_case_value, at_exists, at_noted, and_next, or_next, bodies_next, case_false, case_fault, case_true, if_fault, if_taken, choice_fails, exists_body, first_some, first_none, no_deeper}
 use Rattle.std.proofs.lemmas.Result.{IfOk-weaker}
 use Rattle.tla_meaning.specs.Outcomes.{joined, values}
 use Rattle.tla_evaluator.specs.inner.Gives.{FailsBy}

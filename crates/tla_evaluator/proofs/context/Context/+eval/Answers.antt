@@ -23,7 +23,7 @@ use Rattle.tla_evaluator.proofs.FormNodes.{form_is_node, plain_is}
 use Rattle.tla_evaluator.proofs.ListSteps.{first_normal, folded_next, further_no_deeper, index_fault_next, item_normal, members_normal, one_is_normal, one_normal, operands_normal, paths_next, reached_normal, results_normal, two_are_normal, updated_at, updated_next, updated_stops}
 use Rattle.tla_evaluator.proofs.NodeLemmas.{node_is}
 use Rattle.tla_evaluator.proofs.NormalBinds.{bound_are_normal}
-use Rattle.tla_evaluator.proofs.StopLemmas.{case_stops, conclusion_is, conclusion_stops, except_goes, except_stops, form_gives_as, functions_go, functions_stop, given_normal, gives_all_as, gives_as, joins_form, joins_value, junction_stops, membership_goes, one_form_stops, only_item, plain_stops, premise_fails, premise_stops, set_forms_are, set_forms_stop, strict_goes, two_items}
+use Rattle.tla_evaluator.proofs.StopLemmas.{case_stops, conclusion_is, conclusion_stops, except_goes, form_gives_as, functions_go, functions_stop, given_normal, gives_all_as, gives_as, joins_form, joins_value, junction_stops, membership_goes, one_form_stops, only_item, plain_stops, premise_fails, premise_stops, set_forms_are, strict_goes, two_items}
 use Rattle.tla_evaluator.proofs.TreeSizes.{most-drop, most-take}
 use Rattle.tla_evaluator.proofs.context.Context.+eval.Goals as goal
 
