@@ -27,7 +27,9 @@ use Rattle.tla_meaning.specs.Shapes.{all_set_items, choices}
 use Rattle.tla_meaning.proofs.Joins.{both_assoc, both_same}
 use Rattle.tla_meaning.specs.declared.actions.Assignable.{Assignable}
 use Rattle.tla_meaning.specs.declared.actions.Effect.{Effect}
-use Rattle.tla_evaluator.specs.inner.Effects.{behind, body_effect, either, exists_at, first_effect}
+use Rattle.tla_evaluator.specs.inner.Readings.{Reading, effect_in, value_in}
+use Rattle.tla_evaluator.proofs.NodeLemmas.{false≢true}
+use Rattle.tla_evaluator.specs.inner.Effects.{act_in, acts, behind, body_effect, either, exists_at, first_effect}
 use Rattle.std.proofs.lemmas.Result.{IfOk-weaker}
 use Rattle.std.specs.declared.alloc.AllocError.{AllocError}
 use Rattle.tla_evaluator.specs.declared.stops.Stop.{Stop}
@@ -89,35 +91,12 @@ module _ (w : ℕ) (m : Assignable) (p : Place) (vars : List (List ℕ × Value)
 
 -- ---- one lemma for each operator
 
--- the node is none of those that act otherwise than by their value
-pub record ByValue (o : Op) : Type 0 where
-  pub not_and : o ≡ op.And → ⊥
-  pub not_or : o ≡ op.Or → ⊥
-  pub not_if : o ≡ op.If → ⊥
-  pub not_case : (other : Bool) → o ≡ op.Case other → ⊥
-  pub not_exists : o ≡ op.Exists → ⊥
-  pub not_noted : (x : List ℕ) → o ≡ op.Noted x → ⊥
-
 module _ (w : ℕ) (m : Assignable) (e : Expr) (vars : List (List ℕ × Value)) (s t : State) where
-  by_value : (o : Op) → ByValue o → (sense_at w e vars o).act m s t ≡ effect_of ((sense_at w e vars o).value s t)
-  by_value op.And h = absurd (h.not_and refl)
-  by_value op.Or h = absurd (h.not_or refl)
-  by_value op.If h = absurd (h.not_if refl)
-  by_value (op.Case other) h = absurd (h.not_case other refl)
-  by_value op.Exists h = absurd (h.not_exists refl)
-  by_value (op.Noted x) h = absurd (h.not_noted x refl)
-  by_value o h = refl
-
-  pub at_value : ByValue (out-Expr e).op → effect_at w m e vars s t ≡ effect_of (value_at w e vars s t)
-  at_value h =
-      ap (λ (a : Denotation). a.act m s t) (sense-out w e vars (out-Expr e).op refl) ∙ by_value (out-Expr e).op h
-      ∙ sym (ap (λ (a : Denotation). effect_of (a.value s t)) (sense-out w e vars (out-Expr e).op refl))
-
-  pub at_and : (out-Expr e).op ≡ op.And → effect_at w m e vars s t ≡ effects_and (effects_at w m (out-Expr e).args vars s t)
+  at_and : (out-Expr e).op ≡ op.And → effect_at w m e vars s t ≡ effects_and (effects_at w m (out-Expr e).args vars s t)
   at_and h =
       ap (λ (a : Denotation). a.act m s t) (sense-out w e vars op.And h) ∙ ap effects_and (effects_here w m (out-Expr e).place vars s t (out-Expr e).args)
 
-  pub at_noted : (x : List ℕ) → (out-Expr e).op ≡ op.Noted x → effect_at w m e vars s t ≡ first_effect w m (out-Expr e).place (out-Expr e).args vars s t
+  at_noted : (x : List ℕ) → (out-Expr e).op ≡ op.Noted x → effect_at w m e vars s t ≡ first_effect w m (out-Expr e).place (out-Expr e).args vars s t
   at_noted x h =
       ap (λ (a : Denotation). a.act m s t) (sense-out w e vars (op.Noted x) h) ∙ first_here w m (out-Expr e).place vars s t (out-Expr e).args
 
@@ -147,32 +126,22 @@ module _ (w : ℕ) (m : Assignable) (e : Expr) (vars : List (List ℕ × Value))
   when_marked o f g h is k same =
       ap (λ (a : Denotation). a.act m s t) (sense-out w e vars o h) ∙ is ∙ ap (λ b. by_mark o b f) (marked_here w m p vars s t args ∙ k) ∙ same
 
-  pub at_or : (out-Expr e).op ≡ op.Or → list_any (mentions m) args ≡ true → effect_at w m e vars s t ≡ effects_or (effects_at w m args vars s t)
+  at_or : (out-Expr e).op ≡ op.Or → list_any (mentions m) args ≡ true → effect_at w m e vars s t ≡ effects_or (effects_at w m args vars s t)
   at_or h k = when_marked op.Or (effects_or (effects m here s t)) _ h refl k (ap effects_or (effects_here w m p vars s t args))
 
-  pub at_or_value : (out-Expr e).op ≡ op.Or → list_any (mentions m) args ≡ false → effect_at w m e vars s t ≡ effect_of (value_at w e vars s t)
-  at_or_value h k = unmarked op.Or (effects_or (effects m here s t)) h refl k
-
-  pub at_if : (out-Expr e).op ≡ op.If → list_any (mentions m) args ≡ true →
+  at_if : (out-Expr e).op ≡ op.If → list_any (mentions m) args ≡ true →
       effect_at w m e vars s t ≡ if_effect p (outcomes_at w args vars s t) (effects_at w m args vars s t)
   at_if h k =
       when_marked op.If (if_effect p (outcomes here s t) (effects m here s t)) _ h refl k
       (ap₂ (if_effect p) (outcomes_here w m p vars s t args) (effects_here w m p vars s t args))
 
-  pub at_if_value : (out-Expr e).op ≡ op.If → list_any (mentions m) args ≡ false → effect_at w m e vars s t ≡ effect_of (value_at w e vars s t)
-  at_if_value h k = unmarked op.If (if_effect p (outcomes here s t) (effects m here s t)) h refl k
-
-  pub at_case : (other : Bool) → (out-Expr e).op ≡ op.Case other → list_any (mentions m) args ≡ true →
+  at_case : (other : Bool) → (out-Expr e).op ≡ op.Case other → list_any (mentions m) args ≡ true →
       effect_at w m e vars s t ≡ case_effect p (outcomes_at w args vars s t) (effects_at w m args vars s t)
   at_case other h k =
       when_marked (op.Case other) (case_effect p (outcomes here s t) (effects m here s t)) _ h refl k
       (ap₂ (case_effect p) (outcomes_here w m p vars s t args) (effects_here w m p vars s t args))
 
-  pub at_case_value : (other : Bool) → (out-Expr e).op ≡ op.Case other → list_any (mentions m) args ≡ false →
-      effect_at w m e vars s t ≡ effect_of (value_at w e vars s t)
-  at_case_value other h k = unmarked (op.Case other) (case_effect p (outcomes here s t) (effects m here s t)) h refl k
-
-  pub at_exists : (out-Expr e).op ≡ op.Exists → effect_at w m e vars s t ≡ exists_at w m p (out-Expr e).binds args vars s t
+  at_exists : (out-Expr e).op ≡ op.Exists → effect_at w m e vars s t ≡ exists_at w m p (out-Expr e).binds args vars s t
   at_exists h =
       let xs : List (List ℕ) = (out-Expr e).binds in
       let body : List Value → Effect = λ c.
@@ -182,20 +151,54 @@ module _ (w : ℕ) (m : Assignable) (e : Expr) (vars : List (List ℕ × Value))
       ap (λ (a : Denotation). a.act m s t) (sense-out w e vars op.Exists h)
       ∙ ap₂ (exists_effect p) (domains_here w m p vars s t (length xs) args) same
 
+-- ---- a tree acts as its node does
+
+module _ (r : Reading) (m : Assignable) (e : Expr) where
+  pub act_is_node : acts m (out-Expr e).op (out-Expr e).args ≡ true →
+      act_in r m (out-Expr e).place (out-Expr e).op (out-Expr e).binds (out-Expr e).args ≡ effect_in r m e
+  act_is_node h = by (out-Expr e).op refl h
+    where
+      by : (o : Op) → (out-Expr e).op ≡ o → acts m o (out-Expr e).args ≡ true → act_in r m (out-Expr e).place o (out-Expr e).binds (out-Expr e).args ≡ effect_in r m e
+      by op.And is k = sym (at_and r.width m e r.bound r.state r.next is)
+      by op.Exists is k = sym (at_exists r.width m e r.bound r.state r.next is)
+      by (op.Noted x) is k = sym (at_noted r.width m e r.bound r.state r.next x is)
+      by op.Or is k = sym (at_or r.width m e r.bound r.state r.next is k)
+      by op.If is k = sym (at_if r.width m e r.bound r.state r.next is k)
+      by (op.Case other) is k = sym (at_case r.width m e r.bound r.state r.next other is k)
+      by o is k = absurd (false≢true k)
+
+  abbrev node : Op → Denotation
+  node o = sense_at r.width e r.bound o
+
+  abbrev children : List Denotation
+  children = outer (out-Expr e).place [] (map (expanded_meaning (Some r.width)) (out-Expr e).args) (scope_at r.bound)
+
+  pub acts_by_value : acts m (out-Expr e).op (out-Expr e).args ≡ false → effect_of (value_in r e) ≡ effect_in r m e
+  acts_by_value h = sym (by (out-Expr e).op refl h)
+    where
+      -- where a child would be marked the node acts by its parts
+      unless : (o : Op) (f : Effect) → (out-Expr e).op ≡ o → (node o).act m r.state r.next ≡ by_mark r.width m e r.bound r.state r.next o (any_mentions m children) f →
+          list_any (mentions m) (out-Expr e).args ≡ false → effect_in r m e ≡ effect_of (value_in r e)
+      unless o f is same k = unmarked r.width m e r.bound r.state r.next o f is same k
+
+      plain : (o : Op) → (out-Expr e).op ≡ o → (node o).act m r.state r.next ≡ effect_of ((node o).value r.state r.next) → effect_in r m e ≡ effect_of (value_in r e)
+      plain o is same =
+          ap (λ (a : Denotation). a.act m r.state r.next) (sense-out r.width e r.bound o is) ∙ same
+          ∙ sym (ap (λ (a : Denotation). effect_of (a.value r.state r.next)) (sense-out r.width e r.bound o is))
+
+      by : (o : Op) → (out-Expr e).op ≡ o → acts m o (out-Expr e).args ≡ false → effect_in r m e ≡ effect_of (value_in r e)
+      by op.And is k = absurd (false≢true (sym k))
+      by op.Exists is k = absurd (false≢true (sym k))
+      by (op.Noted x) is k = absurd (false≢true (sym k))
+      by op.Or is k = unless op.Or (effects_or (effects m children r.state r.next)) is refl k
+      by op.If is k = unless op.If (if_effect (out-Expr e).place (outcomes children r.state r.next) (effects m children r.state r.next)) is refl k
+      by (op.Case other) is k = unless (op.Case other) (case_effect (out-Expr e).place (outcomes children r.state r.next) (effects m children r.state r.next)) is refl k
+      by o is k = plain o is refl
+
 -- ---- results
 
 pub is_now : {E : Type 0} (r : Result Effect E) (a b : Effect) → a ≡ b → IfOk r (λ f. f ≡ a) → IfOk r (λ f. f ≡ b)
 is_now r a b e h = subst (λ c. IfOk r (λ f. f ≡ c)) e h
-
-pub first_some : (w : ℕ) (m : Assignable) (q : Place) (es : List Expr) (e : Expr) (vars : List (List ℕ × Value)) (s t : State) →
-    0 < length es → e ≡ get_or es 0 e → effect_at w m e vars s t ≡ first_effect w m q es vars s t
-first_some w m q [] e vars s t some is = absurd (omega arith)
-first_some w m q (x ∷ es) e vars s t some is = ap (λ y. effect_at w m y vars s t) is
-
-pub first_none : (w : ℕ) (m : Assignable) (q : Place) (es : List Expr) (vars : List (List ℕ × Value)) (s t : State) →
-    length es < 1 → fails_by (IsWrong q) ≡ first_effect w m q es vars s t
-first_none w m q [] vars s t none = refl
-first_none w m q (e ∷ es) vars s t none = absurd (omega arith)
 
 -- ---- members of the domains
 

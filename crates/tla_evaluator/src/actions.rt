@@ -4,7 +4,7 @@ ghost use Rattle.std.specs.Prelude.{◌≡◌, IfOk, map};
 ghost use Rattle.tla_values.specs.Sets.{Normal};
 ghost use Rattle.tla_values.specs.declared.value.Value.{out-Value};
 ghost use Rattle.tla_meaning.specs.Actions.{case_effect, effect_of, effects_and, effects_or, fails_by, if_effect, is_true};
-ghost use Rattle.tla_evaluator.specs.inner.Effects.{body_in, either, exists_in};
+ghost use Rattle.tla_evaluator.specs.inner.Effects.{act_in, acts, body_in, either, exists_in};
 ghost use Rattle.tla_evaluator.specs.inner.Gives.{FailsBy};
 ghost use Rattle.tla_evaluator.specs.inner.Readings.{effect_in, effects_in, outcomes_in, value_in};
 
@@ -56,6 +56,17 @@ fn either(f: Effect, g: Effect) -> Effect
     }
 }
 
+// Whether a node with these operands acts by its parts, and not by its value.
+fn is_action(op: &Op, args: &[Expr], assigned: Assignable) -> bool
+    ensures { result ≡ acts assigned op.now args.now }
+{
+    match op {
+        Op::And | Op::Exists | Op::Noted(_) => true,
+        Op::Or | Op::If | Op::Case(_) => any_mentions(args, assigned),
+        _ => false,
+    }
+}
+
 // Nothing where there is no choice, and else a place that is Wrong.
 fn at_no_body(choices: &[List<Value>], place: Place) -> Effect
     ensures { result ≡ effects_or (map (λ _. fails_by (Fault.IsWrong place)) choices.now) }
@@ -86,27 +97,42 @@ impl Context<'_> {
     pub(crate) fn action(&self, e: &Expr, assigned: Assignable) -> Result<Effect, AllocError>
         ensures { IfOk result (λ f. f ≡ effect_in self.now assigned e.now) }
     {
+        let names = e.binds.as_slice();
         let args = e.args.as_slice();
-        match &e.op {
+        let site = Site {
+            place: e.place,
+            names,
+        };
+        if is_action(&e.op, args, assigned) {
+            self.act(&e.op, site, args, assigned)
+        } else {
+            self.by_value(e)
+        }
+    }
+
+    // The effect of a node that acts by its parts.
+    #[cycle(action)]
+    fn act(
+        &self,
+        op: &Op,
+        site: Site<'_>,
+        args: &[Expr],
+        assigned: Assignable,
+    ) -> Result<Effect, AllocError>
+        ensures { IfOk result (λ f. f ≡ act_in self.now assigned site.entry.place op.now site.entry.names.now args.now) }
+    {
+        let place = site.place;
+        match op {
             Op::And => self.all_effects(args, assigned),
-            Op::Exists => {
-                let names = e.binds.as_slice();
-                let site = Site {
-                    place: e.place,
-                    names,
-                };
-                self.exists_effect(args, site, assigned)
-            }
+            Op::Exists => self.exists_effect(args, site, assigned),
+            Op::Or => self.some_effect(args, assigned),
+            Op::If => self.if_effect(args, place, assigned),
+            Op::Case(_) => self.case_effect(args, place, assigned),
             Op::Noted(_) => match args {
-                [child, ..] => self.action(child, assigned),
-                [] => Ok(fails_by(Fault::IsWrong(e.place))),
+                [noted, ..] => self.action(noted, assigned),
+                [] => Ok(fails_by(Fault::IsWrong(place))),
             },
-            Op::Or if any_mentions(args, assigned) => self.some_effect(args, assigned),
-            Op::If if any_mentions(args, assigned) => self.if_effect(args, e.place, assigned),
-            Op::Case(_) if any_mentions(args, assigned) => self.case_effect(
-                args, e.place, assigned,
-            ),
-            _ => self.by_value(e),
+            _ => Ok(fails_by(Fault::IsWrong(place))),
         }
     }
 
