@@ -21,7 +21,7 @@ use Rattle.tla_meaning.specs.declared.outcome.Outcome.TheVariants as outcome
 use Rattle.tla_meaning.specs.Actions.{any_mentions, case_effect, effect_of, effects, effects_and, effects_or, exists_effect, fails_by, guard, guarded, if_effect, denotation_of}
 use Rattle.tla_meaning.specs.Meaning.{Meaning, by_truth, choose, inner, child, outcomes, outer, role, view}
 use Rattle.tla_meaning.specs.Operators.{yes_no}
-use Rattle.tla_meaning.specs.Outcomes.{join_faults, joined, fault_or, values}
+use Rattle.tla_meaning.specs.Outcomes.{join_faults, joined, values}
 use Rattle.tla_meaning.specs.Scopes.{Denotation, bound_to, absent}
 use Rattle.tla_meaning.specs.Shapes.{all_set_items, choices}
 use Rattle.tla_meaning.proofs.Joins.{both_assoc, both_same}
@@ -34,7 +34,7 @@ use Rattle.std.proofs.lemmas.Result.{IfOk-weaker}
 use Rattle.std.specs.declared.alloc.AllocError.{AllocError}
 use Rattle.tla_evaluator.specs.declared.stops.Stop.{Stop}
 use Rattle.tla_evaluator.specs.declared.stops.Stop.TheVariants.{Wrong, Big, Memory}
-use Rattle.tla_evaluator.specs.inner.Gives.{FailsBy, Gives, GivesAll}
+use Rattle.tla_evaluator.specs.inner.Gives.{FailsBy, Gives}
 use Rattle.tla_evaluator.specs.inner.Mentions.{mentions}
 use Rattle.tla_evaluator.specs.Trees.{effect_at, effects_at, expanded_meaning, expanded_node, outcomes_at, scope_at, is_expanded_op, value_at}
 use Rattle.tla_evaluator.proofs.MentionLaws.{holds_as}

@@ -1,18 +1,16 @@
 -- Steps of the loops of an evaluation.
 use Rattle.std.specs.Prelude.{IfOk}
-use Rattle.std.proofs.Common.{Result, ◌≡◌, ℕ, zero, suc, ◌+◌, ◌*◌, ◌<◌, ◌≤◌, Bool, true, false, not, List, [], ◌∷◌, ◌++◌, map, drop, get_or, length, refl, ap, ◌∙◌, sym, subst, arith, drop-cons, add-one, append-nil, if◌then◌else◌}
+use Rattle.std.proofs.Common.{Result, ◌≡◌, ℕ, zero, suc, ◌+◌, ◌*◌, ◌<◌, ◌≤◌, Bool, true, false, List, [], ◌∷◌, ◌++◌, map, drop, get_or, length, refl, ap, ◌∙◌, sym, subst, arith, drop-cons, add-one, append-nil, if◌then◌else◌}
 use Rattle.tla_values.specs.declared.value.Value.{Value}
 use Rattle.tla_values.specs.declared.value.Value.TheVariants.{outs-Bool}
 use Rattle.tla_values.specs.declared.value.Value.TheOpen as layer
 use Rattle.tla_meaning.specs.declared.outcome.Fault.{Fault}
-use Rattle.tla_meaning.specs.declared.outcome.Fault.TheVariants.{NoFault}
 use Rattle.tla_meaning.specs.declared.outcome.Outcome.{Outcome}
 use Rattle.tla_meaning.specs.declared.place.Place.{Place}
-use Rattle.tla_meaning.specs.Meaning.{by_truth, case_chosen, choose, conjoined, disjoined}
+use Rattle.tla_meaning.specs.Meaning.{by_truth, case_chosen, choose}
 use Rattle.tla_meaning.specs.Operators.{yes_no}
-use Rattle.tla_meaning.specs.Outcomes.{join_faults, fault_of, joined, strict, fault_or, values}
+use Rattle.tla_meaning.specs.Outcomes.{join_faults, fault_of, joined, values}
 use Rattle.tla_meaning.proofs.Joins.{both_unit}
-use Rattle.tla_evaluator.specs.inner.Nodes.{junction}
 use Rattle.tla_evaluator.proofs.OutcomeLemmas.{fault_step, values_step}
 
 false≢true : false ≡ true → ⊥

@@ -1,18 +1,14 @@
 -- Steps of the loops over forms, and the first of several trees.
-use Rattle.std.specs.Prelude.{IfOk}
-use Rattle.std.proofs.Common.{append_assoc, ◌≡◌, ℕ, suc, ◌+◌, ◌<◌, ◌≤◌, List, [], ◌∷◌, ◌++◌, map, drop, get_or, length, refl, ap, ◌∙◌, sym, subst, Result, Ok, Err, arith}
+use Rattle.std.proofs.Common.{append_assoc, ◌≡◌, ℕ, ◌+◌, ◌<◌, ◌≤◌, List, [], ◌∷◌, ◌++◌, map, drop, get_or, length, refl, ap, ◌∙◌, sym, arith}
 use Rattle.tla_values.specs.declared.value.Value.{Value}
 use Rattle.tla_meaning.specs.declared.expr.Expr.{Expr}
 use Rattle.tla_meaning.specs.declared.job.State.{State}
 use Rattle.tla_meaning.specs.declared.outcome.Fault.{Fault}
-use Rattle.tla_meaning.specs.declared.outcome.Fault.TheVariants.{IsWrong}
-use Rattle.tla_meaning.specs.declared.outcome.Outcome.{Outcome}
 use Rattle.tla_meaning.specs.declared.place.Place.{Place}
-use Rattle.tla_meaning.specs.Forms.{Broken, Formed, form_fault, form_faults, made}
-use Rattle.tla_meaning.specs.declared.forms.SetForm.{SetForm}
+use Rattle.tla_meaning.specs.Forms.{Formed, form_fault, form_faults}
 use Rattle.tla_meaning.specs.Meaning.{case_chosen, function_form, if_chosen}
 use Rattle.tla_meaning.specs.Outcomes.{join_faults}
-use Rattle.tla_evaluator.specs.Trees.{first_form_at, form_at, forms_at, outcomes_at, value_at}
+use Rattle.tla_evaluator.specs.Trees.{form_at, forms_at, outcomes_at, value_at}
 use Rattle.tla_evaluator.proofs.EvalSteps.{map_next}
 use Rattle.tla_evaluator.proofs.FormSteps.{form_fault_step}
 

@@ -1,12 +1,8 @@
 -- One more form at the front of several, and forms made of forms.
-use Rattle.std.proofs.Common.{◌≡◌, Bool, cond, List, [], ◌∷◌, ◌++◌, refl, ap, ◌∙◌, sym, append_assoc}
-use Rattle.tla_meaning.specs.declared.forms.SetForm.{SetForm}
-use Rattle.tla_meaning.specs.declared.place.Place.{Place}
+use Rattle.std.proofs.Common.{◌≡◌, List, ◌∷◌, ap, ◌∙◌}
 use Rattle.tla_meaning.specs.declared.outcome.Fault.{Fault}
-use Rattle.tla_meaning.specs.declared.outcome.Fault.TheVariants.{NoFault, IsWrong}
 use Rattle.tla_meaning.specs.Outcomes.{join_faults}
-use Rattle.tla_meaning.specs.Forms.{Formed, Made, Broken, all_set_forms, fault_or_form, form_fault, form_faults, made}
-use Rattle.tla_meaning.specs.Meaning.{form_of_all}
+use Rattle.tla_meaning.specs.Forms.{Formed, form_fault, form_faults}
 use Rattle.tla_meaning.proofs.Joins.{both_assoc}
 
 -- the fault so far with that of the rest

@@ -11,11 +11,10 @@ use Rattle.tla_meaning.specs.declared.expr.Expr.{Expr}
 use Rattle.tla_meaning.specs.declared.job.State.{State}
 use Rattle.tla_meaning.specs.declared.outcome.Fault.{Fault}
 use Rattle.tla_meaning.specs.declared.outcome.Outcome.{Outcome}
-use Rattle.tla_meaning.specs.declared.outcome.Outcome.TheVariants.{Val, Wrong, Big}
+use Rattle.tla_meaning.specs.declared.outcome.Outcome.TheVariants.{Val, Wrong}
 use Rattle.tla_meaning.specs.declared.place.Place.{Place}
 use Rattle.tla_meaning.specs.Forms.{results}
 use Rattle.tla_meaning.specs.Meaning.{At, NoFunction, Outside, Reached, Update, at_path, folded, set_path, updated}
-use Rattle.tla_meaning.specs.Scopes.{bound_to}
 use Rattle.tla_meaning.specs.Shapes.{all_set_items, choices}
 use Rattle.tla_meaning.specs.Outcomes.{join_faults, joined, values, with_value}
 use Rattle.tla_meaning.proofs.Joins.{both_assoc, joined_append}

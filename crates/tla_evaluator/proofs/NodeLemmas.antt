@@ -17,7 +17,7 @@ use Rattle.tla_meaning.specs.Outcomes.{strict, values}
 use Rattle.tla_meaning.specs.Scopes.{Scope, Denotation, bind, bound_to, find_last, value_found}
 use Rattle.tla_meaning.specs.Shapes.{choices}
 use Rattle.tla_meaning.specs.Forms.{Formed}
-use Rattle.tla_evaluator.specs.inner.Nodes.{bound_at, except_at, fold_at, index_trees, junction, membership_test, node_in, paths_at, updates_at}
+use Rattle.tla_evaluator.specs.inner.Nodes.{bound_at, except_at, fold_at, index_trees, membership_test, node_in, paths_at, updates_at}
 use Rattle.tla_evaluator.specs.inner.Readings.{Reading, value_in}
 use Rattle.tla_evaluator.specs.Trees.{first_at, first_form_at, forms_at, expanded_meaning, outcomes_at, scope_at, is_expanded_op, value_at}
 use Rattle.tla_evaluator.proofs.TreeLemmas.{first_given, forms_given, here_given, inner_back, inner_child, outcomes_given, outer_back, outer_front, sense_at, sense_gone, take_map, drop_map}

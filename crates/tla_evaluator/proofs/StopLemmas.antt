@@ -14,12 +14,12 @@ use Rattle.tla_meaning.specs.declared.forms.SetForm.{SetForm}
 use Rattle.tla_meaning.specs.Forms.{Broken, Formed, Made, all_set_forms, fault_or_form, form_fault, form_faults, is_set_form, made}
 use Rattle.tla_meaning.specs.Shapes.{set_items}
 use Rattle.tla_meaning.proofs.Joins.{both_unit}
-use Rattle.tla_meaning.specs.Meaning.{Update, form_of_all, form_of_one, plain, function_form, functions_from, in_form, layer_of, case_chosen, choose, conjoined, disjoined, first_updated, folded, implied, updated}
+use Rattle.tla_meaning.specs.Meaning.{Update, form_of_all, form_of_one, plain, function_form, functions_from, in_form, layer_of, case_chosen, choose, conjoined, disjoined, first_updated, implied, updated}
 use Rattle.tla_meaning.specs.Operators.{yes_no}
-use Rattle.tla_meaning.specs.Outcomes.{fault_of, fault_or, join_faults, joined, strict, values, with_value}
+use Rattle.tla_meaning.specs.Outcomes.{fault_of, fault_or, join_faults, joined, strict, values}
 use Rattle.tla_evaluator.specs.declared.stops.Stop.{Stop}
 use Rattle.tla_evaluator.specs.declared.stops.Stop.TheVariants.{Wrong, Big, Memory}
-use Rattle.tla_evaluator.specs.inner.Gives.{Gives, GivesAll, GivesForm, GivesForms, Guards, Joins, both}
+use Rattle.tla_evaluator.specs.inner.Gives.{Gives, GivesAll, GivesForm, GivesForms, Joins, both}
 use Rattle.tla_meaning.specs.declared.expr.Expr.{Expr}
 use Rattle.tla_evaluator.specs.inner.Nodes.{except_in, index_trees, junction, paths_in, updates_in}
 use Rattle.tla_evaluator.specs.inner.Readings.{Reading, outcomes_in, value_in}

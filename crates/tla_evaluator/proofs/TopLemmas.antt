@@ -1,17 +1,14 @@
 -- What a whole job's parts give, by the effects and outcomes of its expanded trees.
 use Rattle.std.specs.Prelude.{IfOk, IfSome, option_copied, unwrap_or}
 use Rattle.tla_values.specs.Sets.{Normal}
-use Rattle.std.proofs.Common.{Bor, Option, None, Result, Ok, Err, ◌≡◌, ℕ, Bool, true, false, ◌&&◌, IsTrue, List, [], ◌∷◌, ◌++◌, Some, suc, ◌+◌, ◌<◌, add-one, drop, drop-cons, get_or, length, map, take, refl, ap, ap₂, ◌∙◌, sym, subst}
-use Rattle.std.specs.List.{All, list_all}
+use Rattle.std.proofs.Common.{Bor, Option, None, Result, Ok, Err, ◌≡◌, ℕ, Bool, true, false, IsTrue, List, [], ◌∷◌, ◌++◌, Some, suc, ◌+◌, ◌<◌, add-one, drop, drop-cons, get_or, length, map, take, refl, ap, ap₂, ◌∙◌, sym, subst}
+use Rattle.std.specs.List.{All}
 use Rattle.std.proofs.lemmas.List.Elements.{All-more}
-use Rattle.tla_meaning.specs.declared.expr.Expr.{Expr, out-Expr}
-use Rattle.tla_meaning.specs.declared.expr.Expr.TheFolds.{fold_out-Expr}
+use Rattle.tla_meaning.specs.declared.expr.Expr.{Expr}
 use Rattle.tla_values.specs.declared.value.Value.{Value}
 use Rattle.tla_meaning.specs.declared.job.Env.{Env}
 use Rattle.tla_meaning.specs.declared.job.Job.{Job}
 use Rattle.tla_meaning.specs.declared.job.State.{State}
-use Rattle.tla_meaning.specs.declared.op.Op.{Op}
-use Rattle.tla_meaning.specs.declared.op.Op.TheVariants as op
 use Rattle.tla_meaning.specs.declared.outcome.Fault.{Fault}
 use Rattle.tla_meaning.specs.declared.outcome.Outcome.{Outcome}
 use Rattle.tla_meaning.specs.declared.outcome.Outcome.TheVariants.{Val, Wrong, Big}
@@ -19,12 +16,12 @@ use Rattle.tla_meaning.specs.Actions.{act, effect_of, effects_and, meaning, outc
 use Rattle.tla_meaning.specs.Executions.{IsYes, constants, first_not_yes, in_cinit, in_init, is_yes, next, no_scope, scope_of, start}
 use Rattle.tla_meaning.specs.Scopes.{Denotation}
 use Rattle.tla_meaning.proofs.Joins.{both_unit}
-use Rattle.tla_meaning.proofs.Views.{and_left, and_right, false≢true}
+use Rattle.tla_meaning.proofs.Views.{false≢true}
 use Rattle.tla_meaning.specs.declared.actions.Assignable.{Assignable}
 use Rattle.tla_meaning.specs.declared.actions.Assignable.TheVariants.{Constants, PrimedVariables, Variables}
 use Rattle.tla_meaning.specs.declared.actions.Effect.{Effect}
 use Rattle.tla_evaluator.specs.inner.Effects.{behind}
-use Rattle.tla_evaluator.specs.Trees.{AreNormal, effect_at, is_expanded, is_expanded_op, value_at}
+use Rattle.tla_evaluator.specs.Trees.{AreNormal, effect_at, is_expanded, value_at}
 use Rattle.tla_evaluator.proofs.ActionNodes.{behind_twice, get_or-default}
 use Rattle.tla_evaluator.proofs.ExpandedLaws.{expanded_is, value_normal}
 use Rattle.tla_meaning.specs.Outcomes.{IsNormalOutcome}

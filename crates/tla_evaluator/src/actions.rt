@@ -119,7 +119,9 @@ impl Context<'_> {
         args: &[Expr],
         assigned: Assignable,
     ) -> Result<Effect, AllocError>
-        ensures { IfOk result (λ f. f ≡ act_in self.now assigned site.entry.place op.now site.entry.names.now args.now) }
+        ensures { IfOk result
+            (λ f. f ≡ act_in self.now assigned site.entry.place op.now site.entry.names.now
+            args.now) }
     {
         let place = site.place;
         match op {
@@ -172,7 +174,9 @@ impl Context<'_> {
         place: Place,
         assigned: Assignable,
     ) -> Result<Effect, AllocError>
-        ensures { IfOk result (λ f. f ≡ if_effect place (outcomes_in self.now args.now) (effects_in self.now assigned args.now)) }
+        ensures { IfOk result
+            (λ f. f ≡ if_effect place (outcomes_in self.now args.now)
+            (effects_in self.now assigned args.now)) }
     {
         match args {
             [guard, yes, no] => match self.guard(guard, place) {
@@ -192,7 +196,9 @@ impl Context<'_> {
         place: Place,
         assigned: Assignable,
     ) -> Result<Effect, AllocError>
-        ensures { IfOk result (λ f. f ≡ case_effect place (outcomes_in self.now args.now) (effects_in self.now assigned args.now)) }
+        ensures { IfOk result
+            (λ f. f ≡ case_effect place (outcomes_in self.now args.now)
+            (effects_in self.now assigned args.now)) }
     {
         let mut i = 0;
         while i + 1 < args.len() {
@@ -216,7 +222,8 @@ impl Context<'_> {
         site: Site<'_>,
         assigned: Assignable,
     ) -> Result<Effect, AllocError>
-        ensures { IfOk result (λ f. f ≡ exists_in self.now assigned site.entry.place site.entry.names.now args.now) }
+        ensures { IfOk result
+            (λ f. f ≡ exists_in self.now assigned site.entry.place site.entry.names.now args.now) }
     {
         let count = site.names.len();
         match self.operands(front(args, count)) {
@@ -241,7 +248,8 @@ impl Context<'_> {
         assigned: Assignable,
     ) -> Result<Effect, AllocError>
         requires { All (λ c. All Normal c) choices.now }
-        ensures { IfOk result (λ f. f ≡ effects_or (map (body_in self.now assigned body.now names.now) choices.now)) }
+        ensures { IfOk result
+            (λ f. f ≡ effects_or (map (body_in self.now assigned body.now names.now) choices.now)) }
     {
         let mut all = fails_by(Fault::NoFault);
         for choice in choices {

@@ -84,7 +84,8 @@ fn kept_of(
     choices: &[List<Value>],
     values: &[Value],
 ) -> Result<Option<Vec<Value>>, AllocError>
-    ensures { IfOk result (λ o. option_map (kept choices.now) (truths values.now) ≡ option_map (λ m. m.items) o) }
+    ensures { IfOk result
+        (λ o. option_map (kept choices.now) (truths values.now) ≡ option_map (λ m. m.items) o) }
 {
     let mut members = Vec::new(alloc);
     for (i, v) in values.iter().enumerate() {
@@ -105,7 +106,8 @@ fn keep_first(
     out: &mut Vec<Value>,
 ) -> Result<(), AllocError>
     ensures { OnOk result ((bs : Items Truth) →
-        out.new.items ++ kept (drop (i + 1) choices.now) bs ≡ out.old.items ++ kept (drop i choices.now) (passes ∷ bs)) }
+        out.new.items ++ kept (drop (i + 1) choices.now) bs ≡ out.old.items ++ kept
+        (drop i choices.now) (passes ∷ bs)) }
 {
     if i < choices.len() {
         if let [first, ..] = choices[i].as_slice() {

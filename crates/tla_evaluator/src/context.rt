@@ -56,7 +56,12 @@ impl<'a> Context<'a> {
         requires narrow { width ≤ 64 }
         requires wide { 4 ≤ width }
         requires normal { AreNormal (bindings bound.items) state.now next.now }
-        ensures { result ≡ record { bound = bindings bound.entry.items; state = state.now; next = next.now; width = width } }
+        ensures { result ≡ record {
+          bound = bindings bound.entry.items;
+          state = state.now;
+          next = next.now;
+          width = width;
+        } }
     {
         Context {
             alloc,
@@ -166,7 +171,8 @@ fn bind_onto<'b>(
     values: &'b [Value],
     bound: &mut Vec<(&'b Text, Option<&'b Value>)>,
 ) -> Result<(), AllocError>
-    ensures { OnOk result (bindings bound.new.items ≡ bindings bound.old.items ++ bound_to names.now values.now) }
+    ensures { OnOk result
+        (bindings bound.new.items ≡ bindings bound.old.items ++ bound_to names.now values.now) }
 {
     for (i, name) in names.iter().enumerate() {
         bound.push((name, values.get(i)))?;

@@ -50,7 +50,8 @@ impl Context<'_> {
 
     #[cycle(eval)]
     fn node(&self, op: &Op, site: Site<'_>, args: &[Expr]) -> Result<Value, Stop>
-        ensures { Gives (node_in self.now site.entry.place op.now site.entry.names.now args.now) result }
+        ensures { Gives (node_in self.now site.entry.place op.now site.entry.names.now args.now)
+            result }
     {
         let place = site.place;
         match op {
@@ -101,7 +102,8 @@ impl Context<'_> {
     #[cycle(eval)]
     fn under(&self, site: Site<'_>, trees: &[Expr], values: &[Value]) -> Result<Value, Stop>
         requires { All Normal values.now }
-        ensures { Gives (first_in (with_names self.now site.entry.names.now values.now) site.entry.place trees.now) result }
+        ensures { Gives (first_in (with_names self.now site.entry.names.now values.now)
+            site.entry.place trees.now) result }
     {
         let inner = (&*self).with(&*site.names, &*values)?;
         inner.first(site.place, trees)
@@ -124,7 +126,8 @@ impl Context<'_> {
     // The values of all operands, or the join of their faults.
     #[cycle(eval)]
     pub(crate) fn operands(&self, trees: &[Expr]) -> Result<List<Value>, Stop>
-        ensures values { GivesAll (joined (outcomes_in self.now trees.now)) (values (outcomes_in self.now trees.now)) result }
+        ensures values { GivesAll (joined (outcomes_in self.now trees.now))
+            (values (outcomes_in self.now trees.now)) result }
         ensures normal { IfOk result (λ vs. All Normal vs) }
     {
         self.is_readable();
@@ -135,7 +138,8 @@ impl Context<'_> {
     // An operator that joins its operands, and then has its row of the table.
     #[cycle(eval)]
     fn strict(&self, op: &Op, place: Place, trees: &[Expr]) -> Result<Value, Stop>
-        ensures { Gives (strict (outcomes_in self.now trees.now) (table (Some self.now.width) place op.now)) result }
+        ensures { Gives (strict (outcomes_in self.now trees.now)
+            (table (Some self.now.width) place op.now)) result }
     {
         let operands = self.operands(trees)?;
         row_of(self.alloc(), op, place, operands.into_vec(), self.width())
@@ -202,7 +206,8 @@ impl Context<'_> {
     // `\in`, `\notin` and `\subseteq`: a value and a set form.
     #[cycle(eval)]
     fn membership(&self, op: &Op, place: Place, trees: &[Expr]) -> Result<Value, Stop>
-        ensures { Gives (in_form place (membership_test op.now place) (outcomes_in self.now trees.now) (forms_in self.now trees.now)) result }
+        ensures { Gives (in_form place (membership_test op.now place)
+            (outcomes_in self.now trees.now) (forms_in self.now trees.now)) result }
     {
         match trees {
             [left, right] => {
@@ -218,7 +223,8 @@ impl Context<'_> {
     // A binder: the domains, and then the body over all members.
     #[cycle(eval)]
     fn binder(&self, op: &Op, site: Site<'_>, args: &[Expr]) -> Result<Value, Stop>
-        ensures { Gives (bound_in self.now site.entry.place op.now site.entry.names.now args.now) result }
+        ensures { Gives (bound_in self.now site.entry.place op.now site.entry.names.now args.now)
+            result }
     {
         let sets = self.operands(front(args, site.names.len()))?;
         match choices_of(self.alloc(), sets.as_slice())? {
@@ -246,8 +252,10 @@ impl Context<'_> {
         choices: &[List<Value>],
     ) -> Result<List<Value>, Stop>
         requires { All (All Normal) choices.now }
-        ensures { GivesAll (joined (bodies_in self.now site.entry.place site.entry.names.now trees.now choices.now))
-            (values (bodies_in self.now site.entry.place site.entry.names.now trees.now choices.now)) result }
+        ensures { GivesAll (joined
+            (bodies_in self.now site.entry.place site.entry.names.now trees.now choices.now))
+            (values (bodies_in self.now site.entry.place site.entry.names.now trees.now
+            choices.now)) result }
     {
         let mut all = nothing(self.alloc());
         for choice in choices {
@@ -260,7 +268,8 @@ impl Context<'_> {
     // EXCEPT: the function and all indexes, and then the updates in order.
     #[cycle(eval)]
     fn except(&self, counts: &[usize], site: Site<'_>, args: &[Expr]) -> Result<Value, Stop>
-        ensures { Gives (except_in self.now site.entry.place counts.now site.entry.names.now args.now) result }
+        ensures { Gives (except_in self.now site.entry.place counts.now site.entry.names.now
+            args.now) result }
     {
         match args {
             [function, ..] => {
@@ -277,7 +286,8 @@ impl Context<'_> {
 
     #[cycle(eval)]
     fn indexes(&self, counts: &[usize], trees: &[Expr]) -> Result<List<(usize, List<Value>)>, Stop>
-        ensures { GivesAll (joined (outcomes_in self.now (index_trees counts.now trees.now))) (paths_in self.now counts.now trees.now) result }
+        ensures { GivesAll (joined (outcomes_in self.now (index_trees counts.now trees.now)))
+            (paths_in self.now counts.now trees.now) result }
     {
         let mut fault = Fault::NoFault;
         let mut paths = Vec::new(self.alloc());
@@ -305,7 +315,9 @@ impl Context<'_> {
         start: Value,
     ) -> Result<Value, Stop>
         requires { Normal start }
-        ensures { Gives (updated site.entry.place (updates_in self.now site.entry.place site.entry.names.now paths.now trees.now) start) result }
+        ensures { Gives (updated site.entry.place
+            (updates_in self.now site.entry.place site.entry.names.now paths.now trees.now) start)
+            result }
     {
         let mut result = start;
         let mut rest = trees;
@@ -327,7 +339,9 @@ impl Context<'_> {
         function: Value,
     ) -> Result<Value, Stop>
         requires { Normal function }
-        ensures { Updates site.entry.place (update_in self.now site.entry.place site.entry.names.now path.now sides.now) function result }
+        ensures { Updates site.entry.place
+            (update_in self.now site.entry.place site.entry.names.now path.now sides.now) function
+            result }
     {
         match at_path(&function, path) {
             Reached::At(old) => {
@@ -364,7 +378,9 @@ impl Context<'_> {
     ) -> Result<Value, Stop>
         requires start { Normal start }
         requires items { All Normal (results items.now) }
-        ensures { Gives (folded (λ a b. first_in (with_names self.now site.entry.names.now (a ∷ b ∷ [])) site.entry.place args.now)
+        ensures { Gives (folded
+            (λ a b. first_in (with_names self.now site.entry.names.now (a ∷ b ∷ []))
+            site.entry.place args.now)
             (results items.now) start) result }
     {
         self.is_readable();
@@ -419,7 +435,8 @@ impl Context<'_> {
     // `Seq(F)` and `SUBSET F`.
     #[cycle(eval)]
     fn one_form(&self, op: &Op, place: Place, trees: &[Expr]) -> Result<SetForm, Stop>
-        ensures { GivesForm (form_of_one place (one_form op.now) (forms_in self.now trees.now)) result }
+        ensures { GivesForm (form_of_one place (one_form op.now) (forms_in self.now trees.now))
+            result }
     {
         match trees {
             [only] => {
@@ -433,7 +450,8 @@ impl Context<'_> {
     // `[S -> F]`: the set S, and the form F.
     #[cycle(eval)]
     fn function_set(&self, place: Place, trees: &[Expr]) -> Result<SetForm, Stop>
-        ensures { GivesForm (function_form place (outcomes_in self.now trees.now) (forms_in self.now trees.now)) result }
+        ensures { GivesForm (function_form place (outcomes_in self.now trees.now)
+            (forms_in self.now trees.now)) result }
     {
         match trees {
             [first, ..] => {

@@ -20,7 +20,8 @@ impl Row<'_> {
     // One function.
     pub(crate) fn function(&self, op: &Op) -> Result<Value, Stop>
         requires { All Normal self.now.operands.now }
-        ensures { Gives (on_function self.now.place (of_function (Some self.now.width) self.now.place op.now)
+        ensures { Gives (on_function self.now.place
+            (of_function (Some self.now.width) self.now.place op.now)
             (map out-Value self.now.operands.now)) result }
     {
         match self.operands {

@@ -39,7 +39,8 @@ impl Row<'_> {
     // Two operands of any kind.
     pub(crate) fn two(&self, op: &Op) -> Result<Value, Stop>
         requires { All Normal self.now.operands.now }
-        ensures { Gives (on_two self.now.place (of_two self.now.place op.now) self.now.operands.now) result }
+        ensures { Gives (on_two self.now.place (of_two self.now.place op.now)
+            self.now.operands.now) result }
     {
         match self.operands {
             [a, b] => self.of_two(op, a, b),

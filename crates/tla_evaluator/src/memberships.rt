@@ -58,7 +58,8 @@ pub(crate) fn functions_from(
     forms: List<SetForm>,
     place: Place,
 ) -> Result<SetForm, Stop>
-    ensures { GivesForm (functions_from place (set_items (out-Value domain)) (map (λ f. Made f) forms)) result }
+    ensures { GivesForm (functions_from place (set_items (out-Value domain))
+        (map (λ f. Made f) forms)) result }
 {
     match domain {
         Value::Set(items) => {

@@ -16,7 +16,8 @@ use tla_values::{List, Value};
 impl Row<'_> {
     // Two numbers.
     pub(crate) fn numbers(&self, op: &Op) -> Result<Value, Stop>
-        ensures { Gives (on_numbers self.now.place (of_numbers (Some self.now.width) self.now.place op.now)
+        ensures { Gives (on_numbers self.now.place
+            (of_numbers (Some self.now.width) self.now.place op.now)
             (map out-Value self.now.operands.now)) result }
     {
         match self.operands {
@@ -65,7 +66,8 @@ impl Row<'_> {
 
     // `-a`.
     pub(crate) fn negative(&self) -> Result<Value, Stop>
-        ensures { Gives (table (Some self.now.width) self.now.place Op.Neg self.now.operands.now) result }
+        ensures { Gives (table (Some self.now.width) self.now.place Op.Neg self.now.operands.now)
+            result }
     {
         match self.operands {
             [Value::Int(a)] => match a.checked_neg() {

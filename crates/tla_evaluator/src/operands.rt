@@ -44,8 +44,11 @@ pub(crate) fn is_sequence(pairs: &[(Value, Value)]) -> bool
 pub(crate) fn value_and_items(operands: Vec<Value>) -> Option<(Value, List<(Value, Value)>)>
     ensures some { IfSome result (λ n. (p : Place) (f : Value → Value → Outcome) →
         fold_over p f operands.items ≡ folded f (results n.1) n.0) }
-    ensures none { IfNone result ((p : Place) (f : Value → Value → Outcome) → fold_over p f operands.items ≡ Outcome.Wrong p) }
-    ensures normal { All Normal operands.items → IfSome result (λ n. Normal n.0 × Normal (Value.Fun n.1)) }
+    ensures none { IfNone result
+        ((p : Place) (f : Value → Value → Outcome) → fold_over p f operands.items ≡ Outcome.Wrong
+        p) }
+    ensures normal { All Normal operands.items → IfSome result
+        (λ n. Normal n.0 × Normal (Value.Fun n.1)) }
 {
     if operands.len() != 2 {
         return None;

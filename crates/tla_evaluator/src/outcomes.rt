@@ -95,7 +95,8 @@ pub(crate) fn nothing<T>(alloc: Global) -> Joined<T>
 
 // One more.
 pub(crate) fn join<T: Drop>(joined: &mut Joined<T>, one: Result<T, Stop>) -> Result<(), AllocError>
-    ensures { OnOk result (Joins joined.old.fault joined.old.items.items one joined.new.fault joined.new.items.items) }
+    ensures { OnOk result
+        (Joins joined.old.fault joined.old.items.items one joined.new.fault joined.new.items.items) }
 {
     match one {
         Ok(x) => {

@@ -16,7 +16,8 @@ use tla_values::{List, Text, Value, copy_text, copy_value, set_of};
 impl Row<'_> {
     // `[a: S, b: T]`.
     pub(crate) fn record_set(&self, names: &List<Text>) -> Result<Value, Stop>
-        ensures { Gives (table None self.now.place (Op.RecSet names.now) self.now.operands.now) result }
+        ensures { Gives (table None self.now.place (Op.RecSet names.now) self.now.operands.now)
+            result }
     {
         match choices_of(self.alloc, self.operands)? {
             Some(lists) => {

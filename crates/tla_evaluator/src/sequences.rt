@@ -17,7 +17,8 @@ use tla_values::{List, Value, copy_value};
 impl Row<'_> {
     // One sequence.
     pub(crate) fn sequence(&self, op: &Op) -> Result<Value, Stop>
-        ensures { Gives (on_sequence self.now.place (of_items (Some self.now.width) self.now.place op.now)
+        ensures { Gives (on_sequence self.now.place
+            (of_items (Some self.now.width) self.now.place op.now)
             (map out-Value self.now.operands.now)) result }
     {
         match self.operands {
@@ -33,7 +34,8 @@ impl Row<'_> {
     }
 
     fn of_items(&self, op: &Op, pairs: &[(Value, Value)]) -> Result<Value, Stop>
-        ensures { Gives (of_items (Some self.now.width) self.now.place op.now (results pairs.now)) result }
+        ensures { Gives (of_items (Some self.now.width) self.now.place op.now (results pairs.now))
+            result }
     {
         match op {
             Op::Len => number(pairs.len() as i128, self.width, self.place),
@@ -95,7 +97,8 @@ impl Row<'_> {
 
     // The items from m to n of a function that is to be a sequence.
     fn part_from(&self, pairs: &List<(Value, Value)>, m: &i128, n: &i128) -> Result<Value, Stop>
-        ensures { Gives (on_items self.now.place (λ xs. part_of self.now.place xs m.now n.now) (items_of pairs.now)) result }
+        ensures { Gives (on_items self.now.place (λ xs. part_of self.now.place xs m.now n.now)
+            (items_of pairs.now)) result }
     {
         if is_sequence(pairs.as_slice()) {
             self.part(pairs.as_slice(), m, n)
@@ -200,7 +203,9 @@ fn bounds(len: usize, m: &i128, n: &i128) -> Option<(usize, usize)>
     requires { m.now ≤ℤ n.now }
     ensures some { IfSome result (λ r.
         (m.now ≡ pos (1 + r.0)) × (n.now ≡ pos r.1) × (r.0 < r.1) × (r.1 ≤ len)) }
-    ensures none { IfNone result ((p : Place) (xs : Items Value) → length xs ≡ len → part_of p xs m.now n.now ≡ Outcome.Wrong p) }
+    ensures none { IfNone result
+        ((p : Place) (xs : Items Value) → length xs ≡ len → part_of p xs m.now n.now ≡
+        Outcome.Wrong p) }
 {
     if 1 <= *m && *n <= len as i128 {
         Some((*m as usize - 1, *n as usize))

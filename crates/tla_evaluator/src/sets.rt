@@ -43,7 +43,8 @@ impl Row<'_> {
 
     // `UNION S`.
     fn union_of_all(&self, sets: &List<Value>) -> Result<Value, Stop>
-        ensures { Gives (on_all_sets self.now.place (λ xss. Outcome.Val (Value.Set (union_all xss))) sets.now) result }
+        ensures { Gives (on_all_sets self.now.place
+            (λ xss. Outcome.Val (Value.Set (union_all xss))) sets.now) result }
     {
         match all_members(self.alloc, sets.as_slice())? {
             Some(members) => {
@@ -57,7 +58,8 @@ impl Row<'_> {
     // Two sets.
     pub(crate) fn sets(&self, op: &Op) -> Result<Value, Stop>
         requires { All Normal self.now.operands.now }
-        ensures { Gives (on_sets self.now.place (of_sets self.now.place op.now) (map out-Value self.now.operands.now)) result }
+        ensures { Gives (on_sets self.now.place (of_sets self.now.place op.now)
+            (map out-Value self.now.operands.now)) result }
     {
         match self.operands {
             [Value::Set(left), Value::Set(right)] => self.of_sets(op, left, right),
@@ -92,7 +94,8 @@ pub(crate) fn truth_values(alloc: Global) -> Result<Value, AllocError>
 
 // The members of all sets, one after another, where all values are sets.
 fn all_members(alloc: Global, sets: &[Value]) -> Result<Option<Vec<Value>>, AllocError>
-    ensures { IfOk result (λ o. option_map all_of (all_set_items sets.now) ≡ option_map (λ v. v.items) o) }
+    ensures { IfOk result
+        (λ o. option_map all_of (all_set_items sets.now) ≡ option_map (λ v. v.items) o) }
 {
     let mut members = Vec::new(alloc);
     for v in sets {
@@ -159,7 +162,8 @@ fn sublists(alloc: Global, items: &[Value]) -> Result<Vec<List<Value>>, AllocErr
 
 // Each list besides with one more item in front.
 fn add_with_first(alloc: Global, x: &Value, lists: &mut Vec<List<Value>>) -> Result<(), AllocError>
-    ensures { OnOk result (lists.new.items ≡ lists.old.items ++ map (λ ys. x.now ∷ ys) lists.old.items) }
+    ensures { OnOk result
+        (lists.new.items ≡ lists.old.items ++ map (λ ys. x.now ∷ ys) lists.old.items) }
 {
     let mut longer = Vec::new(alloc);
     push_with_first(alloc, x, lists.as_slice(), &mut longer)?;
@@ -187,7 +191,8 @@ pub(crate) fn choices_of(
     alloc: Global,
     sets: &[Value],
 ) -> Result<Option<Vec<List<Value>>>, AllocError>
-    ensures { IfOk result (λ o. option_map choices (all_set_items sets.now) ≡ option_map (λ cs. cs.items) o) }
+    ensures { IfOk result
+        (λ o. option_map choices (all_set_items sets.now) ≡ option_map (λ cs. cs.items) o) }
 {
     match sets {
         [] => {

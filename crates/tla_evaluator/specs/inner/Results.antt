@@ -1,6 +1,6 @@
 -- What the calls answer.
 use Rattle.std.specs.Prelude.{List, [], ◌∷◌, ◌++◌, if◌then◌else◌}
-use Rattle.tla_values.specs.Sets.{Normal, arguments, insert_pair, member}
+use Rattle.tla_values.specs.Sets.{arguments, insert_pair, member}
 use Rattle.tla_values.specs.declared.value.Value.{Value}
 
 -- the function with one more pair, where its argument is a new one

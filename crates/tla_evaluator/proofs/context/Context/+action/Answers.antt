@@ -1,23 +1,14 @@
-use Rattle.std.proofs.Common.{arith, true, false, ◌≡◌, ℕ, Bool, ◌<◌, ◌≤◌, List, get_or, length, option_map, take, Err, ap, ap₂, refl, sym, ◌∙◌}
-use Rattle.std.specs.List.{All, list_any}
-use Rattle.std.proofs.lemmas.List.Elements.{All-same}
-use Rattle.tla_values.specs.Sets.{Normal}
-use Rattle.tla_values.specs.declared.value.Value.{Value}
+use Rattle.std.proofs.Common.{arith, true, false, ◌≤◌, length, option_map, ap, ap₂, refl, sym, ◌∙◌}
 use Rattle.tla_meaning.specs.declared.outcome.Fault.TheVariants.{NoFault}
 use denote.Param.Weighed.{most}
-use Rattle.tla_meaning.specs.declared.expr.Expr.{Expr, out-Expr, size-Expr}
-use Rattle.tla_meaning.specs.Actions.{case_effect, effects_and, effects_or, if_effect}
+use Rattle.tla_meaning.specs.declared.expr.Expr.{out-Expr, size-Expr}
 use Rattle.tla_meaning.specs.Operators.{yes_no}
-use Rattle.tla_meaning.specs.declared.actions.Assignable.{Assignable}
 use Rattle.tla_evaluator.specs.inner.Effects.{act_in, acts}
-use Rattle.tla_evaluator.specs.inner.Mentions.{mentions}
-use Rattle.tla_evaluator.specs.inner.Readings.{effect_in, effects_in, outcomes_in, value_in}
+use Rattle.tla_evaluator.specs.inner.Readings.{effect_in, value_in}
 use Rattle.tla_evaluator.proofs.ActionNodes.{is_now, act_is_node, acts_by_value, and_next, or_next, bodies_next, case_false, case_fault, case_true, if_fault, if_taken, choice_fails, exists_body, no_deeper}
 use Rattle.std.proofs.lemmas.Result.{IfOk-weaker}
-use Rattle.tla_meaning.specs.Outcomes.{joined, values}
 use Rattle.tla_evaluator.specs.inner.Gives.{FailsBy}
 use Rattle.tla_evaluator.proofs.ListSteps.{members_normal}
-use Rattle.tla_evaluator.proofs.StopLemmas.{gives_all_as}
 use Rattle.tla_evaluator.proofs.context.Context.+action.Goals as goal
 
 pub all_effects-loop-e-preserved : goal.all_effects-loop-e-preserved

@@ -1,4 +1,4 @@
-use Rattle.std.proofs.Common.{◌≡◌, ℕ, ◌+◌, ◌≤◌, ◌∙◌, ◌++◌, ◌∷◌, [], List, true, false, ap, arith, drop, get_or, refl, rules, subst, sym, Some, Err}
+use Rattle.std.proofs.Common.{◌≡◌, ℕ, ◌+◌, ◌≤◌, ◌∙◌, ◌++◌, ◌∷◌, [], List, true, false, ap, arith, drop, get_or, refl, subst, sym, Err}
 use Rattle.std.proofs.lemmas.Grind.{common_steps}
 use Rattle.std.proofs.lemmas.Result.{err_from_is_err_and}
 use Rattle.std.specs.Prelude.{option_map}
@@ -6,7 +6,7 @@ use Rattle.std.specs.List.{All}
 use denote.Param.Weighed.{most}
 use Rattle.tla_values.specs.Sets.{Normal}
 use Rattle.tla_values.specs.declared.value.Value.{Value}
-use Rattle.tla_meaning.specs.declared.expr.Expr.{Expr, out-Expr, size-Expr}
+use Rattle.tla_meaning.specs.declared.expr.Expr.{Expr, out-Expr}
 use Rattle.tla_meaning.specs.declared.forms.SetForm.TheVariants.{Records, Tuples}
 use Rattle.tla_meaning.specs.declared.outcome.Outcome.{Outcome}
 use Rattle.tla_meaning.specs.declared.outcome.Outcome.TheVariants.{Val}
@@ -14,8 +14,7 @@ use Rattle.tla_meaning.specs.Forms.{Made, all_set_forms, results}
 use Rattle.tla_meaning.specs.Meaning.{fold_over, folded, form_of_one, in_form, plain, updated}
 use Rattle.tla_meaning.specs.Operators.{yes_no}
 use Rattle.tla_meaning.specs.Outcomes.{join_faults, joined, strict, values}
-use Rattle.tla_meaning.specs.Scopes.{bound_to}
-use Rattle.tla_evaluator.specs.inner.Nodes.{form_node, index_trees, one_form, membership_test, node_in, paths_in, update_in, updates_in}
+use Rattle.tla_evaluator.specs.inner.Nodes.{form_node, index_trees, one_form, membership_test, node_in, paths_in, update_in}
 use Rattle.tla_evaluator.specs.inner.Readings.{first_in, form_in, forms_in, outcomes_in, value_in, with_names}
 use Rattle.tla_evaluator.proofs.EvalSteps.{case_goes, fault_done, fault_next, same_item, values_done, values_next}
 use Rattle.tla_evaluator.proofs.FormLoops.{form_fault_next, forms_next, function_parts, if_case}
