@@ -1,6 +1,6 @@
 -- What the effect of a tree is, for each operator at its node.
 use Rattle.std.specs.Prelude.{if◌then◌else◌}
-use Rattle.std.proofs.Common.{◌≡◌, ℕ, zero, suc, ◌<◌, ◌≤◌, ◌+◌, Bool, true, false, not, ◌||◌, List, [], ◌∷◌, ◌++◌, drop, get_or, length, map, replicate, take, Option, Some, None, option_map, Result, IfOk, refl, ap, ap₂, ◌∙◌, sym, subst, arith, drop-cons, add-one}
+use Rattle.std.proofs.Common.{◌≡◌, ℕ, zero, suc, ◌<◌, ◌≤◌, ◌+◌, Bool, true, false, not, ◌||◌, List, [], ◌∷◌, ◌++◌, drop, get_or, length, map, replicate, take, Option, Some, None, option_map, Result, Err, IfOk, refl, ap, ap₂, ◌∙◌, sym, subst, arith, drop-cons, add-one}
 use Rattle.std.specs.List.{list_any}
 use denote.Param.Weighed.{at_most, most}
 use Rattle.tla_values.specs.Order.{Layer}
@@ -17,17 +17,24 @@ use Rattle.tla_meaning.specs.declared.place.Place.{Place}
 use Rattle.tla_meaning.specs.declared.outcome.Fault.{Fault}
 use Rattle.tla_meaning.specs.declared.outcome.Fault.TheVariants.{NoFault, IsWrong, IsBig}
 use Rattle.tla_meaning.specs.declared.outcome.Outcome.{Outcome}
-use Rattle.tla_meaning.specs.declared.outcome.Outcome.TheVariants.{Val, Wrong, Big}
+use Rattle.tla_meaning.specs.declared.outcome.Outcome.TheVariants as outcome
 use Rattle.tla_meaning.specs.Actions.{any_mentions, case_effect, effect_of, effects, effects_and, effects_or, exists_effect, fails_by, guard, guarded, if_effect, denotation_of}
 use Rattle.tla_meaning.specs.Meaning.{Meaning, by_truth, choose, inner, child, outcomes, outer, role, view}
 use Rattle.tla_meaning.specs.Operators.{yes_no}
-use Rattle.tla_meaning.specs.Outcomes.{join_faults, joined, fault_or, values}
+use Rattle.tla_meaning.specs.Outcomes.{join_faults, joined, values}
 use Rattle.tla_meaning.specs.Scopes.{Denotation, bound_to, absent}
 use Rattle.tla_meaning.specs.Shapes.{all_set_items, choices}
 use Rattle.tla_meaning.proofs.Joins.{both_assoc, both_same}
 use Rattle.tla_meaning.specs.declared.actions.Assignable.{Assignable}
 use Rattle.tla_meaning.specs.declared.actions.Effect.{Effect}
-use Rattle.tla_evaluator.specs.inner.Effects.{behind, body_effect, either, exists_at, first_effect}
+use Rattle.tla_evaluator.specs.inner.Readings.{Reading, effect_in, value_in}
+use Rattle.tla_evaluator.proofs.NodeLemmas.{false≢true}
+use Rattle.tla_evaluator.specs.inner.Effects.{act_in, acts, behind, body_effect, either, exists_at, first_effect}
+use Rattle.std.proofs.lemmas.Result.{IfOk-weaker}
+use Rattle.std.specs.declared.alloc.AllocError.{AllocError}
+use Rattle.tla_evaluator.specs.declared.stops.Stop.{Stop}
+use Rattle.tla_evaluator.specs.declared.stops.Stop.TheVariants.{Wrong, Big, Memory}
+use Rattle.tla_evaluator.specs.inner.Gives.{FailsBy, Gives}
 use Rattle.tla_evaluator.specs.inner.Mentions.{mentions}
 use Rattle.tla_evaluator.specs.Trees.{effect_at, effects_at, expanded_meaning, expanded_node, outcomes_at, scope_at, is_expanded_op, value_at}
 use Rattle.tla_evaluator.proofs.MentionLaws.{holds_as}
@@ -84,35 +91,12 @@ module _ (w : ℕ) (m : Assignable) (p : Place) (vars : List (List ℕ × Value)
 
 -- ---- one lemma for each operator
 
--- the node is none of those that act otherwise than by their value
-pub record ByValue (o : Op) : Type 0 where
-  pub not_and : o ≡ op.And → ⊥
-  pub not_or : o ≡ op.Or → ⊥
-  pub not_if : o ≡ op.If → ⊥
-  pub not_case : (other : Bool) → o ≡ op.Case other → ⊥
-  pub not_exists : o ≡ op.Exists → ⊥
-  pub not_noted : (x : List ℕ) → o ≡ op.Noted x → ⊥
-
 module _ (w : ℕ) (m : Assignable) (e : Expr) (vars : List (List ℕ × Value)) (s t : State) where
-  by_value : (o : Op) → ByValue o → (sense_at w e vars o).act m s t ≡ effect_of ((sense_at w e vars o).value s t)
-  by_value op.And h = absurd (h.not_and refl)
-  by_value op.Or h = absurd (h.not_or refl)
-  by_value op.If h = absurd (h.not_if refl)
-  by_value (op.Case other) h = absurd (h.not_case other refl)
-  by_value op.Exists h = absurd (h.not_exists refl)
-  by_value (op.Noted x) h = absurd (h.not_noted x refl)
-  by_value o h = refl
-
-  pub at_value : ByValue (out-Expr e).op → effect_at w m e vars s t ≡ effect_of (value_at w e vars s t)
-  at_value h =
-      ap (λ (a : Denotation). a.act m s t) (sense-out w e vars (out-Expr e).op refl) ∙ by_value (out-Expr e).op h
-      ∙ sym (ap (λ (a : Denotation). effect_of (a.value s t)) (sense-out w e vars (out-Expr e).op refl))
-
-  pub at_and : (out-Expr e).op ≡ op.And → effect_at w m e vars s t ≡ effects_and (effects_at w m (out-Expr e).args vars s t)
+  at_and : (out-Expr e).op ≡ op.And → effect_at w m e vars s t ≡ effects_and (effects_at w m (out-Expr e).args vars s t)
   at_and h =
       ap (λ (a : Denotation). a.act m s t) (sense-out w e vars op.And h) ∙ ap effects_and (effects_here w m (out-Expr e).place vars s t (out-Expr e).args)
 
-  pub at_noted : (x : List ℕ) → (out-Expr e).op ≡ op.Noted x → effect_at w m e vars s t ≡ first_effect w m (out-Expr e).place (out-Expr e).args vars s t
+  at_noted : (x : List ℕ) → (out-Expr e).op ≡ op.Noted x → effect_at w m e vars s t ≡ first_effect w m (out-Expr e).place (out-Expr e).args vars s t
   at_noted x h =
       ap (λ (a : Denotation). a.act m s t) (sense-out w e vars (op.Noted x) h) ∙ first_here w m (out-Expr e).place vars s t (out-Expr e).args
 
@@ -142,32 +126,22 @@ module _ (w : ℕ) (m : Assignable) (e : Expr) (vars : List (List ℕ × Value))
   when_marked o f g h is k same =
       ap (λ (a : Denotation). a.act m s t) (sense-out w e vars o h) ∙ is ∙ ap (λ b. by_mark o b f) (marked_here w m p vars s t args ∙ k) ∙ same
 
-  pub at_or : (out-Expr e).op ≡ op.Or → list_any (mentions m) args ≡ true → effect_at w m e vars s t ≡ effects_or (effects_at w m args vars s t)
+  at_or : (out-Expr e).op ≡ op.Or → list_any (mentions m) args ≡ true → effect_at w m e vars s t ≡ effects_or (effects_at w m args vars s t)
   at_or h k = when_marked op.Or (effects_or (effects m here s t)) _ h refl k (ap effects_or (effects_here w m p vars s t args))
 
-  pub at_or_value : (out-Expr e).op ≡ op.Or → list_any (mentions m) args ≡ false → effect_at w m e vars s t ≡ effect_of (value_at w e vars s t)
-  at_or_value h k = unmarked op.Or (effects_or (effects m here s t)) h refl k
-
-  pub at_if : (out-Expr e).op ≡ op.If → list_any (mentions m) args ≡ true →
+  at_if : (out-Expr e).op ≡ op.If → list_any (mentions m) args ≡ true →
       effect_at w m e vars s t ≡ if_effect p (outcomes_at w args vars s t) (effects_at w m args vars s t)
   at_if h k =
       when_marked op.If (if_effect p (outcomes here s t) (effects m here s t)) _ h refl k
       (ap₂ (if_effect p) (outcomes_here w m p vars s t args) (effects_here w m p vars s t args))
 
-  pub at_if_value : (out-Expr e).op ≡ op.If → list_any (mentions m) args ≡ false → effect_at w m e vars s t ≡ effect_of (value_at w e vars s t)
-  at_if_value h k = unmarked op.If (if_effect p (outcomes here s t) (effects m here s t)) h refl k
-
-  pub at_case : (other : Bool) → (out-Expr e).op ≡ op.Case other → list_any (mentions m) args ≡ true →
+  at_case : (other : Bool) → (out-Expr e).op ≡ op.Case other → list_any (mentions m) args ≡ true →
       effect_at w m e vars s t ≡ case_effect p (outcomes_at w args vars s t) (effects_at w m args vars s t)
   at_case other h k =
       when_marked (op.Case other) (case_effect p (outcomes here s t) (effects m here s t)) _ h refl k
       (ap₂ (case_effect p) (outcomes_here w m p vars s t args) (effects_here w m p vars s t args))
 
-  pub at_case_value : (other : Bool) → (out-Expr e).op ≡ op.Case other → list_any (mentions m) args ≡ false →
-      effect_at w m e vars s t ≡ effect_of (value_at w e vars s t)
-  at_case_value other h k = unmarked (op.Case other) (case_effect p (outcomes here s t) (effects m here s t)) h refl k
-
-  pub at_exists : (out-Expr e).op ≡ op.Exists → effect_at w m e vars s t ≡ exists_at w m p (out-Expr e).binds args vars s t
+  at_exists : (out-Expr e).op ≡ op.Exists → effect_at w m e vars s t ≡ exists_at w m p (out-Expr e).binds args vars s t
   at_exists h =
       let xs : List (List ℕ) = (out-Expr e).binds in
       let body : List Value → Effect = λ c.
@@ -177,20 +151,95 @@ module _ (w : ℕ) (m : Assignable) (e : Expr) (vars : List (List ℕ × Value))
       ap (λ (a : Denotation). a.act m s t) (sense-out w e vars op.Exists h)
       ∙ ap₂ (exists_effect p) (domains_here w m p vars s t (length xs) args) same
 
+-- ---- a tree acts as its node does
+
+module _ (r : Reading) (m : Assignable) (e : Expr) where
+  pub act_is_node : acts m (out-Expr e).op (out-Expr e).args ≡ true →
+      act_in r m (out-Expr e).place (out-Expr e).op (out-Expr e).binds (out-Expr e).args ≡ effect_in r m e
+  act_is_node h = by (out-Expr e).op refl h
+    where
+      by : (o : Op) → (out-Expr e).op ≡ o → acts m o (out-Expr e).args ≡ true → act_in r m (out-Expr e).place o (out-Expr e).binds (out-Expr e).args ≡ effect_in r m e
+      by op.And is k = sym (at_and r.width m e r.bound r.state r.next is)
+      by op.Exists is k = sym (at_exists r.width m e r.bound r.state r.next is)
+      by (op.Noted x) is k = sym (at_noted r.width m e r.bound r.state r.next x is)
+      by op.Or is k = sym (at_or r.width m e r.bound r.state r.next is k)
+      by op.If is k = sym (at_if r.width m e r.bound r.state r.next is k)
+      by (op.Case other) is k = sym (at_case r.width m e r.bound r.state r.next other is k)
+      by o is k = absurd (false≢true k)
+
+  abbrev node : Op → Denotation
+  node o = sense_at r.width e r.bound o
+
+  abbrev children : List Denotation
+  children = outer (out-Expr e).place [] (map (expanded_meaning (Some r.width)) (out-Expr e).args) (scope_at r.bound)
+
+  pub acts_by_value : acts m (out-Expr e).op (out-Expr e).args ≡ false → effect_of (value_in r e) ≡ effect_in r m e
+  acts_by_value h = sym (by (out-Expr e).op refl h)
+    where
+      -- where a child would be marked the node acts by its parts
+      unless : (o : Op) (f : Effect) → (out-Expr e).op ≡ o → (node o).act m r.state r.next ≡ by_mark r.width m e r.bound r.state r.next o (any_mentions m children) f →
+          list_any (mentions m) (out-Expr e).args ≡ false → effect_in r m e ≡ effect_of (value_in r e)
+      unless o f is same k = unmarked r.width m e r.bound r.state r.next o f is same k
+
+      plain : (o : Op) → (out-Expr e).op ≡ o → (node o).act m r.state r.next ≡ effect_of ((node o).value r.state r.next) → effect_in r m e ≡ effect_of (value_in r e)
+      plain o is same =
+          ap (λ (a : Denotation). a.act m r.state r.next) (sense-out r.width e r.bound o is) ∙ same
+          ∙ sym (ap (λ (a : Denotation). effect_of (a.value r.state r.next)) (sense-out r.width e r.bound o is))
+
+      by : (o : Op) → (out-Expr e).op ≡ o → acts m o (out-Expr e).args ≡ false → effect_in r m e ≡ effect_of (value_in r e)
+      by op.And is k = absurd (false≢true (sym k))
+      by op.Exists is k = absurd (false≢true (sym k))
+      by (op.Noted x) is k = absurd (false≢true (sym k))
+      by op.Or is k = unless op.Or (effects_or (effects m children r.state r.next)) is refl k
+      by op.If is k = unless op.If (if_effect (out-Expr e).place (outcomes children r.state r.next) (effects m children r.state r.next)) is refl k
+      by (op.Case other) is k = unless (op.Case other) (case_effect (out-Expr e).place (outcomes children r.state r.next) (effects m children r.state r.next)) is refl k
+      by o is k = plain o is refl
+
 -- ---- results
 
 pub is_now : {E : Type 0} (r : Result Effect E) (a b : Effect) → a ≡ b → IfOk r (λ f. f ≡ a) → IfOk r (λ f. f ≡ b)
 is_now r a b e h = subst (λ c. IfOk r (λ f. f ≡ c)) e h
 
-pub first_some : (w : ℕ) (m : Assignable) (q : Place) (es : List Expr) (e : Expr) (vars : List (List ℕ × Value)) (s t : State) →
-    0 < length es → e ≡ get_or es 0 e → effect_at w m e vars s t ≡ first_effect w m q es vars s t
-first_some w m q [] e vars s t some is = absurd (omega arith)
-first_some w m q (x ∷ es) e vars s t some is = ap (λ y. effect_at w m y vars s t) is
+-- ---- members of the domains
 
-pub first_none : (w : ℕ) (m : Assignable) (q : Place) (es : List Expr) (vars : List (List ℕ × Value)) (s t : State) →
-    length es < 1 → fails_by (IsWrong q) ≡ first_effect w m q es vars s t
-first_none w m q [] vars s t none = refl
-first_none w m q (e ∷ es) vars s t none = absurd (omega arith)
+module _ (q : Place) (at_choice : List Value → Effect) where
+  pub members : Option (List (List Value)) → Effect
+  members o = elim o [ None ↦ fails_by (IsWrong q) | Some xss ↦ effects_or (map at_choice (choices xss)) ]
+
+  -- by the fault of the domains
+  abbrev by : List Outcome → Fault → Effect
+  by os f = elim f as (λ _. Effect) [
+    | NoFault ↦ members (all_set_items (values os))
+    | IsWrong r ↦ fails_by (IsWrong r)
+    | IsBig r ↦ fails_by (IsBig r)
+  ]
+
+  pub exists_by : (os : List Outcome) (f : Fault) → joined os ≡ f → exists_effect q os at_choice ≡ by os f
+  unfolding members
+  exists_by os f h = ap (by os) h
+
+  without_fault : (os : List Outcome) → joined os ≡ NoFault → exists_effect q os at_choice ≡ members (all_set_items (values os))
+  unfolding members
+  without_fault os h = exists_by os NoFault h
+
+  at_choices : (o : Option (List (List Value))) (cs : List (List Value)) → option_map choices o ≡ Some cs → members o ≡ effects_or (map at_choice cs)
+  unfolding members
+  at_choices None cs e = absurd (cc)
+  at_choices (Some xss) cs e = let same : choices xss ≡ cs = cc in ap (λ yss. effects_or (map at_choice yss)) same
+
+-- ---- what stops a part
+
+pub value_fails : (r : Result Effect AllocError) (s : Stop) (o : Outcome) → Gives o (Err s) → IfOk r (FailsBy s) → IfOk r (λ f. f ≡ effect_of o)
+value_fails r (Wrong p) o h k = IfOk-weaker r (FailsBy (Wrong p)) (λ f. f ≡ effect_of o) (λ f e. e ∙ ap effect_of (sym h)) k
+value_fails r (Big p) o h k = IfOk-weaker r (FailsBy (Big p)) (λ f. f ≡ effect_of o) (λ f e. e ∙ ap effect_of (sym h)) k
+value_fails r (Memory e) o h k = IfOk-weaker r (FailsBy (Memory e)) (λ f. f ≡ effect_of o) (λ f e. absurd e) k
+
+-- the outcome of every choice by a guard that is stopped
+pub choice_fails : (s : Stop) (q : Place) (o : Outcome) → ((x y : Outcome) → Gives (choose q o x y) (Err s)) → (f : Effect) → FailsBy s f →
+    (z : Outcome) × ((x y : Outcome) → choose q o x y ≡ z) × (f ≡ effect_of z)
+choice_fails (Wrong p) q o h f k = (outcome.Wrong p, h, k)
+choice_fails (Big p) q o h f k = (outcome.Big p, h, k)
+choice_fails (Memory e) q o h f k = absurd k
 
 -- ---- several effects
 
@@ -269,12 +318,6 @@ get_or-default [] i a b lt = absurd (omega arith)
 get_or-default (x ∷ xs) zero a b lt = refl
 get_or-default (x ∷ xs) (suc i) a b lt = get_or-default xs i a b (omega arith)
 
-drop_end : {X : Type 0} (n : ℕ) (xs : List X) → length xs ≤ n → drop n xs ≡ []
-drop_end zero [] le = refl
-drop_end zero (x ∷ xs) le = absurd (omega arith)
-drop_end (suc n) [] le = refl
-drop_end (suc n) (x ∷ xs) le = drop_end n xs (omega arith)
-
 -- a tree behind the first ones is no deeper than all
 pub no_deeper : {X : Type 0} (size : X → ℕ) (n : ℕ) (xs rest : List X) (x : X) → rest ≡ drop n xs → 0 < length rest → x ≡ get_or rest 0 x →
     size x ≤ most size xs
@@ -293,17 +336,17 @@ guard_false q a b = ap (λ l. guard q l a b) (value.outs-Bool false)
 
 -- an outcome that chooses neither of any two is a fault
 pub guard_fault : (q : Place) (o f : Outcome) (a b : Effect) → ((x y : Outcome) → choose q o x y ≡ f) → effect_of f ≡ guarded q o a b
-guard_fault q (Val v) f a b h = go (out-Value v) h
+guard_fault q (outcome.Val v) f a b h = go (out-Value v) h
   where
-    differ : Wrong q ≡ Big q → ⊥
+    differ : outcome.Wrong q ≡ outcome.Big q → ⊥
     differ e = cc
 
     go : (l : Layer Value) → ((x y : Outcome) → by_truth q l x y ≡ f) → effect_of f ≡ guard q l a b
-    go (layer.Bool true) k = absurd (differ (k (Wrong q) (Wrong q) ∙ sym (k (Big q) (Big q))))
-    go (layer.Bool false) k = absurd (differ (k (Wrong q) (Wrong q) ∙ sym (k (Big q) (Big q))))
-    go l k = ap effect_of (sym (k (Wrong q) (Wrong q)))
-guard_fault q (Wrong r) f a b h = ap effect_of (sym (h (Wrong r) (Wrong r)))
-guard_fault q (Big r) f a b h = ap effect_of (sym (h (Wrong r) (Wrong r)))
+    go (layer.Bool true) k = absurd (differ (k (outcome.Wrong q) (outcome.Wrong q) ∙ sym (k (outcome.Big q) (outcome.Big q))))
+    go (layer.Bool false) k = absurd (differ (k (outcome.Wrong q) (outcome.Wrong q) ∙ sym (k (outcome.Big q) (outcome.Big q))))
+    go l k = ap effect_of (sym (k (outcome.Wrong q) (outcome.Wrong q)))
+guard_fault q (outcome.Wrong r) f a b h = ap effect_of (sym (h (outcome.Wrong r) (outcome.Wrong r)))
+guard_fault q (outcome.Big r) f a b h = ap effect_of (sym (h (outcome.Wrong r) (outcome.Wrong r)))
 
 pub if_fault : (w : ℕ) (m : Assignable) (q : Place) (vars : List (List ℕ × Value)) (s t : State) (args : List Expr) (e : Expr) (o f : Outcome) →
     3 ≤ length args → length args < 4 → e ≡ get_or args 0 e → o ≡ value_at w e vars s t → ((x y : Outcome) → choose q o x y ≡ f) →
@@ -316,6 +359,21 @@ if_fault w m q vars s t (a ∷ b ∷ c ∷ []) e o f low high is h k =
     let no : Effect = effect_at w m c vars s t in
     guard_fault q o f yes no k ∙ ap (λ x. guarded q x yes no) (h ∙ ap (λ x. value_at w x vars s t) is)
 if_fault w m q vars s t (a ∷ b ∷ c ∷ d ∷ es) e o f low high is h k = absurd (omega arith)
+
+pub if_taken : (w : ℕ) (m : Assignable) (q : Place) (vars : List (List ℕ × Value)) (s t : State) (args : List Expr) (e y n : Expr) (v : Bool) →
+    3 ≤ length args → length args < 4 → e ≡ get_or args 0 e → y ≡ get_or args 1 y → n ≡ get_or args 2 n → value_at w e vars s t ≡ yes_no v →
+    (if v then effect_at w m y vars s t else effect_at w m n vars s t) ≡ if_effect q (outcomes_at w args vars s t) (effects_at w m args vars s t)
+if_taken w m q vars s t [] e y n v low high ie iy iz h = absurd (omega arith)
+if_taken w m q vars s t (a ∷ []) e y n v low high ie iy iz h = absurd (omega arith)
+if_taken w m q vars s t (a ∷ b ∷ []) e y n v low high ie iy iz h = absurd (omega arith)
+if_taken w m q vars s t (a ∷ b ∷ c ∷ []) e y n v low high ie iy iz h =
+    by v ∙ ap (λ o. guarded q o (effect_at w m y vars s t) (effect_at w m n vars s t)) (sym h ∙ ap (λ x. value_at w x vars s t) ie)
+    ∙ ap₂ (λ x z. guarded q (value_at w a vars s t) (effect_at w m x vars s t) (effect_at w m z vars s t)) iy iz
+  where
+    by : (v : Bool) → (if v then effect_at w m y vars s t else effect_at w m n vars s t) ≡ guarded q (yes_no v) (effect_at w m y vars s t) (effect_at w m n vars s t)
+    by true = sym (guard_true q (effect_at w m y vars s t) (effect_at w m n vars s t))
+    by false = sym (guard_false q (effect_at w m y vars s t) (effect_at w m n vars s t))
+if_taken w m q vars s t (a ∷ b ∷ c ∷ d ∷ es) e y n v low high ie iy iz h = absurd (omega arith)
 
 module _ (w : ℕ) (m : Assignable) (q : Place) (vars : List (List ℕ × Value)) (s t : State) (args : List Expr) where
   -- the cases from the i-th tree on
@@ -358,53 +416,7 @@ module _ (w : ℕ) (m : Assignable) (q : Place) (vars : List (List ℕ × Value)
       guard_fault q o f (effect_at w m d vars s t) (cases (drop (i + 2) args)) k
       ∙ case_here i e d o all lt is (get_or-default args (i + 1) e d lt) h old
 
-  pub case_other : (i : ℕ) (e : Expr) (all : Effect) → length args ≡ i + 1 → e ≡ get_or args i e → cases (drop i args) ≡ all →
-      effect_at w m e vars s t ≡ all
-  case_other i e all last is old =
-      sym (ap cases (drop-cons args i e (omega arith) ∙ ap₂ (λ x es. x ∷ es) (sym is) (drop_end (suc i) args (omega arith)))) ∙ old
-
-  pub case_none : (i : ℕ) (all : Effect) → length args ≤ i → cases (drop i args) ≡ all → fails_by (IsWrong q) ≡ all
-  case_none i all past old = sym (ap cases (drop_end i args past)) ∙ old
-
--- ---- members of the domains
-
-module _ (q : Place) (at_choice : List Value → Effect) where
-  members : Option (List (List Value)) → Effect
-  members o = elim o [ None ↦ fails_by (IsWrong q) | Some xss ↦ effects_or (map at_choice (choices xss)) ]
-
-  -- by the fault of the domains
-  abbrev by : List Outcome → Fault → Effect
-  by os f = elim f as (λ _. Effect) [
-    | NoFault ↦ members (all_set_items (values os))
-    | IsWrong r ↦ fails_by (IsWrong r)
-    | IsBig r ↦ fails_by (IsBig r)
-  ]
-
-  by_fault : (os : List Outcome) (f : Fault) → joined os ≡ f → exists_effect q os at_choice ≡ by os f
-  unfolding members
-  by_fault os f h = ap (by os) h
-
-  without_fault : (os : List Outcome) → joined os ≡ NoFault → exists_effect q os at_choice ≡ members (all_set_items (values os))
-  unfolding members
-  without_fault os h = by_fault os NoFault h
-
-  with_fault : (os : List Outcome) (f : Fault) → joined os ≡ f → ((a b : Outcome) → fault_or f a ≡ fault_or f b) → fails_by f ≡ exists_effect q os at_choice
-  with_fault os NoFault h k = let same : Wrong q ≡ Big q = k (Wrong q) (Big q) in absurd (cc)
-  with_fault os (IsWrong r) h k = sym (by_fault os (IsWrong r) h)
-  with_fault os (IsBig r) h k = sym (by_fault os (IsBig r) h)
-
-  at_choices : (o : Option (List (List Value))) (cs : List (List Value)) → option_map choices o ≡ Some cs → members o ≡ effects_or (map at_choice cs)
-  unfolding members
-  at_choices None cs e = absurd (cc)
-  at_choices (Some xss) cs e = let same : choices xss ≡ cs = cc in ap (λ yss. effects_or (map at_choice yss)) same
-
 module _ (w : ℕ) (m : Assignable) (q : Place) (names : List (List ℕ)) (args : List Expr) (vars : List (List ℕ × Value)) (s t : State) where
-  pub exists_fault : (sets : List Expr) (f : Fault) → sets ≡ take (length names) args → f ≡ joined (outcomes_at w sets vars s t) →
-      ((a b : Outcome) → fault_or f a ≡ fault_or f b) → fails_by f ≡ exists_at w m q names args vars s t
-  exists_fault sets f front fault is =
-      with_fault q (λ c. first_effect w m q (drop (length names) args) (vars ++ bound_to names c) s t) (outcomes_at w (take (length names) args) vars s t) f
-      (ap (λ es. joined (outcomes_at w es vars s t)) (sym front) ∙ sym fault) is
-
   pub exists_body : (sets rest : List Expr) (f : Fault) (vs vs' : List Value) (cs cs' : List (List Value)) (body : Expr) →
       sets ≡ take (length names) args → rest ≡ drop (length names) args →
       f ≡ joined (outcomes_at w sets vars s t) → f ≡ NoFault → vs ≡ values (outcomes_at w sets vars s t) → vs' ≡ vs →

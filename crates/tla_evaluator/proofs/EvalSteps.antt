@@ -1,18 +1,16 @@
 -- Steps of the loops of an evaluation.
 use Rattle.std.specs.Prelude.{IfOk}
-use Rattle.std.proofs.Common.{Result, ◌≡◌, ℕ, zero, suc, ◌+◌, ◌*◌, ◌<◌, ◌≤◌, Bool, true, false, not, List, [], ◌∷◌, ◌++◌, map, drop, get_or, length, refl, ap, ◌∙◌, sym, subst, arith, drop-cons, add-one, append-nil, if◌then◌else◌}
+use Rattle.std.proofs.Common.{Result, ◌≡◌, ℕ, zero, suc, ◌+◌, ◌*◌, ◌<◌, ◌≤◌, Bool, true, false, List, [], ◌∷◌, ◌++◌, map, drop, get_or, length, refl, ap, ◌∙◌, sym, subst, arith, drop-cons, add-one, append-nil, if◌then◌else◌}
 use Rattle.tla_values.specs.declared.value.Value.{Value}
 use Rattle.tla_values.specs.declared.value.Value.TheVariants.{outs-Bool}
 use Rattle.tla_values.specs.declared.value.Value.TheOpen as layer
 use Rattle.tla_meaning.specs.declared.outcome.Fault.{Fault}
-use Rattle.tla_meaning.specs.declared.outcome.Fault.TheVariants.{NoFault}
 use Rattle.tla_meaning.specs.declared.outcome.Outcome.{Outcome}
 use Rattle.tla_meaning.specs.declared.place.Place.{Place}
-use Rattle.tla_meaning.specs.Meaning.{by_truth, case_chosen, choose, conjoined, disjoined}
+use Rattle.tla_meaning.specs.Meaning.{by_truth, case_chosen, choose}
 use Rattle.tla_meaning.specs.Operators.{yes_no}
-use Rattle.tla_meaning.specs.Outcomes.{join_faults, fault_of, joined, strict, fault_or, values}
+use Rattle.tla_meaning.specs.Outcomes.{join_faults, fault_of, joined, values}
 use Rattle.tla_meaning.proofs.Joins.{both_unit}
-use Rattle.tla_evaluator.specs.inner.Nodes.{junction}
 use Rattle.tla_evaluator.proofs.OutcomeLemmas.{fault_step, values_step}
 
 false≢true : false ≡ true → ⊥
@@ -61,59 +59,9 @@ module _ {X : Type 0} (f : X → Outcome) (xs : List X) (i : ℕ) where
 
   pub values_done : (vs : List Value) → length xs ≤ i → vs ++ values (map f (drop i xs)) ≡ values (map f xs) → vs ≡ values (map f xs)
   values_done vs le k = sym (append-nil vs) ∙ ap (λ ys. vs ++ values (map f ys)) (sym (drop_all i xs le)) ∙ k
-
   -- ---- junctions
 
-  pub junction_stop : (d b : Bool) (p : Place) (x : X) (o : Outcome) → i < length xs → x ≡ get_or xs i x → o ≡ f x → o ≡ yes_no b → b ≡ d →
-      junction d p (map f (drop i xs)) ≡ junction d p (map f xs) → yes_no d ≡ junction d p (map f xs)
-  junction_stop d b p x o lt is v y same k =
-      decided d (map f (drop (i + 1) xs))
-      ∙ ap (λ z. junction d p (z ∷ map f (drop (i + 1) xs))) (sym (y ∙ ap yes_no same))
-      ∙ ap (junction d p) (sym (map_next f xs i x o lt is v)) ∙ k
-    where
-      decided : (d : Bool) (os : List Outcome) → yes_no d ≡ junction d p (yes_no d ∷ os)
-      decided true os = sym (chosen true p (yes_no true) (disjoined p os))
-      decided false os = sym (chosen false p (conjoined p os) (yes_no false))
-
-  pub junction_goes : (d b : Bool) (p : Place) (x : X) (o : Outcome) → i < length xs → x ≡ get_or xs i x → o ≡ f x → o ≡ yes_no b → (b ≡ d → ⊥) →
-      junction d p (map f (drop i xs)) ≡ junction d p (map f xs) → junction d p (map f (drop (i + 1) xs)) ≡ junction d p (map f xs)
-  junction_goes d b p x o lt is v y other k =
-      passed d b other (map f (drop (i + 1) xs))
-      ∙ ap (λ z. junction d p (z ∷ map f (drop (i + 1) xs))) (sym y)
-      ∙ ap (junction d p) (sym (map_next f xs i x o lt is v)) ∙ k
-    where
-      passed : (d b : Bool) → (b ≡ d → ⊥) → (os : List Outcome) → junction d p os ≡ junction d p (yes_no b ∷ os)
-      passed true true h os = absurd (h refl)
-      passed true false h os = sym (chosen false p (yes_no true) (disjoined p os))
-      passed false true h os = sym (chosen true p (conjoined p os) (yes_no false))
-      passed false false h os = absurd (h refl)
-
-  pub junction_fault : (d : Bool) (p : Place) (x : X) (o q : Outcome) → i < length xs → x ≡ get_or xs i x → o ≡ f x → ((y z : Outcome) → choose p o y z ≡ q) →
-      junction d p (map f (drop i xs)) ≡ junction d p (map f xs) → q ≡ junction d p (map f xs)
-  junction_fault d p x o q lt is v h k =
-      sym (stopped d (map f (drop (i + 1) xs))) ∙ ap (junction d p) (sym (map_next f xs i x o lt is v)) ∙ k
-    where
-      stopped : (d : Bool) (os : List Outcome) → junction d p (o ∷ os) ≡ q
-      stopped true os = h (yes_no true) (disjoined p os)
-      stopped false os = h (conjoined p os) (yes_no false)
-
-  pub junction_done : (d : Bool) (p : Place) → length xs ≤ i → junction d p (map f (drop i xs)) ≡ junction d p (map f xs) → yes_no (not d) ≡ junction d p (map f xs)
-  junction_done d p le k = ended d ∙ ap (λ ys. junction d p (map f ys)) (sym (drop_all i xs le)) ∙ k
-    where
-      ended : (d : Bool) → yes_no (not d) ≡ junction d p []
-      ended true = refl
-      ended false = refl
-
 -- ---- what is joined
-
--- where there is no fault, the outcome is that of the values
-pub strict_done : (f : Fault) (vs : List Value) (os : List Outcome) (g : List Value → Outcome) → f ≡ NoFault → f ≡ joined os → vs ≡ values os →
-    g vs ≡ strict os g
-strict_done f vs os g none e v = ap (λ h. fault_or h (g vs)) (sym none ∙ e) ∙ ap (λ ws. fault_or (joined os) (g ws)) v
-
-pub strict_fault : (f : Fault) (os : List Outcome) (g : List Value → Outcome) (o : Outcome) → ((x y : Outcome) → fault_or f x ≡ fault_or f y) → f ≡ joined os →
-    fault_or f o ≡ strict os g
-strict_fault f os g o same e = same o (g (values os)) ∙ ap (λ h. fault_or h (g (values os))) e
 
 -- ---- CASE and IF
 
@@ -127,25 +75,15 @@ same_item (y ∷ ys) (suc i) x lt = ap (λ z. z) (other ys i x (get_or ys i x) (
     other (y ∷ ys) zero x z lt = refl
     other (y ∷ ys) (suc i) x z lt = other ys i x z (omega (arith, lt))
 
--- a guard that is TRUE takes its branch, one that is FALSE leaves the rest, and any other is the outcome
-pub case_takes : (p : Place) (c a : Outcome) (os : List Outcome) → c ≡ yes_no true → a ≡ case_chosen p (c ∷ a ∷ os)
-case_takes p c a os is = sym (ap (λ z. choose p z a (case_chosen p os)) is ∙ chosen true p a (case_chosen p os))
-
 pub case_leaves : (p : Place) (c a : Outcome) (os : List Outcome) → c ≡ yes_no false → case_chosen p os ≡ case_chosen p (c ∷ a ∷ os)
 case_leaves p c a os is = sym (ap (λ z. choose p z a (case_chosen p os)) is ∙ chosen false p a (case_chosen p os))
 
 module _ {X : Type 0} (f : X → Outcome) (xs : List X) (i : ℕ) where
-  two_next : (x y : X) → 2 * i + 1 < length xs → x ≡ get_or xs (2 * i) x → y ≡ get_or xs (2 * i + 1) y →
+  pub two_next : (x y : X) → 2 * i + 1 < length xs → x ≡ get_or xs (2 * i) x → y ≡ get_or xs (2 * i + 1) y →
       map f (drop (2 * i) xs) ≡ f x ∷ f y ∷ map f (drop (2 * (i + 1)) xs)
   two_next x y lt a b =
       map_next f xs (2 * i) x (f x) (omega (arith, lt)) a refl
       ∙ ap (λ os. f x ∷ os) (map_next f xs (2 * i + 1) y (f y) lt b refl ∙ ap (λ n. f y ∷ map f (drop n xs)) (let e : 2 * i + 1 + 1 ≡ 2 * (i + 1) = omega arith in e))
-
-  pub case_stop : (x y : X) (p : Place) (c a : Outcome) → 2 * i + 1 < length xs → x ≡ get_or xs (2 * i) x → y ≡ get_or xs (2 * i + 1) y →
-      c ≡ f x → a ≡ f y → c ≡ yes_no true → case_chosen p (map f (drop (2 * i) xs)) ≡ case_chosen p (map f xs) → a ≡ case_chosen p (map f xs)
-  case_stop x y p c a lt ix iy vc va is k =
-      va ∙ case_takes p (f x) (f y) (map f (drop (2 * (i + 1)) xs)) (sym vc ∙ is)
-      ∙ ap (case_chosen p) (sym (two_next x y lt ix iy)) ∙ k
 
   pub case_fault : (x : X) (p : Place) (c q : Outcome) → 2 * i + 1 < length xs → x ≡ get_or xs (2 * i) x →
       c ≡ f x → ((y z : Outcome) → choose p c y z ≡ q) → case_chosen p (map f (drop (2 * i) xs)) ≡ case_chosen p (map f xs) → q ≡ case_chosen p (map f xs)

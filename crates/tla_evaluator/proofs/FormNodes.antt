@@ -11,7 +11,8 @@ use Rattle.tla_meaning.specs.Forms.{Made}
 use Rattle.tla_meaning.specs.declared.forms.SetForm.TheVariants.{AllInts, AllNats, AllTexts, Records, Sequences, Subsets, Tuples}
 use Rattle.tla_meaning.specs.Meaning.{Meaning, form_of_all, form_of_one, function_form, plain, role, view}
 use Rattle.tla_meaning.specs.Scopes.{Scope, Denotation}
-use Rattle.tla_evaluator.specs.inner.Nodes.{has_form}
+use Rattle.tla_evaluator.specs.inner.Nodes.{form_node, has_form}
+use Rattle.tla_evaluator.specs.inner.Readings.{Reading, form_in}
 use Rattle.tla_evaluator.specs.Trees.{first_form_at, form_at, forms_at, outcomes_at, scope_at, is_expanded_op, value_at}
 use Rattle.tla_evaluator.proofs.TreeLemmas.{sense_at, sense_gone}
 use Rattle.tla_evaluator.proofs.NodeLemmas.{false≢true, here_first_form, here_forms, here_outcomes, children}
@@ -53,31 +54,31 @@ module _ (w : ℕ) (e : Expr) (vars : List (List ℕ × Value)) (s t : State) wh
   form_is : (o : Op) → (out-Expr e).op ≡ o → IsTrue (is_expanded_op o) → form_at w e vars s t ≡ (sense o).form s t
   form_is o is h = ap (λ (a : Denotation). a.form s t) (sense_at (Some w) e (scope_at vars) o is h)
 
-  pub ints_is : (out-Expr e).op ≡ op.IntSet → Made AllInts ≡ form_at w e vars s t
+  ints_is : (out-Expr e).op ≡ op.IntSet → Made AllInts ≡ form_at w e vars s t
   ints_is is = sym (form_is op.IntSet is refl)
 
-  pub nats_is : (out-Expr e).op ≡ op.NatSet → Made AllNats ≡ form_at w e vars s t
+  nats_is : (out-Expr e).op ≡ op.NatSet → Made AllNats ≡ form_at w e vars s t
   nats_is is = sym (form_is op.NatSet is refl)
 
-  pub texts_is : (out-Expr e).op ≡ op.StringSet → Made AllTexts ≡ form_at w e vars s t
+  texts_is : (out-Expr e).op ≡ op.StringSet → Made AllTexts ≡ form_at w e vars s t
   texts_is is = sym (form_is op.StringSet is refl)
 
-  pub sequences_is : (out-Expr e).op ≡ op.SeqSet → form_of_one place Sequences (forms_at w trees vars s t) ≡ form_at w e vars s t
+  sequences_is : (out-Expr e).op ≡ op.SeqSet → form_of_one place Sequences (forms_at w trees vars s t) ≡ form_at w e vars s t
   sequences_is is = sym (form_is op.SeqSet is refl ∙ ap (form_of_one place Sequences) (here_forms w place names vars s t trees))
 
-  pub subsets_is : (out-Expr e).op ≡ op.Powerset → form_of_one place Subsets (forms_at w trees vars s t) ≡ form_at w e vars s t
+  subsets_is : (out-Expr e).op ≡ op.Powerset → form_of_one place Subsets (forms_at w trees vars s t) ≡ form_at w e vars s t
   subsets_is is = sym (form_is op.Powerset is refl ∙ ap (form_of_one place Subsets) (here_forms w place names vars s t trees))
 
-  pub functions_is : (out-Expr e).op ≡ op.FunSet → function_form place (outcomes_at w trees vars s t) (forms_at w trees vars s t) ≡ form_at w e vars s t
+  functions_is : (out-Expr e).op ≡ op.FunSet → function_form place (outcomes_at w trees vars s t) (forms_at w trees vars s t) ≡ form_at w e vars s t
   functions_is is = sym (form_is op.FunSet is refl ∙ ap₂ (function_form place) (here_outcomes w place names vars s t trees) (here_forms w place names vars s t trees))
 
-  pub records_is : (ns : List (List ℕ)) → (out-Expr e).op ≡ op.RecSet ns → form_of_all place (Records ns) (forms_at w trees vars s t) ≡ form_at w e vars s t
+  records_is : (ns : List (List ℕ)) → (out-Expr e).op ≡ op.RecSet ns → form_of_all place (Records ns) (forms_at w trees vars s t) ≡ form_at w e vars s t
   records_is ns is = sym (form_is (op.RecSet ns) is refl ∙ ap (form_of_all place (Records ns)) (here_forms w place names vars s t trees))
 
-  pub tuples_is : (out-Expr e).op ≡ op.Product → form_of_all place Tuples (forms_at w trees vars s t) ≡ form_at w e vars s t
+  tuples_is : (out-Expr e).op ≡ op.Product → form_of_all place Tuples (forms_at w trees vars s t) ≡ form_at w e vars s t
   tuples_is is = sym (form_is op.Product is refl ∙ ap (form_of_all place Tuples) (here_forms w place names vars s t trees))
 
-  pub noted_form_is : (x : List ℕ) → (out-Expr e).op ≡ op.Noted x → first_form_at w place trees vars s t ≡ form_at w e vars s t
+  noted_form_is : (x : List ℕ) → (out-Expr e).op ≡ op.Noted x → first_form_at w place trees vars s t ≡ form_at w e vars s t
   noted_form_is x is = sym (form_is (op.Noted x) is refl ∙ here_first_form w place names vars s t trees)
 
   by_is_expanded : (b : Bool) → is_expanded_op (out-Expr e).op ≡ b → has_form (out-Expr e).op ≡ false → plain (value_at w e vars s t) ≡ form_at w e vars s t
@@ -92,26 +93,18 @@ module _ (w : ℕ) (e : Expr) (vars : List (List ℕ × Value)) (s t : State) wh
   pub plain_is : has_form (out-Expr e).op ≡ false → plain (value_at w e vars s t) ≡ form_at w e vars s t
   plain_is h = by_is_expanded (is_expanded_op (out-Expr e).op) refl h
 
--- an operator that describes no set
-pub record IsNoForm (o : Op) : Type 0 where
-  pub not_ints : o ≡ op.IntSet → ⊥
-  pub not_nats : o ≡ op.NatSet → ⊥
-  pub not_texts : o ≡ op.StringSet → ⊥
-  pub not_sequences : o ≡ op.SeqSet → ⊥
-  pub not_subsets : o ≡ op.Powerset → ⊥
-  pub not_functions : o ≡ op.FunSet → ⊥
-  pub not_records : (ns : List (List ℕ)) → o ≡ op.RecSet ns → ⊥
-  pub not_tuples : o ≡ op.Product → ⊥
-  pub not_noted : (x : List ℕ) → o ≡ op.Noted x → ⊥
-
-pub has_no_form : (o : Op) → IsNoForm o → has_form o ≡ false
-has_no_form op.IntSet h = absurd (h.not_ints refl)
-has_no_form op.NatSet h = absurd (h.not_nats refl)
-has_no_form op.StringSet h = absurd (h.not_texts refl)
-has_no_form op.SeqSet h = absurd (h.not_sequences refl)
-has_no_form op.Powerset h = absurd (h.not_subsets refl)
-has_no_form op.FunSet h = absurd (h.not_functions refl)
-has_no_form (op.RecSet ns) h = absurd (h.not_records ns refl)
-has_no_form op.Product h = absurd (h.not_tuples refl)
-has_no_form (op.Noted x) h = absurd (h.not_noted x refl)
-has_no_form o h = refl
+pub form_is_node : (r : Reading) (e : Expr) → has_form (out-Expr e).op ≡ true →
+    form_node r (out-Expr e).place (out-Expr e).op (out-Expr e).args ≡ form_in r e
+form_is_node r e h = by (out-Expr e).op refl h
+  where
+    by : (o : Op) → (out-Expr e).op ≡ o → has_form o ≡ true → form_node r (out-Expr e).place o (out-Expr e).args ≡ form_in r e
+    by op.IntSet is k = ints_is r.width e r.bound r.state r.next is
+    by op.NatSet is k = nats_is r.width e r.bound r.state r.next is
+    by op.StringSet is k = texts_is r.width e r.bound r.state r.next is
+    by op.SeqSet is k = sequences_is r.width e r.bound r.state r.next is
+    by op.Powerset is k = subsets_is r.width e r.bound r.state r.next is
+    by op.FunSet is k = functions_is r.width e r.bound r.state r.next is
+    by (op.RecSet names) is k = records_is r.width e r.bound r.state r.next names is
+    by op.Product is k = tuples_is r.width e r.bound r.state r.next is
+    by (op.Noted x) is k = noted_form_is r.width e r.bound r.state r.next x is
+    by o is k = absurd (false≢true k)

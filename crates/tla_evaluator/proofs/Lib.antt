@@ -14,10 +14,10 @@ pub mod MentionLemmas
 pub mod NameLemmas
 pub mod NodeLemmas
 pub mod NormalBinds
-pub mod NormalValues
+pub mod RowLemmas
 pub mod NumberLemmas
 pub mod OutcomeLemmas
-pub mod Rows
 pub mod TopLemmas
 pub mod TreeLemmas
 pub mod TreeSizes
+pub mod StopLemmas

@@ -63,13 +63,11 @@ part_is p xs m n i j em en lt le =
     nat_le-true : (a b : ℕ) → a ≤ b → nat_le a b ≡ true
     nat_le-true a b h = le-leb a b h
 
-pub part_value : (p : Place) (ps qs : List (Value × Value)) (m n m' n' : ℤ) (i j len : ℕ) (v : Value) → m' ≡ m → n' ≡ n →
-    m' ≡ pos (1 + i) → n' ≡ pos j → i < j → j ≤ len → len ≡ length ps → qs ≡ ps →
-    v ≡ sequence (results (take (j - i) (drop i qs))) → Val v ≡ part_of p (results ps) m n
-part_value p ps qs m n m' n' i j len v sm sn em en lt le el eq ev =
+pub part_value : (p : Place) (ps : List (Value × Value)) (m n : ℤ) (i j : ℕ) (v : Value) → m ≡ pos (1 + i) → n ≡ pos j → i < j → j ≤ length ps →
+    v ≡ sequence (results (take (j - i) (drop i ps))) → part_of p (results ps) m n ≡ Val v
+part_value p ps m n i j v em en lt le ev =
     let k : length (results ps) ≡ length ps = simp length-map in
-    ap Val (ev ∙ ap (λ l. sequence (results (take (j - i) (drop i l)))) eq ∙ ap sequence (results_range ps i j))
-    ∙ sym (part_is p (results ps) m n i j (sym sm ∙ em) (sym sn ∙ en) lt (omega (arith, k)))
+    part_is p (results ps) m n i j em en lt (omega (arith, k)) ∙ ap Val (sym (ev ∙ ap sequence (results_range ps i j)))
 
 -- ---- pairs of two lists
 

@@ -1,5 +1,5 @@
 -- Steps of the loops over indexes, updates and folds.
-use Rattle.std.proofs.Common.{◌≡◌, ℕ, zero, suc, ◌+◌, ◌<◌, ◌≤◌, List, [], ◌∷◌, ◌++◌, take, drop, get_or, length, refl, ap, ◌∙◌, sym, subst, Some, arith, drop-cons, add-one, append_assoc, option_map}
+use Rattle.std.proofs.Common.{◌≡◌, ℕ, zero, suc, ◌+◌, ◌<◌, ◌≤◌, List, [], ◌∷◌, ◌++◌, take, drop, get_or, length, refl, ap, ◌∙◌, sym, subst, Some, arith, drop-cons, add-one, append_assoc, option_map, Err}
 use Rattle.std.specs.List.{All, AllByRecursion}
 use Rattle.std.proofs.lemmas.List.Elements.{All-from_recursion, recursion_from_All}
 use denote.Param.Weighed.{most}
@@ -11,16 +11,17 @@ use Rattle.tla_meaning.specs.declared.expr.Expr.{Expr}
 use Rattle.tla_meaning.specs.declared.job.State.{State}
 use Rattle.tla_meaning.specs.declared.outcome.Fault.{Fault}
 use Rattle.tla_meaning.specs.declared.outcome.Outcome.{Outcome}
-use Rattle.tla_meaning.specs.declared.outcome.Outcome.TheVariants.{Val, Wrong, Big}
+use Rattle.tla_meaning.specs.declared.outcome.Outcome.TheVariants.{Val, Wrong}
 use Rattle.tla_meaning.specs.declared.place.Place.{Place}
 use Rattle.tla_meaning.specs.Forms.{results}
 use Rattle.tla_meaning.specs.Meaning.{At, NoFunction, Outside, Reached, Update, at_path, folded, set_path, updated}
-use Rattle.tla_meaning.specs.Scopes.{bound_to}
 use Rattle.tla_meaning.specs.Shapes.{all_set_items, choices}
 use Rattle.tla_meaning.specs.Outcomes.{join_faults, joined, values, with_value}
 use Rattle.tla_meaning.proofs.Joins.{both_assoc, joined_append}
 use Rattle.tla_meaning.specs.Outcomes.{IsNormalOutcome}
 use Rattle.tla_meaning.proofs.NormalNodes.{NormalOutcomes, NormalReached, at_path_normal, values_normal}
+use Rattle.tla_evaluator.specs.declared.stops.Stop.{Stop}
+use Rattle.tla_evaluator.specs.inner.Gives.{Gives}
 use Rattle.tla_evaluator.specs.inner.Nodes.{index_trees, paths_at, update_at, updates_at}
 use Rattle.tla_evaluator.specs.Trees.{AreNormal, first_at, outcomes_at, value_at}
 use Rattle.tla_evaluator.proofs.ExpandedLaws.{value_normal}
@@ -120,35 +121,11 @@ module _ (p : Place) (u : Update) (us : List Update) (f : Value) where
   unfolding by
   updated_at old new at is = ap (λ o. with_value o (λ new. updated p us (set_path u.0 new f))) is ∙ ap by at
 
-  pub updated_outside : Outside ≡ at_path f u.0 → updated p us f ≡ updated p (u ∷ us) f
-  unfolding by
-  updated_outside at = ap by at
-
-  pub updated_nowhere : NoFunction ≡ at_path f u.0 → Wrong p ≡ updated p (u ∷ us) f
-  unfolding by
-  updated_nowhere at = ap by at
-
-  pub updated_fault : (old : Value) (o : Outcome) → At old ≡ at_path f u.0 → o ≡ u.1 old → ((v : Value) → o ≡ Val v → ⊥) → o ≡ updated p (u ∷ us) f
-  unfolding by
-  updated_fault old (Val v) at is never = absurd (never v refl)
-  updated_fault old (Wrong q) at is never = ap (λ o. with_value o (λ new. updated p us (set_path u.0 new f))) is ∙ ap by at
-  updated_fault old (Big q) at is never = ap (λ o. with_value o (λ new. updated p us (set_path u.0 new f))) is ∙ ap by at
-
 module _ {X : Type 0} (f : X → ℕ) where
-  -- what stands behind the first ones is no deeper
-  pub behind_no_deeper : (n : ℕ) (xs ys zs : List X) → zs ≡ drop n ys → ys ≡ xs → most f zs ≤ most f xs
-  behind_no_deeper n xs ys zs e same = subst (λ l. most f l ≤ most f xs) (sym (e ∙ ap (drop n) same)) (most-drop f n xs)
-
   pub further_no_deeper : (n : ℕ) (m : ℕ) (ys zs : List X) → zs ≡ drop n ys → most f ys ≤ m → most f zs ≤ m
   further_no_deeper n m ys zs e le =
       let here : most f zs ≤ most f ys = subst (λ l. most f l ≤ most f ys) (sym e) (most-drop f n ys) in
       omega (arith, here, le)
-
--- a body under more names, by the parts that a program has
-pub under_same : (w : ℕ) (p : Place) (vars : List (List ℕ × Value)) (s t : State) (es fs : List Expr) (xs ys : List (List ℕ)) (vs us : List Value) →
-    es ≡ fs → xs ≡ ys → vs ≡ us → first_at w p es (vars ++ bound_to xs vs) s t ≡ first_at w p fs (vars ++ bound_to ys us) s t
-under_same w p vars s t es fs xs ys vs us a b c =
-    ap (λ z. first_at w p z (vars ++ bound_to xs vs) s t) a ∙ ap (λ z. first_at w p fs (vars ++ bound_to z vs) s t) b ∙ ap (λ z. first_at w p fs (vars ++ bound_to ys z) s t) c
 
 pub one_is_normal : (vs us : List Value) (a : Value) → vs ≡ us → us ≡ a ∷ [] → Normal a → All Normal vs
 one_is_normal vs us a e d h = subst (λ l. All Normal l) (sym (e ∙ d)) (All-from_recursion Normal (a ∷ []) (h, tt))
@@ -184,12 +161,12 @@ module _ (w : ℕ) (p : Place) (xs : List (List ℕ)) (vars : List (List ℕ × 
       step (updates_at w p xs (drop (i + 1) paths) next vars s t)
       ∙ ap (λ us. updated p us f) (updates_next path sides next lt is pa sa na) ∙ k
 
-  pub updated_ends : (path : List Value) (sides : List Expr) (f : Value) (o all : Outcome) → i < length paths → u ≡ get_or paths i u → path ≡ u.1 → sides ≡ drop u.0 rest →
-      ((us : List Update) → o ≡ updated p (update_at w p xs path sides vars s t ∷ us) f) →
-      updated p (updates_at w p xs (drop i paths) rest vars s t) f ≡ all → o ≡ all
-  updated_ends path sides f o all lt is pa sa step k =
-      step (updates_at w p xs (drop (i + 1) paths) (drop 1 sides) vars s t)
-      ∙ ap (λ us. updated p us f) (updates_next path sides (drop 1 sides) lt is pa sa refl) ∙ k
+  pub updated_stops : (z : Stop) (path : List Value) (sides : List Expr) (f : Value) (all : Outcome) → i < length paths → u ≡ get_or paths i u → path ≡ u.1 → sides ≡ drop u.0 rest →
+      ((us : List Update) → Gives (updated p (update_at w p xs path sides vars s t ∷ us) f) (Err z)) →
+      updated p (updates_at w p xs (drop i paths) rest vars s t) f ≡ all → Gives all (Err z)
+  updated_stops z path sides f all lt is pa sa step k =
+      subst (λ q. Gives q (Err z)) (ap (λ us. updated p us f) (updates_next path sides (drop 1 sides) lt is pa sa refl) ∙ k)
+      (step (updates_at w p xs (drop (i + 1) paths) (drop 1 sides) vars s t))
 
 -- ---- the next item of a fold
 
@@ -203,11 +180,3 @@ module _ (f : Value → Value → Outcome) (items : List (Value × Value)) (i : 
   folded_next v u all lt is h k =
       ap (λ o. with_value o (folded f (results (drop (i + 1) items)))) h
       ∙ ap (λ xs. folded f xs v) (sym (results_next lt is)) ∙ k
-
-  pub folded_fault : (v : Value) (o all : Outcome) → i < length items → x ≡ get_or items i x → o ≡ f v x.1 → ((u : Value) → o ≡ Val u → ⊥) →
-      folded f (results (drop i items)) v ≡ all → o ≡ all
-  folded_fault v (Val u) all lt is h never k = absurd (never u refl)
-  folded_fault v (Wrong q) all lt is h never k =
-      ap (λ o. with_value o (folded f (results (drop (i + 1) items)))) h ∙ ap (λ xs. folded f xs v) (sym (results_next lt is)) ∙ k
-  folded_fault v (Big q) all lt is h never k =
-      ap (λ o. with_value o (folded f (results (drop (i + 1) items)))) h ∙ ap (λ xs. folded f xs v) (sym (results_next lt is)) ∙ k

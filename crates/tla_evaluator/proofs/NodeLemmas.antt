@@ -16,86 +16,14 @@ use Rattle.tla_meaning.specs.Operators.{on_all_sets, table}
 use Rattle.tla_meaning.specs.Outcomes.{strict, values}
 use Rattle.tla_meaning.specs.Scopes.{Scope, Denotation, bind, bound_to, find_last, value_found}
 use Rattle.tla_meaning.specs.Shapes.{choices}
-use Rattle.tla_meaning.specs.inner.Strict.{is_strict}
-use Rattle.tla_evaluator.specs.inner.Nodes.{bound_at, except_at, fold_at, index_trees, is_binder, is_membership, junction, membership_test, paths_at, updates_at}
+use Rattle.tla_meaning.specs.Forms.{Formed}
+use Rattle.tla_evaluator.specs.inner.Nodes.{bound_at, except_at, fold_at, index_trees, membership_test, node_in, paths_at, updates_at}
+use Rattle.tla_evaluator.specs.inner.Readings.{Reading, value_in}
 use Rattle.tla_evaluator.specs.Trees.{first_at, first_form_at, forms_at, expanded_meaning, outcomes_at, scope_at, is_expanded_op, value_at}
 use Rattle.tla_evaluator.proofs.TreeLemmas.{first_given, forms_given, here_given, inner_back, inner_child, outcomes_given, outer_back, outer_front, sense_at, sense_gone, take_map, drop_map}
 
 pub false≢true : false ≡ true → ⊥
 false≢true e = cc
-
--- an operator that joins its operands reads them alone
-strict_value : (w : ℕ) (p : Place) (o : Op) (xs : List (List ℕ)) (ks : List Meaning) (sc : Scope) (s t : State) → IsTrue (is_strict o) →
-    strict (outcomes (outer p [] ks sc) s t) (table (Some w) p o) ≡ (denotation_of (Some w) p o (length xs) (view p (role o (length xs)) xs ks sc)).value s t
-strict_value w p (op.Bool b) xs ks sc s t h = absurd (false≢true h)
-strict_value w p (op.Int n) xs ks sc s t h = absurd (false≢true h)
-strict_value w p (op.Str a) xs ks sc s t h = absurd (false≢true h)
-strict_value w p op.And xs ks sc s t h = absurd (false≢true h)
-strict_value w p op.Or xs ks sc s t h = absurd (false≢true h)
-strict_value w p op.Implies xs ks sc s t h = absurd (false≢true h)
-strict_value w p op.If xs ks sc s t h = absurd (false≢true h)
-strict_value w p (op.Case b) xs ks sc s t h = absurd (false≢true h)
-strict_value w p op.In xs ks sc s t h = absurd (false≢true h)
-strict_value w p op.NotIn xs ks sc s t h = absurd (false≢true h)
-strict_value w p op.SubsetEq xs ks sc s t h = absurd (false≢true h)
-strict_value w p op.Exists xs ks sc s t h = absurd (false≢true h)
-strict_value w p op.Forall xs ks sc s t h = absurd (false≢true h)
-strict_value w p op.Filter xs ks sc s t h = absurd (false≢true h)
-strict_value w p op.MapTo xs ks sc s t h = absurd (false≢true h)
-strict_value w p op.Lambda xs ks sc s t h = absurd (false≢true h)
-strict_value w p (op.Except ns) xs ks sc s t h = absurd (false≢true h)
-strict_value w p op.Fold xs ks sc s t h = absurd (false≢true h)
-strict_value w p (op.Use x) xs ks sc s t h = absurd (false≢true h)
-strict_value w p (op.Param x) xs ks sc s t h = absurd (false≢true h)
-strict_value w p (op.Let ds) xs ks sc s t h = absurd (false≢true h)
-strict_value w p op.Prime xs ks sc s t h = absurd (false≢true h)
-strict_value w p op.Unchanged xs ks sc s t h = absurd (false≢true h)
-strict_value w p op.Boxed xs ks sc s t h = absurd (false≢true h)
-strict_value w p op.Angled xs ks sc s t h = absurd (false≢true h)
-strict_value w p (op.Noted x) xs ks sc s t h = absurd (false≢true h)
-strict_value w p (op.Name i primed) xs ks sc s t h = absurd (false≢true h)
-strict_value w p (op.Bound x) xs ks sc s t h = absurd (false≢true h)
-strict_value w p o xs ks sc s t h = refl
-
-strict_is_expanded : (o : Op) → IsTrue (is_strict o) → IsTrue (is_expanded_op o)
-strict_is_expanded (op.Use x) h = absurd (false≢true h)
-strict_is_expanded (op.Param x) h = absurd (false≢true h)
-strict_is_expanded (op.Let ds) h = absurd (false≢true h)
-strict_is_expanded op.Prime h = absurd (false≢true h)
-strict_is_expanded op.Unchanged h = absurd (false≢true h)
-strict_is_expanded op.Boxed h = absurd (false≢true h)
-strict_is_expanded op.Angled h = absurd (false≢true h)
-strict_is_expanded o h = refl
-
-binder_value : (w : ℕ) (p : Place) (o : Op) (xs : List (List ℕ)) (ks : List Meaning) (sc : Scope) (s t : State) → IsTrue (is_binder o) →
-    over_members p o (length xs) (view p (role op.Exists (length xs)) xs ks sc) s t ≡ (denotation_of (Some w) p o (length xs) (view p (role o (length xs)) xs ks sc)).value s t
-binder_value w p op.Exists xs ks sc s t h = refl
-binder_value w p op.Forall xs ks sc s t h = refl
-binder_value w p op.Filter xs ks sc s t h = refl
-binder_value w p op.MapTo xs ks sc s t h = refl
-binder_value w p op.Lambda xs ks sc s t h = refl
-binder_value w p o xs ks sc s t h = absurd (false≢true h)
-
-binder_is_expanded : (o : Op) → IsTrue (is_binder o) → IsTrue (is_expanded_op o)
-binder_is_expanded op.Exists h = refl
-binder_is_expanded op.Forall h = refl
-binder_is_expanded op.Filter h = refl
-binder_is_expanded op.MapTo h = refl
-binder_is_expanded op.Lambda h = refl
-binder_is_expanded o h = absurd (false≢true h)
-
-membership_value : (w : ℕ) (p : Place) (o : Op) (xs : List (List ℕ)) (ks : List Meaning) (sc : Scope) (s t : State) → IsTrue (is_membership o) →
-    in_form p (membership_test o p) (outcomes (outer p [] ks sc) s t) (forms (outer p [] ks sc) s t) ≡ (denotation_of (Some w) p o (length xs) (view p (role o (length xs)) xs ks sc)).value s t
-membership_value w p op.In xs ks sc s t h = refl
-membership_value w p op.NotIn xs ks sc s t h = refl
-membership_value w p op.SubsetEq xs ks sc s t h = refl
-membership_value w p o xs ks sc s t h = absurd (false≢true h)
-
-membership_is_expanded : (o : Op) → IsTrue (is_membership o) → IsTrue (is_expanded_op o)
-membership_is_expanded op.In h = refl
-membership_is_expanded op.NotIn h = refl
-membership_is_expanded op.SubsetEq h = refl
-membership_is_expanded o h = absurd (false≢true h)
 
 module _ (w : ℕ) (p : Place) (xs : List (List ℕ)) (vars : List (List ℕ × Value)) (s t : State) where
   abbrev pub children : List Expr → List Meaning
@@ -211,123 +139,78 @@ module _ (w : ℕ) (e : Expr) (vars : List (List ℕ × Value)) (s t : State) wh
       value_at w e vars s t ≡ (denotation_of (Some w) place o (length names) (view place (role o (length names)) names (children w place names vars s t trees) (scope_at vars))).value s t
   value_is o is h = ap (λ (a : Denotation). a.value s t) (sense_at (Some w) e (scope_at vars) o is h)
 
-  pub gone_is : is_expanded_op (out-Expr e).op ≡ false → Wrong place ≡ value_at w e vars s t
+  gone_is : is_expanded_op (out-Expr e).op ≡ false → Wrong place ≡ value_at w e vars s t
   gone_is h = sym (ap (λ (a : Denotation). a.value s t) (sense_gone (Some w) e (scope_at vars) h))
 
-  pub bool_is : (b : Bool) → (out-Expr e).op ≡ op.Bool b → Val (value.Bool b) ≡ value_at w e vars s t
+  bool_is : (b : Bool) → (out-Expr e).op ≡ op.Bool b → Val (value.Bool b) ≡ value_at w e vars s t
   bool_is b is = sym (value_is (op.Bool b) is refl)
 
-  pub int_is : (n : ℤ) → (out-Expr e).op ≡ op.Int n → number (Some w) place n ≡ value_at w e vars s t
+  int_is : (n : ℤ) → (out-Expr e).op ≡ op.Int n → number (Some w) place n ≡ value_at w e vars s t
   int_is n is = sym (value_is (op.Int n) is refl)
 
-  pub text_is : (a : List ℕ) → (out-Expr e).op ≡ op.Str a → Val (value.Text a) ≡ value_at w e vars s t
+  text_is : (a : List ℕ) → (out-Expr e).op ≡ op.Str a → Val (value.Text a) ≡ value_at w e vars s t
   text_is a is = sym (value_is (op.Str a) is refl)
 
-  pub name_is : (i : ℕ) (primed : Bool) (r : State) → (out-Expr e).op ≡ op.Name i primed → r ≡ (if primed then t else s) → read place i r ≡ value_at w e vars s t
+  name_is : (i : ℕ) (primed : Bool) (r : State) → (out-Expr e).op ≡ op.Name i primed → r ≡ (if primed then t else s) → read place i r ≡ value_at w e vars s t
   name_is i primed r is h = ap (read place i) h ∙ sym (value_is (op.Name i primed) is refl)
 
-  pub bound_is : (x : List ℕ) → (out-Expr e).op ≡ op.Bound x → value_found place (find_last x vars) ≡ value_at w e vars s t
+  bound_is : (x : List ℕ) → (out-Expr e).op ≡ op.Bound x → value_found place (find_last x vars) ≡ value_at w e vars s t
   bound_is x is = sym (value_is (op.Bound x) is refl)
 
-  pub and_is : (es : List Expr) → es ≡ trees → (out-Expr e).op ≡ op.And → junction false place (outcomes_at w es vars s t) ≡ value_at w e vars s t
-  and_is es same is = ap (λ z. junction false place (outcomes_at w z vars s t)) same ∙ sym (value_is op.And is refl ∙ ap (conjoined place) (here_outcomes w place names vars s t trees))
+  -- where the node's value is this of its children's
+  by_children : (o : Op) → (out-Expr e).op ≡ o → IsTrue (is_expanded_op o) → (a : List Outcome → List Formed → Outcome) →
+      (denotation_of (Some w) place o (length names) (view place (role o (length names)) names (children w place names vars s t trees) (scope_at vars))).value s t
+      ≡ a (outcomes (outer place [] (children w place names vars s t trees) (scope_at vars)) s t) (forms (outer place [] (children w place names vars s t trees) (scope_at vars)) s t) →
+      a (outcomes_at w trees vars s t) (forms_at w trees vars s t) ≡ value_at w e vars s t
+  by_children o is h a same =
+      sym (value_is o is h ∙ same ∙ ap₂ a (here_outcomes w place names vars s t trees) (here_forms w place names vars s t trees))
 
-  pub or_is : (es : List Expr) → es ≡ trees → (out-Expr e).op ≡ op.Or → junction true place (outcomes_at w es vars s t) ≡ value_at w e vars s t
-  or_is es same is = ap (λ z. junction true place (outcomes_at w z vars s t)) same ∙ sym (value_is op.Or is refl ∙ ap (disjoined place) (here_outcomes w place names vars s t trees))
+  by_binder : (o : Op) → (out-Expr e).op ≡ o → IsTrue (is_expanded_op o) →
+      over_members place o (length names) (view place (role op.Exists (length names)) names (children w place names vars s t trees) (scope_at vars)) s t
+      ≡ (denotation_of (Some w) place o (length names) (view place (role o (length names)) names (children w place names vars s t trees) (scope_at vars))).value s t →
+      bound_at w place o names trees vars s t ≡ value_at w e vars s t
+  by_binder o is h same = bound_given w place names vars s t o trees ∙ same ∙ sym (value_is o is h)
 
-  pub implies_is : (es : List Expr) → es ≡ trees → (out-Expr e).op ≡ op.Implies → implied place (outcomes_at w es vars s t) ≡ value_at w e vars s t
-  implies_is es same is = ap (λ z. implied place (outcomes_at w z vars s t)) same ∙ sym (value_is op.Implies is refl ∙ ap (implied place) (here_outcomes w place names vars s t trees))
+  except_is : (ns : List ℕ) → (out-Expr e).op ≡ op.Except ns → except_at w place ns names trees vars s t ≡ value_at w e vars s t
+  except_is ns is = except_given w place names vars s t ns trees ∙ sym (value_is (op.Except ns) is refl)
 
-  pub if_is : (es : List Expr) → es ≡ trees → (out-Expr e).op ≡ op.If → if_chosen place (outcomes_at w es vars s t) ≡ value_at w e vars s t
-  if_is es same is = ap (λ z. if_chosen place (outcomes_at w z vars s t)) same ∙ sym (value_is op.If is refl ∙ ap (if_chosen place) (here_outcomes w place names vars s t trees))
-
-  pub case_is : (es : List Expr) → es ≡ trees → (b : Bool) → (out-Expr e).op ≡ op.Case b → case_chosen place (outcomes_at w es vars s t) ≡ value_at w e vars s t
-  case_is es same b is = ap (λ z. case_chosen place (outcomes_at w z vars s t)) same ∙ sym (value_is (op.Case b) is refl ∙ ap (case_chosen place) (here_outcomes w place names vars s t trees))
-
-  pub membership_is : (o : Op) → (out-Expr e).op ≡ o → IsTrue (is_membership o) →
-      in_form place (membership_test (out-Expr e).op place) (outcomes_at w trees vars s t) (forms_at w trees vars s t) ≡ value_at w e vars s t
-  membership_is o is h =
-      ap (λ (o : Op). in_form place (membership_test o place) (outcomes_at w trees vars s t) (forms_at w trees vars s t)) is
-      ∙ sym (ap₂ (in_form place (membership_test o place)) (here_outcomes w place names vars s t trees) (here_forms w place names vars s t trees))
-      ∙ membership_value w place o names (children w place names vars s t trees) (scope_at vars) s t h
-      ∙ sym (value_is o is (membership_is_expanded o h))
-
-  pub binder_is : (o : Op) → (out-Expr e).op ≡ o → IsTrue (is_binder o) →
-      bound_at w place (out-Expr e).op names trees vars s t ≡ value_at w e vars s t
-  binder_is o is h =
-      ap (λ (o : Op). bound_at w place o names trees vars s t) is
-      ∙ bound_given w place names vars s t o trees
-      ∙ binder_value w place o names (children w place names vars s t trees) (scope_at vars) s t h
-      ∙ sym (value_is o is (binder_is_expanded o h))
-
-  pub except_is : (ns ms : List ℕ) → ms ≡ ns → (out-Expr e).op ≡ op.Except ns → except_at w place ms names trees vars s t ≡ value_at w e vars s t
-  except_is ns ms same is = ap (λ z. except_at w place z names trees vars s t) same ∙ except_given w place names vars s t ns trees ∙ sym (value_is (op.Except ns) is refl)
-
-  pub fold_is : (out-Expr e).op ≡ op.Fold → fold_at w place names trees vars s t ≡ value_at w e vars s t
+  fold_is : (out-Expr e).op ≡ op.Fold → fold_at w place names trees vars s t ≡ value_at w e vars s t
   fold_is is = fold_given w place names vars s t trees ∙ sym (value_is op.Fold is refl)
 
-  pub noted_is : (es : List Expr) → es ≡ trees → (x : List ℕ) → (out-Expr e).op ≡ op.Noted x → first_at w place es vars s t ≡ value_at w e vars s t
-  noted_is es same x is = ap (λ z. first_at w place z vars s t) same ∙ sym (value_is (op.Noted x) is refl ∙ here_first w place names vars s t trees)
+  noted_is : (x : List ℕ) → (out-Expr e).op ≡ op.Noted x → first_at w place trees vars s t ≡ value_at w e vars s t
+  noted_is x is = sym (value_is (op.Noted x) is refl ∙ here_first w place names vars s t trees)
 
-  pub strict_is : IsTrue (is_strict (out-Expr e).op) →
-      strict (outcomes_at w trees vars s t) (table (Some w) place (out-Expr e).op) ≡ value_at w e vars s t
-  strict_is h =
-      sym (ap (λ (os : List Outcome). strict os (table (Some w) place (out-Expr e).op)) (here_outcomes w place names vars s t trees))
-      ∙ strict_value w place (out-Expr e).op names (children w place names vars s t trees) (scope_at vars) s t h
-      ∙ sym (value_is (out-Expr e).op refl (strict_is_expanded (out-Expr e).op h))
-
--- an operator that is none of those that are read in a way of their own
-pub record IsRest (o : Op) : Type 0 where
-  pub is_expanded_op : IsTrue (is_expanded_op o)
-  pub not_bool : (b : Bool) → o ≡ op.Bool b → ⊥
-  pub not_int : (n : ℤ) → o ≡ op.Int n → ⊥
-  pub not_str : (a : List ℕ) → o ≡ op.Str a → ⊥
-  pub not_and : o ≡ op.And → ⊥
-  pub not_or : o ≡ op.Or → ⊥
-  pub not_implies : o ≡ op.Implies → ⊥
-  pub not_if : o ≡ op.If → ⊥
-  pub not_case : (b : Bool) → o ≡ op.Case b → ⊥
-  pub not_in : o ≡ op.In → ⊥
-  pub not_notin : o ≡ op.NotIn → ⊥
-  pub not_subseteq : o ≡ op.SubsetEq → ⊥
-  pub not_exists : o ≡ op.Exists → ⊥
-  pub not_forall : o ≡ op.Forall → ⊥
-  pub not_filter : o ≡ op.Filter → ⊥
-  pub not_mapto : o ≡ op.MapTo → ⊥
-  pub not_lambda : o ≡ op.Lambda → ⊥
-  pub not_except : (ns : List ℕ) → o ≡ op.Except ns → ⊥
-  pub not_fold : o ≡ op.Fold → ⊥
-  pub not_noted : (x : List ℕ) → o ≡ op.Noted x → ⊥
-  pub not_name : (i : ℕ) (primed : Bool) → o ≡ op.Name i primed → ⊥
-  pub not_bound : (x : List ℕ) → o ≡ op.Bound x → ⊥
-
-pub rest_is_strict : (o : Op) → IsRest o → IsTrue (is_strict o)
-rest_is_strict (op.Bool b) h = absurd (h.not_bool b refl)
-rest_is_strict (op.Int n) h = absurd (h.not_int n refl)
-rest_is_strict (op.Str a) h = absurd (h.not_str a refl)
-rest_is_strict op.And h = absurd (h.not_and refl)
-rest_is_strict op.Or h = absurd (h.not_or refl)
-rest_is_strict op.Implies h = absurd (h.not_implies refl)
-rest_is_strict op.If h = absurd (h.not_if refl)
-rest_is_strict (op.Case b) h = absurd (h.not_case b refl)
-rest_is_strict op.In h = absurd (h.not_in refl)
-rest_is_strict op.NotIn h = absurd (h.not_notin refl)
-rest_is_strict op.SubsetEq h = absurd (h.not_subseteq refl)
-rest_is_strict op.Exists h = absurd (h.not_exists refl)
-rest_is_strict op.Forall h = absurd (h.not_forall refl)
-rest_is_strict op.Filter h = absurd (h.not_filter refl)
-rest_is_strict op.MapTo h = absurd (h.not_mapto refl)
-rest_is_strict op.Lambda h = absurd (h.not_lambda refl)
-rest_is_strict (op.Except ns) h = absurd (h.not_except ns refl)
-rest_is_strict op.Fold h = absurd (h.not_fold refl)
-rest_is_strict (op.Use x) h = absurd (false≢true h.is_expanded_op)
-rest_is_strict (op.Param x) h = absurd (false≢true h.is_expanded_op)
-rest_is_strict (op.Let ds) h = absurd (false≢true h.is_expanded_op)
-rest_is_strict op.Prime h = absurd (false≢true h.is_expanded_op)
-rest_is_strict op.Unchanged h = absurd (false≢true h.is_expanded_op)
-rest_is_strict op.Boxed h = absurd (false≢true h.is_expanded_op)
-rest_is_strict op.Angled h = absurd (false≢true h.is_expanded_op)
-rest_is_strict (op.Noted x) h = absurd (h.not_noted x refl)
-rest_is_strict (op.Name i primed) h = absurd (h.not_name i primed refl)
-rest_is_strict (op.Bound x) h = absurd (h.not_bound x refl)
-rest_is_strict o h = refl
+-- a tree means what its node gives
+pub node_is : (r : Reading) (e : Expr) → node_in r (out-Expr e).place (out-Expr e).op (out-Expr e).binds (out-Expr e).args ≡ value_in r e
+node_is r e = by (out-Expr e).op refl
+  where
+    by : (o : Op) → (out-Expr e).op ≡ o → node_in r (out-Expr e).place o (out-Expr e).binds (out-Expr e).args ≡ value_in r e
+    by (op.Bool b) is = bool_is r.width e r.bound r.state r.next b is
+    by (op.Int n) is = int_is r.width e r.bound r.state r.next n is
+    by (op.Str a) is = text_is r.width e r.bound r.state r.next a is
+    by (op.Name i primed) is = name_is r.width e r.bound r.state r.next i primed (if primed then r.next else r.state) is refl
+    by (op.Bound x) is = bound_is r.width e r.bound r.state r.next x is
+    by op.And is = by_children r.width e r.bound r.state r.next op.And is refl (λ os fs. conjoined (out-Expr e).place os) refl
+    by op.Or is = by_children r.width e r.bound r.state r.next op.Or is refl (λ os fs. disjoined (out-Expr e).place os) refl
+    by op.Implies is = by_children r.width e r.bound r.state r.next op.Implies is refl (λ os fs. implied (out-Expr e).place os) refl
+    by op.If is = by_children r.width e r.bound r.state r.next op.If is refl (λ os fs. if_chosen (out-Expr e).place os) refl
+    by (op.Case other) is = by_children r.width e r.bound r.state r.next (op.Case other) is refl (λ os fs. case_chosen (out-Expr e).place os) refl
+    by op.In is = by_children r.width e r.bound r.state r.next op.In is refl (in_form (out-Expr e).place (membership_test op.In (out-Expr e).place)) refl
+    by op.NotIn is = by_children r.width e r.bound r.state r.next op.NotIn is refl (in_form (out-Expr e).place (membership_test op.NotIn (out-Expr e).place)) refl
+    by op.SubsetEq is = by_children r.width e r.bound r.state r.next op.SubsetEq is refl (in_form (out-Expr e).place (membership_test op.SubsetEq (out-Expr e).place)) refl
+    by op.Exists is = by_binder r.width e r.bound r.state r.next op.Exists is refl refl
+    by op.Forall is = by_binder r.width e r.bound r.state r.next op.Forall is refl refl
+    by op.Filter is = by_binder r.width e r.bound r.state r.next op.Filter is refl refl
+    by op.MapTo is = by_binder r.width e r.bound r.state r.next op.MapTo is refl refl
+    by op.Lambda is = by_binder r.width e r.bound r.state r.next op.Lambda is refl refl
+    by (op.Except ns) is = except_is r.width e r.bound r.state r.next ns is
+    by op.Fold is = fold_is r.width e r.bound r.state r.next is
+    by (op.Noted x) is = noted_is r.width e r.bound r.state r.next x is
+    by (op.Use x) is = gone_is r.width e r.bound r.state r.next (ap is_expanded_op is)
+    by (op.Param x) is = gone_is r.width e r.bound r.state r.next (ap is_expanded_op is)
+    by (op.Let ds) is = gone_is r.width e r.bound r.state r.next (ap is_expanded_op is)
+    by op.Prime is = gone_is r.width e r.bound r.state r.next (ap is_expanded_op is)
+    by op.Unchanged is = gone_is r.width e r.bound r.state r.next (ap is_expanded_op is)
+    by op.Boxed is = gone_is r.width e r.bound r.state r.next (ap is_expanded_op is)
+    by op.Angled is = gone_is r.width e r.bound r.state r.next (ap is_expanded_op is)
+    by o is = by_children r.width e r.bound r.state r.next o is refl (λ os fs. strict os (table (Some r.width) (out-Expr e).place o)) refl

@@ -54,14 +54,14 @@ outside_power w a k (suc d) h o =
     subst (λ n. in_width (Some w) (power_of a n) ≡ false) e (outside_more w a (power_of a (d + k)) h (outside_power w a k d h o))
 
 pub power_big : (w : ℕ) (p : Place) (a b x : ℤ) (k n : ℕ) → b ≡ a → 2 ≤ unsigned_abs a → x ≡ power_of b k → k < n → in_width (Some w) (b *ℤ x) ≡ false →
-    Big p ≡ number (Some w) p (power_of a n)
+    number (Some w) p (power_of a n) ≡ Big p
 power_big w p a b x k n s h e lt o =
     let m : (n - suc k) + suc k ≡ n = omega arith in
     let there : in_width (Some w) (power_of a (suc k)) ≡ false =
     subst (λ y. in_width (Some w) (power_of y (suc k)) ≡ false) s (subst (λ y. in_width (Some w) (b *ℤ y) ≡ false) e o) in
     let far : in_width (Some w) (power_of a n) ≡ false =
     subst (λ j. in_width (Some w) (power_of a j) ≡ false) m (outside_power w a (suc k) (n - suc k) h there) in
-    ap (λ b. cond b (Val (value.Int (power_of a n))) (Big p)) (sym far)
+    ap (λ b. cond b (Val (value.Int (power_of a n))) (Big p)) far
 
 -- what is in a width fits 128 bits
 held : (w m : ℕ) → w ≤ 64 → nat_lt m (2 ^ (w - 1)) ≡ true → m < 2 ^ 127

@@ -1,16 +1,14 @@
 -- What a whole job's parts give, by the effects and outcomes of its expanded trees.
-use Rattle.std.specs.Prelude.{IfOk}
-use Rattle.std.proofs.Common.{Result, Ok, Err, ◌≡◌, ℕ, Bool, true, false, ◌&&◌, IsTrue, List, [], ◌∷◌, ◌++◌, Some, suc, ◌+◌, ◌<◌, add-one, drop, drop-cons, get_or, length, map, take, refl, ap, ap₂, ◌∙◌, sym, subst}
-use Rattle.std.specs.List.{All, list_all}
+use Rattle.std.specs.Prelude.{IfOk, IfSome, option_copied, unwrap_or}
+use Rattle.tla_values.specs.Sets.{Normal}
+use Rattle.std.proofs.Common.{Bor, Option, None, Result, Ok, Err, ◌≡◌, ℕ, Bool, true, false, IsTrue, List, [], ◌∷◌, ◌++◌, Some, suc, ◌+◌, ◌<◌, add-one, drop, drop-cons, get_or, length, map, take, refl, ap, ap₂, ◌∙◌, sym, subst}
+use Rattle.std.specs.List.{All}
 use Rattle.std.proofs.lemmas.List.Elements.{All-more}
-use Rattle.tla_meaning.specs.declared.expr.Expr.{Expr, out-Expr}
-use Rattle.tla_meaning.specs.declared.expr.Expr.TheFolds.{fold_out-Expr}
+use Rattle.tla_meaning.specs.declared.expr.Expr.{Expr}
 use Rattle.tla_values.specs.declared.value.Value.{Value}
 use Rattle.tla_meaning.specs.declared.job.Env.{Env}
 use Rattle.tla_meaning.specs.declared.job.Job.{Job}
 use Rattle.tla_meaning.specs.declared.job.State.{State}
-use Rattle.tla_meaning.specs.declared.op.Op.{Op}
-use Rattle.tla_meaning.specs.declared.op.Op.TheVariants as op
 use Rattle.tla_meaning.specs.declared.outcome.Fault.{Fault}
 use Rattle.tla_meaning.specs.declared.outcome.Outcome.{Outcome}
 use Rattle.tla_meaning.specs.declared.outcome.Outcome.TheVariants.{Val, Wrong, Big}
@@ -18,12 +16,12 @@ use Rattle.tla_meaning.specs.Actions.{act, effect_of, effects_and, meaning, outc
 use Rattle.tla_meaning.specs.Executions.{IsYes, constants, first_not_yes, in_cinit, in_init, is_yes, next, no_scope, scope_of, start}
 use Rattle.tla_meaning.specs.Scopes.{Denotation}
 use Rattle.tla_meaning.proofs.Joins.{both_unit}
-use Rattle.tla_meaning.proofs.Views.{and_left, and_right, false≢true}
+use Rattle.tla_meaning.proofs.Views.{false≢true}
 use Rattle.tla_meaning.specs.declared.actions.Assignable.{Assignable}
 use Rattle.tla_meaning.specs.declared.actions.Assignable.TheVariants.{Constants, PrimedVariables, Variables}
 use Rattle.tla_meaning.specs.declared.actions.Effect.{Effect}
 use Rattle.tla_evaluator.specs.inner.Effects.{behind}
-use Rattle.tla_evaluator.specs.Trees.{AreNormal, effect_at, is_expanded, is_expanded_op, value_at}
+use Rattle.tla_evaluator.specs.Trees.{AreNormal, effect_at, is_expanded, value_at}
 use Rattle.tla_evaluator.proofs.ActionNodes.{behind_twice, get_or-default}
 use Rattle.tla_evaluator.proofs.ExpandedLaws.{expanded_is, value_normal}
 use Rattle.tla_meaning.specs.Outcomes.{IsNormalOutcome}
@@ -192,3 +190,13 @@ module _ (w : ℕ) (s : State) (invs : List (List ℕ × Expr)) where
 
     pub no_at : is_yes o ≡ false → (d : List ℕ × Expr) → i < length invs → (o ≡ at (get_or invs i d)) × (IsYes o → ⊥)
     no_at h d lt' = (outcome_is ∙ ap at (is ∙ get_or-default invs i x d lt), λ yes. absurd (false≢true (sym h ∙ yes)))
+
+-- ---- the next state, where there is one
+
+pub next_or : (o : Option (Bor State)) (d : Bor State) → (unwrap_or o d).now ≡ unwrap_or (option_copied o) d.now
+next_or None d = refl
+next_or (Some n) d = refl
+
+pub next_normal : (o : Option (Bor State)) (d : Bor State) → IfSome o (λ n. All Normal n.now.vals) → All Normal d.now.vals → All Normal (unwrap_or o d).now.vals
+next_normal None d h k = k
+next_normal (Some n) d h k = h

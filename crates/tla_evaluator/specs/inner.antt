@@ -1,6 +1,10 @@
+pub mod Bound
 pub mod Effects
 pub mod Excepts
+pub mod Families
+pub mod Gives
 pub mod Mentions
 pub mod Nodes
+pub mod Readings
 pub mod Results
-pub mod SetRules
+pub mod SetForms

@@ -2,15 +2,16 @@
 ghost use Rattle.std.specs.Prelude.{◌≡◌, ◌+◌, ◌++◌, ◌∷◌, [], Bool as Truth, IfOk, List as Items, OnOk, drop, map, option_map, zip};
 ghost use Rattle.tla_meaning.specs.Meaning.{argument, bound_table, kept, truths};
 ghost use Rattle.tla_meaning.specs.Shapes.{the_function};
+ghost use Rattle.tla_evaluator.specs.inner.Gives.{Gives};
 
 use crate::functions::function_of;
 use crate::records::paired;
 use crate::sequences::sequence;
 pub(crate) use crate::sets::choices_of;
-use crate::sets::copy_onto;
+use crate::stops::Stop;
 use std::alloc::{AllocError, Global};
-use tla_meaning::{Op, Outcome, Place};
-use tla_values::{List, Value, copy_value, set_of};
+use tla_meaning::{Op, Place};
+use tla_values::{List, Value, copy_onto, copy_value, set_of};
 
 // The row of a binder: its choices with the body's value at each.
 pub(crate) fn bound_table(
@@ -19,48 +20,45 @@ pub(crate) fn bound_table(
     place: Place,
     choices: &[List<Value>],
     values: Vec<Value>,
-) -> Result<Outcome, AllocError>
-    ensures { IfOk result (λ o. o ≡ bound_table place op.now choices.now values.items) }
+) -> Result<Value, Stop>
+    ensures { Gives (bound_table place op.now choices.now values.items) result }
 {
     match op {
-        Op::Exists => Ok(some_true(&values, place)),
-        Op::Forall => Ok(all_true(&values, place)),
+        Op::Exists => some_true(&values, place),
+        Op::Forall => all_true(&values, place),
         Op::Filter => kept_members(alloc, choices, &values, place),
-        Op::MapTo => {
-            let set = set_of(alloc, List::from_vec(values))?;
-            Ok(Outcome::Val(set))
-        }
-        Op::Lambda => function_at(alloc, choices, values),
-        _ => Ok(Outcome::Wrong(place)),
+        Op::MapTo => Ok(set_of(alloc, List::from_vec(values))?),
+        Op::Lambda => Ok(function_at(alloc, choices, values)?),
+        _ => Err(Stop::Wrong(place)),
     }
 }
 
 // Whether a value is TRUE, where all are truth values.
-fn some_true(values: &[Value], place: Place) -> Outcome
-    ensures { result ≡ bound_table place Op.Exists [] values.now }
+fn some_true(values: &[Value], place: Place) -> Result<Value, Stop>
+    ensures { Gives (bound_table place Op.Exists [] values.now) result }
 {
     let mut found = false;
     for v in values {
         match v {
             Value::Bool(b) => found = found || *b,
-            _ => return Outcome::Wrong(place),
+            _ => return Err(Stop::Wrong(place)),
         }
     }
-    Outcome::Val(Value::Bool(found))
+    Ok(Value::Bool(found))
 }
 
 // Whether all values are TRUE, where all are truth values.
-fn all_true(values: &[Value], place: Place) -> Outcome
-    ensures { result ≡ bound_table place Op.Forall [] values.now }
+fn all_true(values: &[Value], place: Place) -> Result<Value, Stop>
+    ensures { Gives (bound_table place Op.Forall [] values.now) result }
 {
     let mut holds = true;
     for v in values {
         match v {
             Value::Bool(b) => holds = holds && *b,
-            _ => return Outcome::Wrong(place),
+            _ => return Err(Stop::Wrong(place)),
         }
     }
-    Outcome::Val(Value::Bool(holds))
+    Ok(Value::Bool(holds))
 }
 
 // The set of the choices at which the value is TRUE, where all are truth values.
@@ -69,15 +67,15 @@ fn kept_members(
     choices: &[List<Value>],
     values: &[Value],
     place: Place,
-) -> Result<Outcome, AllocError>
-    ensures { IfOk result (λ o. o ≡ bound_table place Op.Filter choices.now values.now) }
+) -> Result<Value, Stop>
+    ensures { Gives (bound_table place Op.Filter choices.now values.now) result }
 {
     match kept_of(alloc, choices, values)? {
         Some(members) => {
             let set = set_of(alloc, List::from_vec(members))?;
-            Ok(Outcome::Val(set))
+            Ok(set)
         }
-        None => Ok(Outcome::Wrong(place)),
+        None => Err(Stop::Wrong(place)),
     }
 }
 
@@ -86,7 +84,8 @@ fn kept_of(
     choices: &[List<Value>],
     values: &[Value],
 ) -> Result<Option<Vec<Value>>, AllocError>
-    ensures { IfOk result (λ o. option_map (kept choices.now) (truths values.now) ≡ option_map (λ m. m.items) o) }
+    ensures { IfOk result
+        (λ o. option_map (kept choices.now) (truths values.now) ≡ option_map (λ m. m.items) o) }
 {
     let mut members = Vec::new(alloc);
     for (i, v) in values.iter().enumerate() {
@@ -107,7 +106,8 @@ fn keep_first(
     out: &mut Vec<Value>,
 ) -> Result<(), AllocError>
     ensures { OnOk result ((bs : Items Truth) →
-        out.new.items ++ kept (drop (i + 1) choices.now) bs ≡ out.old.items ++ kept (drop i choices.now) (passes ∷ bs)) }
+        out.new.items ++ kept (drop (i + 1) choices.now) bs ≡ out.old.items ++ kept
+        (drop i choices.now) (passes ∷ bs)) }
 {
     if i < choices.len() {
         if let [first, ..] = choices[i].as_slice() {
@@ -125,13 +125,13 @@ fn function_at(
     alloc: Global,
     choices: &[List<Value>],
     values: Vec<Value>,
-) -> Result<Outcome, AllocError>
-    ensures { IfOk result (λ o. o ≡ Outcome.Val (the_function (zip (map argument choices.now) values.items))) }
+) -> Result<Value, AllocError>
+    ensures { IfOk result (λ v. v ≡ the_function (zip (map argument choices.now) values.items)) }
 {
     let arguments = arguments_of(alloc, choices)?;
     let pairs = paired(alloc, arguments.as_slice(), values)?;
     let function = function_of(alloc, pairs)?;
-    Ok(Outcome::Val(function))
+    Ok(function)
 }
 
 fn arguments_of(alloc: Global, choices: &[List<Value>]) -> Result<Vec<Value>, AllocError>

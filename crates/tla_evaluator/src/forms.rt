@@ -56,14 +56,16 @@ fn sequence_belongs(form: &SetForm, pairs: &List<(Value, Value)>) -> bool
 
 #[cycle(belongs)]
 fn function_belongs(form: &SetForm, items: &List<Value>, pairs: &List<(Value, Value)>) -> bool
-    ensures { result ≡ (same_set items.now (arguments pairs.now) && list_all (belongs form.now) (results pairs.now)) }
+    ensures { result ≡ (same_set items.now (arguments pairs.now) && list_all (belongs form.now)
+        (results pairs.now)) }
 {
     same_arguments(items.as_slice(), pairs.as_slice()) && all_results_belong(form, pairs.as_slice())
 }
 
 #[cycle(belongs)]
 fn record_belongs(forms: &List<SetForm>, names: &List<Text>, pairs: &List<(Value, Value)>) -> bool
-    ensures { result ≡ (has_fields names.now pairs.now && all_belong forms.now (fields_at names.now pairs.now)) }
+    ensures { result ≡ (has_fields names.now pairs.now && all_belong forms.now
+        (fields_at names.now pairs.now)) }
 {
     same_fields(names.as_slice(), pairs.as_slice())
         && fields_belong(forms.as_slice(), names.as_slice(), pairs.as_slice())
@@ -117,12 +119,7 @@ fn is_text(v: &Value) -> bool
 fn is_among(v: &Value, items: &[Value]) -> bool
     ensures { result ≡ member v.now items.now }
 {
-    for item in items {
-        if same_value(v, item) {
-            return true;
-        }
-    }
-    false
+    items.iter().any(|item| same_value(v, item))
 }
 
 fn is_argument(a: &Value, pairs: &[(Value, Value)]) -> bool
@@ -193,7 +190,8 @@ fn same_fields(names: &[Text], pairs: &[(Value, Value)]) -> bool
 }
 
 fn all_are_fields(names: &[Text], pairs: &[(Value, Value)]) -> bool
-    ensures { result ≡ list_all (λ x. member x (arguments pairs.now)) (map (λ n. Value.Text n) names.now) }
+    ensures { result ≡ list_all (λ x. member x (arguments pairs.now))
+        (map (λ n. Value.Text n) names.now) }
 {
     for name in names {
         if !is_field(name, pairs) {
@@ -215,7 +213,8 @@ fn is_field(name: &Text, pairs: &[(Value, Value)]) -> bool
 }
 
 fn all_fields_named(pairs: &[(Value, Value)], names: &[Text]) -> bool
-    ensures { result ≡ list_all (λ x. member x (map (λ n. Value.Text n) names.now)) (arguments pairs.now) }
+    ensures { result ≡ list_all (λ x. member x (map (λ n. Value.Text n) names.now))
+        (arguments pairs.now) }
 {
     for (argument, _) in pairs {
         if !is_named(argument, names) {

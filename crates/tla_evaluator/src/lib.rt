@@ -3,13 +3,13 @@
 
 mod actions;
 mod binders;
+mod context;
 mod excepts;
 mod expressions;
 mod forms;
 mod functions;
 mod logic;
 mod memberships;
-mod names;
 mod numbers;
 mod operands;
 mod operators;
@@ -17,6 +17,7 @@ mod outcomes;
 mod records;
 mod sequences;
 mod sets;
+mod stops;
 mod tops;
 mod trees;
 

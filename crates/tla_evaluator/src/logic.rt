@@ -1,56 +1,66 @@
 // Truth values and equality.
+ghost use Rattle.std.specs.List.{All};
 ghost use Rattle.std.specs.Prelude.{◌≡◌, None};
-ghost use Rattle.tla_meaning.specs.Operators.{table};
-ghost use Rattle.tla_meaning.specs.Outcomes.{IsNormalOutcome};
+ghost use Rattle.tla_values.specs.Sets.{Normal};
+ghost use Rattle.tla_meaning.specs.Operators.{on_two, table};
+ghost use Rattle.tla_evaluator.specs.inner.Families.{of_two};
+ghost use Rattle.tla_evaluator.specs.inner.Gives.{Gives};
 
-use crate::operands::{one_truth, two_truths};
-use tla_meaning::{Op, Outcome, Place};
+use crate::functions::single;
+use crate::operands::Row;
+use crate::stops::Stop;
+use tla_meaning::Op;
 use tla_values::{Value, same_value};
 
-#[tactic(auto, using(crate::proofs::NormalValues::bool_normal))]
-pub(crate) fn yes_no(b: bool) -> Outcome
-    ensures value { result ≡ Outcome.Val (Value.Bool b) }
-    ensures normal { IsNormalOutcome result }
-{
-    Outcome::Val(Value::Bool(b))
-}
-
-pub(crate) fn not(operands: &[Value], place: Place) -> Outcome
-    ensures value { result ≡ table None place Op.Not operands.now }
-    ensures normal { IsNormalOutcome result }
-{
-    match one_truth(operands) {
-        Some(a) => yes_no(!a),
-        None => Outcome::Wrong(place),
+impl Row<'_> {
+    // `~a`.
+    pub(crate) fn negation(&self) -> Result<Value, Stop>
+        ensures { Gives (table None self.now.place Op.Not self.now.operands.now) result }
+    {
+        match self.operands {
+            [Value::Bool(a)] => Ok(Value::Bool(!*a)),
+            _ => Err(Stop::Wrong(self.place)),
+        }
     }
-}
 
-pub(crate) fn equivalent(operands: &[Value], place: Place) -> Outcome
-    ensures value { result ≡ table None place Op.Iff operands.now }
-    ensures normal { IsNormalOutcome result }
-{
-    match two_truths(operands) {
-        Some((a, b)) => yes_no(same_value(&Value::Bool(a), &Value::Bool(b))),
-        None => Outcome::Wrong(place),
+    // `a <=> b`.
+    pub(crate) fn equivalence(&self) -> Result<Value, Stop>
+        ensures { Gives (table None self.now.place Op.Iff self.now.operands.now) result }
+    {
+        match self.operands {
+            [Value::Bool(a), Value::Bool(b)] => Ok(Value::Bool(same_value(
+                &Value::Bool(*a),
+                &Value::Bool(*b),
+            ))),
+            _ => Err(Stop::Wrong(self.place)),
+        }
     }
-}
 
-pub(crate) fn equal(operands: &[Value], place: Place) -> Outcome
-    ensures value { result ≡ table None place Op.Eq operands.now }
-    ensures normal { IsNormalOutcome result }
-{
-    match operands {
-        [a, b] => yes_no(same_value(a, b)),
-        _ => Outcome::Wrong(place),
+    // Two operands of any kind.
+    pub(crate) fn two(&self, op: &Op) -> Result<Value, Stop>
+        requires { All Normal self.now.operands.now }
+        ensures { Gives (on_two self.now.place (of_two self.now.place op.now)
+            self.now.operands.now) result }
+    {
+        match self.operands {
+            [a, b] => self.of_two(op, a, b),
+            _ => Err(Stop::Wrong(self.place)),
+        }
     }
-}
 
-pub(crate) fn different(operands: &[Value], place: Place) -> Outcome
-    ensures value { result ≡ table None place Op.Ne operands.now }
-    ensures normal { IsNormalOutcome result }
-{
-    match operands {
-        [a, b] => yes_no(!same_value(a, b)),
-        _ => Outcome::Wrong(place),
+    fn of_two(&self, op: &Op, a: &Value, b: &Value) -> Result<Value, Stop>
+        requires { Normal a.now }
+        ensures { Gives (of_two self.now.place op.now a.now b.now) result }
+    {
+        match op {
+            Op::Eq | Op::Assign => Ok(Value::Bool(same_value(a, b))),
+            Op::Ne => Ok(Value::Bool(!same_value(a, b))),
+            Op::Apply => match a {
+                Value::Fun(pairs) => self.value_at(pairs, b),
+                _ => Err(Stop::Wrong(self.place)),
+            },
+            Op::Single => Ok(single(self.alloc, a, b)?),
+            _ => Err(Stop::Wrong(self.place)),
+        }
     }
 }

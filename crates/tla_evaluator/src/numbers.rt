@@ -1,16 +1,83 @@
 // Whole numbers.
-ghost use Rattle.std.specs.Prelude.{◌≡◌, ◌*ℤ◌, ◌+ℤ◌, ◌<ℤ◌, ◌≤◌, ◌≤ℤ◌, IfNone, IfOk, IfSome, None, Some, false, negsuc, pos, true};
+ghost use Rattle.std.specs.Prelude.{◌≡◌, ◌*ℤ◌, ◌+ℤ◌, ◌<ℤ◌, ◌≤◌, ◌≤ℤ◌, IfNone, IfOk, IfSome, None, Some, false, map, negsuc, pos, true};
 ghost use Rattle.std.specs.Int.RustNames.{unsigned_abs};
+ghost use Rattle.tla_values.specs.declared.value.Value.{out-Value};
 ghost use Rattle.tla_meaning.specs.Numbers.{in_width, number, power, power_of, range};
-ghost use Rattle.tla_meaning.specs.Operators.{table};
-ghost use Rattle.tla_meaning.specs.Outcomes.{IsNormalOutcome};
-ghost use Rattle.tla_values.specs.Sets.{Normal};
+ghost use Rattle.tla_meaning.specs.Operators.{on_numbers, table};
+ghost use Rattle.tla_evaluator.specs.inner.Families.{of_numbers};
+ghost use Rattle.tla_evaluator.specs.inner.Gives.{Gives};
 
-use crate::logic::yes_no;
-use crate::operands::{one_number, two_numbers};
+use crate::operands::Row;
+use crate::stops::Stop;
 use std::alloc::{AllocError, Global};
-use tla_meaning::{Op, Outcome, Place};
+use tla_meaning::{Op, Place};
 use tla_values::{List, Value};
+
+impl Row<'_> {
+    // Two numbers.
+    pub(crate) fn numbers(&self, op: &Op) -> Result<Value, Stop>
+        ensures { Gives (on_numbers self.now.place
+            (of_numbers (Some self.now.width) self.now.place op.now)
+            (map out-Value self.now.operands.now)) result }
+    {
+        match self.operands {
+            [Value::Int(a), Value::Int(b)] => self.of_numbers(op, *a, *b),
+            _ => Err(Stop::Wrong(self.place)),
+        }
+    }
+
+    fn of_numbers(&self, op: &Op, a: i128, b: i128) -> Result<Value, Stop>
+        ensures { Gives (of_numbers (Some self.now.width) self.now.place op.now a b) result }
+    {
+        match op {
+            Op::Lt => Ok(Value::Bool(a < b)),
+            Op::Gt => Ok(Value::Bool(b < a)),
+            Op::Le => Ok(Value::Bool(a <= b)),
+            Op::Ge => Ok(Value::Bool(b <= a)),
+            Op::Add => match a.checked_add(b) {
+                Some(n) => number(n, self.width, self.place),
+                None => Err(Stop::Big(self.place)),
+            },
+            Op::Sub => match a.checked_sub(b) {
+                Some(n) => number(n, self.width, self.place),
+                None => Err(Stop::Big(self.place)),
+            },
+            Op::Mul => match times(a, b, self.width) {
+                Some(n) => Ok(Value::Int(n)),
+                None => Err(Stop::Big(self.place)),
+            },
+            Op::Div => {
+                if b <= 0 {
+                    return Err(Stop::Wrong(self.place));
+                }
+                number(a.div_euclid(b), self.width, self.place)
+            }
+            Op::Mod => {
+                if b <= 0 {
+                    return Err(Stop::Wrong(self.place));
+                }
+                number(a.rem_euclid(b), self.width, self.place)
+            }
+            Op::Pow => raised(a, b, self.width, self.place),
+            Op::Range => Ok(numbers_between(self.alloc, a, b)?),
+            _ => Err(Stop::Wrong(self.place)),
+        }
+    }
+
+    // `-a`.
+    pub(crate) fn negative(&self) -> Result<Value, Stop>
+        ensures { Gives (table (Some self.now.width) self.now.place Op.Neg self.now.operands.now)
+            result }
+    {
+        match self.operands {
+            [Value::Int(a)] => match a.checked_neg() {
+                Some(n) => number(n, self.width, self.place),
+                None => Err(Stop::Big(self.place)),
+            },
+            _ => Err(Stop::Wrong(self.place)),
+        }
+    }
+}
 
 // Whether the number is in range.
 pub(crate) fn fits(n: i128, width: u32) -> bool
@@ -22,112 +89,15 @@ pub(crate) fn fits(n: i128, width: u32) -> bool
     -top <= n && n < top
 }
 
-#[tactic(auto, using(crate::proofs::NormalValues::int_normal))]
-pub(crate) fn number(n: i128, width: u32, place: Place) -> Outcome
+pub(crate) fn number(n: i128, width: u32, place: Place) -> Result<Value, Stop>
     requires narrow { width ≤ 64 }
     requires wide { 4 ≤ width }
-    ensures value { result ≡ number (Some width) place n }
-    ensures normal { IsNormalOutcome result }
+    ensures { Gives (number (Some width) place n) result }
 {
     if fits(n, width) {
-        Outcome::Val(Value::Int(n))
+        Ok(Value::Int(n))
     } else {
-        Outcome::Big(place)
-    }
-}
-
-pub(crate) fn less(operands: &[Value], place: Place) -> Outcome
-    ensures value { result ≡ table None place Op.Lt operands.now }
-    ensures normal { IsNormalOutcome result }
-{
-    match two_numbers(operands) {
-        Some((a, b)) => yes_no(a < b),
-        None => Outcome::Wrong(place),
-    }
-}
-
-pub(crate) fn greater(operands: &[Value], place: Place) -> Outcome
-    ensures value { result ≡ table None place Op.Gt operands.now }
-    ensures normal { IsNormalOutcome result }
-{
-    match two_numbers(operands) {
-        Some((a, b)) => yes_no(b < a),
-        None => Outcome::Wrong(place),
-    }
-}
-
-pub(crate) fn at_most(operands: &[Value], place: Place) -> Outcome
-    ensures value { result ≡ table None place Op.Le operands.now }
-    ensures normal { IsNormalOutcome result }
-{
-    match two_numbers(operands) {
-        Some((a, b)) => yes_no(a <= b),
-        None => Outcome::Wrong(place),
-    }
-}
-
-pub(crate) fn at_least(operands: &[Value], place: Place) -> Outcome
-    ensures value { result ≡ table None place Op.Ge operands.now }
-    ensures normal { IsNormalOutcome result }
-{
-    match two_numbers(operands) {
-        Some((a, b)) => yes_no(b <= a),
-        None => Outcome::Wrong(place),
-    }
-}
-
-pub(crate) fn add(operands: &[Value], width: u32, place: Place) -> Outcome
-    requires narrow { width ≤ 64 }
-    requires wide { 4 ≤ width }
-    ensures value { result ≡ table (Some width) place Op.Add operands.now }
-    ensures normal { IsNormalOutcome result }
-{
-    match two_numbers(operands) {
-        Some((a, b)) => match a.checked_add(b) {
-            Some(n) => number(n, width, place),
-            None => Outcome::Big(place),
-        },
-        None => Outcome::Wrong(place),
-    }
-}
-
-pub(crate) fn subtract(operands: &[Value], width: u32, place: Place) -> Outcome
-    requires narrow { width ≤ 64 }
-    requires wide { 4 ≤ width }
-    ensures value { result ≡ table (Some width) place Op.Sub operands.now }
-    ensures normal { IsNormalOutcome result }
-{
-    match two_numbers(operands) {
-        Some((a, b)) => match a.checked_sub(b) {
-            Some(n) => number(n, width, place),
-            None => Outcome::Big(place),
-        },
-        None => Outcome::Wrong(place),
-    }
-}
-
-pub(crate) fn multiply(operands: &[Value], width: u32, place: Place) -> Outcome
-    requires narrow { width ≤ 64 }
-    requires wide { 4 ≤ width }
-    ensures value { result ≡ table (Some width) place Op.Mul operands.now }
-    ensures normal { IsNormalOutcome result }
-{
-    match two_numbers(operands) {
-        Some((a, b)) => product(a, b, width, place),
-        None => Outcome::Wrong(place),
-    }
-}
-
-#[tactic(auto, using(crate::proofs::NormalValues::int_normal))]
-fn product(a: i128, b: i128, width: u32, place: Place) -> Outcome
-    requires narrow { width ≤ 64 }
-    requires wide { 4 ≤ width }
-    ensures value { result ≡ number (Some width) place (a *ℤ b) }
-    ensures normal { IsNormalOutcome result }
-{
-    match times(a, b, width) {
-        Some(n) => Outcome::Val(Value::Int(n)),
-        None => Outcome::Big(place),
+        Err(Stop::Big(place))
     }
 }
 
@@ -144,26 +114,13 @@ fn times(a: i128, b: i128, width: u32) -> Option<i128>
     }
 }
 
-pub(crate) fn power(operands: &[Value], width: u32, place: Place) -> Outcome
+fn raised(a: i128, n: i128, width: u32, place: Place) -> Result<Value, Stop>
     requires narrow { width ≤ 64 }
     requires wide { 4 ≤ width }
-    ensures value { result ≡ table (Some width) place Op.Pow operands.now }
-    ensures normal { IsNormalOutcome result }
-{
-    match two_numbers(operands) {
-        Some((a, n)) => power_of(a, n, width, place),
-        None => Outcome::Wrong(place),
-    }
-}
-
-fn power_of(a: i128, n: i128, width: u32, place: Place) -> Outcome
-    requires narrow { width ≤ 64 }
-    requires wide { 4 ≤ width }
-    ensures value { result ≡ power (Some width) place a n }
-    ensures normal { IsNormalOutcome result }
+    ensures { Gives (power (Some width) place a n) result }
 {
     if n < 0 {
-        Outcome::Wrong(place)
+        Err(Stop::Wrong(place))
     } else if -1 <= a && a <= 1 {
         number(small_power(a, n.unsigned_abs()), width, place)
     } else {
@@ -189,91 +146,25 @@ fn small_power(a: i128, n: u128) -> i128
 }
 
 // The power of any other number, which grows with each factor.
-fn large_power(a: i128, n: u128, width: u32, place: Place) -> Outcome
+fn large_power(a: i128, n: u128, width: u32, place: Place) -> Result<Value, Stop>
     requires narrow { width ≤ 64 }
     requires wide { 4 ≤ width }
     requires base { 2 ≤ unsigned_abs a }
-    ensures value { result ≡ number (Some width) place (power_of a n) }
-    ensures normal { IsNormalOutcome result }
+    ensures { Gives (number (Some width) place (power_of a n)) result }
 {
     let mut power: i128 = 1;
     for _k in 0..n {
         match times(a, power, width) {
             Some(next) => power = next,
-            None => return Outcome::Big(place),
+            None => return Err(Stop::Big(place)),
         }
     }
     number(power, width, place)
 }
 
-pub(crate) fn negate(operands: &[Value], width: u32, place: Place) -> Outcome
-    requires narrow { width ≤ 64 }
-    requires wide { 4 ≤ width }
-    ensures value { result ≡ table (Some width) place Op.Neg operands.now }
-    ensures normal { IsNormalOutcome result }
-{
-    match one_number(operands) {
-        Some(a) => match a.checked_neg() {
-            Some(n) => number(n, width, place),
-            None => Outcome::Big(place),
-        },
-        None => Outcome::Wrong(place),
-    }
-}
-
-pub(crate) fn divide(operands: &[Value], width: u32, place: Place) -> Outcome
-    requires narrow { width ≤ 64 }
-    requires wide { 4 ≤ width }
-    ensures value { result ≡ table (Some width) place Op.Div operands.now }
-    ensures normal { IsNormalOutcome result }
-{
-    match two_numbers(operands) {
-        Some((a, b)) => {
-            if b <= 0 {
-                Outcome::Wrong(place)
-            } else {
-                number(a.div_euclid(b), width, place)
-            }
-        }
-        None => Outcome::Wrong(place),
-    }
-}
-
-pub(crate) fn remainder(operands: &[Value], width: u32, place: Place) -> Outcome
-    requires narrow { width ≤ 64 }
-    requires wide { 4 ≤ width }
-    ensures value { result ≡ table (Some width) place Op.Mod operands.now }
-    ensures normal { IsNormalOutcome result }
-{
-    match two_numbers(operands) {
-        Some((a, b)) => {
-            if b <= 0 {
-                Outcome::Wrong(place)
-            } else {
-                number(a.rem_euclid(b), width, place)
-            }
-        }
-        None => Outcome::Wrong(place),
-    }
-}
-
 // `a..b`.
-pub(crate) fn range(alloc: Global, operands: &[Value], place: Place) -> Result<Outcome, AllocError>
-    ensures value { IfOk result (λ o. o ≡ table None place Op.Range operands.now) }
-    ensures normal { IfOk result IsNormalOutcome }
-{
-    match two_numbers(operands) {
-        Some((a, b)) => {
-            let set = numbers_between(alloc, a, b)?;
-            Ok(Outcome::Val(set))
-        }
-        None => Ok(Outcome::Wrong(place)),
-    }
-}
-
 fn numbers_between(alloc: Global, a: i128, b: i128) -> Result<Value, AllocError>
-    ensures value { IfOk result (λ v. v ≡ Value.Set (range a b)) }
-    ensures normal { IfOk result Normal }
+    ensures { IfOk result (λ v. v ≡ Value.Set (range a b)) }
 {
     let mut members = Vec::new(alloc);
     while let Some(n) = next_member(a, b, members.len()) {

@@ -1,13 +1,13 @@
-// Outcomes, and how those of several operands are one.
-ghost use Rattle.std.specs.Prelude.{◌≡◌, ◌++◌, ◌∷◌, [], IsTrue, MatchResult, OnOk, false};
-ghost use Rattle.tla_meaning.specs.Meaning.{choose};
-ghost use Rattle.tla_meaning.specs.Operators.{yes_no};
-ghost use Rattle.tla_meaning.specs.Outcomes.{before, join_faults, fault_of, least, fault_or, values};
+// What several trees give, joined.
+ghost use Rattle.std.specs.Prelude.{◌≡◌, [], OnOk};
+ghost use Rattle.tla_meaning.specs.Outcomes.{before, join_faults, least};
+ghost use Rattle.tla_evaluator.specs.inner.Gives.{GivesAll, Guards, Joins, both, worse};
 
+use crate::stops::Stop;
 use std::alloc::{AllocError, Global};
 use std::cmp::Ordering;
 use tla_meaning::{Fault, Outcome, Place};
-use tla_values::Value;
+use tla_values::{List, Value};
 
 pub(crate) fn before(p: Place, q: Place) -> bool
     ensures { result ≡ before p q }
@@ -31,96 +31,107 @@ pub(crate) fn join_faults(f: Fault, g: Fault) -> Fault
     match f {
         Fault::NoFault => g,
         Fault::IsWrong(p) => match g {
-            Fault::NoFault => Fault::IsWrong(p),
             Fault::IsWrong(q) => Fault::IsWrong(least(p, q)),
-            Fault::IsBig(_) => Fault::IsWrong(p),
+            _ => f,
         },
         Fault::IsBig(p) => match g {
-            Fault::NoFault => Fault::IsBig(p),
-            Fault::IsWrong(q) => Fault::IsWrong(q),
+            Fault::NoFault => f,
+            Fault::IsWrong(_) => g,
             Fault::IsBig(q) => Fault::IsBig(least(p, q)),
         },
     }
 }
 
-// The fault, or else the outcome.
-pub(crate) fn fault_or(fault: Fault, outcome: Outcome) -> Outcome
-    ensures { result ≡ fault_or fault outcome }
+fn worse(s: Stop, t: Stop) -> Stop
+    ensures { result ≡ worse s t }
 {
-    match fault {
-        Fault::NoFault => outcome,
-        Fault::IsWrong(p) => Outcome::Wrong(p),
-        Fault::IsBig(p) => Outcome::Big(p),
+    match s {
+        Stop::Memory(e) => Stop::Memory(e),
+        Stop::Wrong(p) => match t {
+            Stop::Memory(e) => Stop::Memory(e),
+            Stop::Wrong(q) => Stop::Wrong(least(p, q)),
+            Stop::Big(_) => Stop::Wrong(p),
+        },
+        Stop::Big(p) => match t {
+            Stop::Memory(e) => Stop::Memory(e),
+            Stop::Wrong(q) => Stop::Wrong(q),
+            Stop::Big(q) => Stop::Big(least(p, q)),
+        },
     }
 }
 
-// The join of several outcomes, with the values among them.
-#[derive(Drop)]
-pub(crate) struct Joined {
-    pub(crate) fault: Fault,
-    pub(crate) values: Vec<Value>,
+// Both, or the join of their faults.
+pub(crate) fn both<X: Drop, Y: Drop>(a: Result<X, Stop>, b: Result<Y, Stop>) -> Result<(X, Y), Stop>
+    ensures { result ≡ both a b }
+{
+    match a {
+        Ok(x) => match b {
+            Ok(y) => Ok((x, y)),
+            Err(t) => Err(t),
+        },
+        Err(s) => match b {
+            Ok(_) => Err(s),
+            Err(t) => Err(worse(s, t)),
+        },
+    }
 }
 
-pub(crate) fn nothing(alloc: Global) -> Joined
+// The join of what several trees gave, with what was no fault.
+#[derive(Drop)]
+pub(crate) struct Joined<T> {
+    pub(crate) fault: Fault,
+    pub(crate) items: Vec<T>,
+}
+
+pub(crate) fn nothing<T>(alloc: Global) -> Joined<T>
     ensures fault { result.fault ≡ Fault.NoFault }
-    ensures values { result.values.items ≡ [] }
+    ensures items { result.items.items ≡ [] }
 {
     Joined {
         fault: Fault::NoFault,
-        values: Vec::new(alloc),
+        items: Vec::new(alloc),
     }
 }
 
-// One more outcome.
-pub(crate) fn join(joined: &mut Joined, outcome: Outcome) -> Result<(), AllocError>
-    ensures fault { OnOk result (joined.new.fault ≡ join_faults joined.old.fault (fault_of outcome)) }
-    ensures values { OnOk result (joined.new.values.items ≡ joined.old.values.items ++ values (outcome ∷ [])) }
+// One more.
+pub(crate) fn join<T: Drop>(joined: &mut Joined<T>, one: Result<T, Stop>) -> Result<(), AllocError>
+    ensures { OnOk result
+        (Joins joined.old.fault joined.old.items.items one joined.new.fault joined.new.items.items) }
 {
-    match outcome {
-        Outcome::Val(v) => {
-            joined.values.push(v)?;
+    match one {
+        Ok(x) => {
+            joined.items.push(x)?;
             Ok(())
         }
-        Outcome::Wrong(p) => {
+        Err(Stop::Wrong(p)) => {
             joined.fault = join_faults(joined.fault, Fault::IsWrong(p));
             Ok(())
         }
-        Outcome::Big(p) => {
+        Err(Stop::Big(p)) => {
             joined.fault = join_faults(joined.fault, Fault::IsBig(p));
             Ok(())
         }
+        Err(Stop::Memory(e)) => Err(e),
     }
 }
 
-// A truth value, or the outcome that stands in its place.
-pub(crate) fn truth(outcome: Outcome, place: Place) -> Result<bool, Outcome>
-    ensures { MatchResult result (λ b. outcome ≡ yes_no b) (λ f. (x y : Outcome) → choose place outcome x y ≡ f) }
+// All of what was joined, or the join of the faults.
+pub(crate) fn all_of<T: Drop>(joined: Joined<T>) -> Result<List<T>, Stop>
+    ensures { GivesAll joined.fault joined.items.items result }
 {
-    match outcome {
-        Outcome::Val(Value::Bool(b)) => Ok(b),
-        Outcome::Val(_) => Err(Outcome::Wrong(place)),
-        Outcome::Wrong(p) => Err(Outcome::Wrong(p)),
-        Outcome::Big(p) => Err(Outcome::Big(p)),
+    match joined.fault {
+        Fault::NoFault => Ok(List::from_vec(joined.items)),
+        Fault::IsWrong(p) => Err(Stop::Wrong(p)),
+        Fault::IsBig(p) => Err(Stop::Big(p)),
     }
 }
 
-// What kept an outcome from being a value.
-pub(crate) fn fault_of(outcome: &Outcome) -> Fault
-    ensures { result ≡ fault_of outcome.now }
+// The truth value of a guard.
+pub(crate) fn truth(v: Value, place: Place) -> Result<bool, Stop>
+    ensures { Guards place (Outcome.Val v) result }
 {
-    match outcome {
-        Outcome::Val(_) => Fault::NoFault,
-        Outcome::Wrong(p) => Fault::IsWrong(*p),
-        Outcome::Big(p) => Fault::IsBig(*p),
-    }
-}
-
-pub(crate) fn is_fault(fault: Fault) -> bool
-    ensures yes { IsTrue result → (o q : Outcome) → fault_or fault o ≡ fault_or fault q }
-    ensures no { result ≡ false → fault ≡ Fault.NoFault }
-{
-    match fault {
-        Fault::NoFault => false,
-        _ => true,
+    match v {
+        Value::Bool(b) => Ok(b),
+        _ => Err(Stop::Wrong(place)),
     }
 }

@@ -1,18 +1,48 @@
 // Records, which are functions on texts, and sets of functions, records and tuples.
-ghost use Rattle.std.specs.List.{All};
 ghost use Rattle.std.specs.Prelude.{◌≡◌, ◌++◌, ◌∷◌, [], IfOk, List as Items, None, OnOk, map, zip};
-ghost use Rattle.tla_values.specs.Sets.{Normal};
 ghost use Rattle.tla_meaning.specs.Operators.{table};
 ghost use Rattle.tla_meaning.specs.Shapes.{functions, record_of, sequence, the_function};
-ghost use Rattle.tla_meaning.specs.Outcomes.{IsNormalOutcome};
+ghost use Rattle.tla_evaluator.specs.inner.Gives.{Gives};
 
-use crate::functions::{function_of, value_at};
-use crate::operands::{one_function, two_sets};
+use crate::functions::function_of;
+use crate::operands::Row;
 use crate::sequences::sequence;
 use crate::sets::{choices_of, each_to};
+use crate::stops::Stop;
 use std::alloc::{AllocError, Global};
-use tla_meaning::{Op, Outcome, Place};
+use tla_meaning::Op;
 use tla_values::{List, Text, Value, copy_text, copy_value, set_of};
+
+impl Row<'_> {
+    // `[a: S, b: T]`.
+    pub(crate) fn record_set(&self, names: &List<Text>) -> Result<Value, Stop>
+        ensures { Gives (table None self.now.place (Op.RecSet names.now) self.now.operands.now)
+            result }
+    {
+        match choices_of(self.alloc, self.operands)? {
+            Some(lists) => {
+                let members = records_at(self.alloc, names.as_slice(), lists)?;
+                let set = set_of(self.alloc, List::from_vec(members))?;
+                Ok(set)
+            }
+            None => Err(Stop::Wrong(self.place)),
+        }
+    }
+
+    // `S \X T`.
+    pub(crate) fn product(&self) -> Result<Value, Stop>
+        ensures { Gives (table None self.now.place Op.Product self.now.operands.now) result }
+    {
+        match choices_of(self.alloc, self.operands)? {
+            Some(lists) => {
+                let members = sequences_of(self.alloc, lists)?;
+                let set = set_of(self.alloc, List::from_vec(members))?;
+                Ok(set)
+            }
+            None => Err(Stop::Wrong(self.place)),
+        }
+    }
+}
 
 // Each argument with its value.
 pub(crate) fn paired(
@@ -62,80 +92,29 @@ fn texts_of(alloc: Global, names: &[Text]) -> Result<Vec<Value>, AllocError>
 pub(crate) fn record(
     alloc: Global,
     names: &List<Text>,
-    operands: Vec<Value>,
-) -> Result<Outcome, AllocError>
-    requires { All Normal operands.items }
-    ensures value { IfOk result (λ o. o ≡ Outcome.Val (record_of names.now operands.items)) }
-    ensures normal { IfOk result IsNormalOutcome }
-{
-    let texts = texts_of(alloc, names.as_slice())?;
-    let value = record_at(alloc, texts.as_slice(), operands)?;
-    Ok(Outcome::Val(value))
-}
-
-// The function of values at arguments in any order.
-pub(crate) fn record_at(
-    alloc: Global,
-    texts: &[Value],
     values: Vec<Value>,
 ) -> Result<Value, AllocError>
-    ensures value { IfOk result (λ v. v ≡ the_function (zip texts.now values.items)) }
-    ensures normal { All Normal texts.now → All Normal values.items → IfOk result Normal }
+    ensures { IfOk result (λ v. v ≡ record_of names.now values.items) }
 {
-    let pairs = paired(alloc, texts, values)?;
-    let value = function_of(alloc, pairs)?;
-    Ok(value)
+    record_at(alloc, names.as_slice(), values)
 }
 
-// `r.a`.
-pub(crate) fn field(
-    alloc: Global,
-    name: &Text,
-    operands: &[Value],
-    place: Place,
-) -> Result<Outcome, AllocError>
-    requires { All Normal operands.now }
-    ensures value { IfOk result (λ o. o ≡ table None place (Op.Field name.now) operands.now) }
-    ensures normal { IfOk result IsNormalOutcome }
+fn record_at(alloc: Global, names: &[Text], values: Vec<Value>) -> Result<Value, AllocError>
+    ensures { IfOk result (λ v. v ≡ record_of names.now values.items) }
 {
-    match one_function(operands) {
-        Some(pairs) => {
-            let text = copy_text(alloc, name)?;
-            let outcome = value_at(alloc, pairs, &Value::Text(text), place)?;
-            Ok(outcome)
-        }
-        None => Ok(Outcome::Wrong(place)),
-    }
+    let texts = texts_of(alloc, names)?;
+    let pairs = paired(alloc, texts.as_slice(), values)?;
+    let function = function_of(alloc, pairs)?;
+    Ok(function)
 }
 
 // `[S -> T]`.
-pub(crate) fn function_set(
-    alloc: Global,
-    operands: &[Value],
-    place: Place,
-) -> Result<Outcome, AllocError>
-    requires { All Normal operands.now }
-    ensures value { IfOk result (λ o. o ≡ table None place Op.FunSet operands.now) }
-    ensures normal { IfOk result IsNormalOutcome }
-{
-    match two_sets(operands) {
-        Some((arguments, results)) => {
-            let set = functions(alloc, arguments, results)?;
-            Ok(Outcome::Val(set))
-        }
-        None => Ok(Outcome::Wrong(place)),
-    }
-}
-
-fn functions(
+pub(crate) fn functions(
     alloc: Global,
     arguments: &List<Value>,
     results: &List<Value>,
 ) -> Result<Value, AllocError>
-    requires left { Normal (Value.Set arguments.now) }
-    requires right { Normal (Value.Set results.now) }
-    ensures value { IfOk result (λ v. v ≡ functions arguments.now results.now) }
-    ensures normal { IfOk result Normal }
+    ensures { IfOk result (λ v. v ≡ functions arguments.now results.now) }
 {
     let lists = each_to(alloc, arguments.as_slice(), results.as_slice())?;
     let members = functions_at(alloc, arguments.as_slice(), lists)?;
@@ -158,61 +137,19 @@ fn functions_at(
     Ok(members)
 }
 
-// `[a: S, b: T]`.
-pub(crate) fn record_set(
-    alloc: Global,
-    names: &List<Text>,
-    operands: &[Value],
-    place: Place,
-) -> Result<Outcome, AllocError>
-    requires { All Normal operands.now }
-    ensures value { IfOk result (λ o. o ≡ table None place (Op.RecSet names.now) operands.now) }
-    ensures normal { IfOk result IsNormalOutcome }
-{
-    match choices_of(alloc, operands)? {
-        Some(lists) => {
-            let texts = texts_of(alloc, names.as_slice())?;
-            let members = records_at(alloc, texts.as_slice(), lists)?;
-            let set = set_of(alloc, List::from_vec(members))?;
-            Ok(Outcome::Val(set))
-        }
-        None => Ok(Outcome::Wrong(place)),
-    }
-}
-
 fn records_at(
     alloc: Global,
-    texts: &[Value],
+    names: &[Text],
     lists: Vec<List<Value>>,
 ) -> Result<Vec<Value>, AllocError>
-    ensures { IfOk result (λ v. v.items ≡ map (λ ys. the_function (zip texts.now ys)) lists.items) }
+    ensures { IfOk result (λ v. v.items ≡ map (record_of names.now) lists.items) }
 {
     let mut members = Vec::new(alloc);
     for list in lists {
-        let member = record_at(alloc, texts, list.into_vec())?;
+        let member = record_at(alloc, names, list.into_vec())?;
         members.push(member)?;
     }
     Ok(members)
-}
-
-// `S \X T`.
-pub(crate) fn product(
-    alloc: Global,
-    operands: &[Value],
-    place: Place,
-) -> Result<Outcome, AllocError>
-    requires { All Normal operands.now }
-    ensures value { IfOk result (λ o. o ≡ table None place Op.Product operands.now) }
-    ensures normal { IfOk result IsNormalOutcome }
-{
-    match choices_of(alloc, operands)? {
-        Some(lists) => {
-            let members = sequences_of(alloc, lists)?;
-            let set = set_of(alloc, List::from_vec(members))?;
-            Ok(Outcome::Val(set))
-        }
-        None => Ok(Outcome::Wrong(place)),
-    }
 }
 
 fn sequences_of(alloc: Global, lists: Vec<List<Value>>) -> Result<Vec<Value>, AllocError>

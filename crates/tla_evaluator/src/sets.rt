@@ -1,149 +1,101 @@
 // Sets.
 ghost use Rattle.std.specs.List.{All};
-ghost use Rattle.std.specs.Prelude.{◌≡◌, ◌≤◌, ◌++◌, ◌∷◌, [], IfOk, None, false, true, OnOk, Some, map, option_map};
+ghost use Rattle.std.specs.Prelude.{◌≡◌, ◌++◌, ◌∷◌, [], IfOk, OnOk, Some, false, map, option_map, true};
 ghost use Rattle.tla_values.specs.Sets.{Normal};
-ghost use Rattle.tla_meaning.specs.Operators.{on_all_sets, table};
-ghost use Rattle.tla_meaning.specs.Shapes.{all_set_items, choices, each_to, sublists, subsets, the_set, union_all, with_each};
-ghost use Rattle.tla_meaning.specs.Outcomes.{IsNormalOutcome};
+ghost use Rattle.tla_values.specs.declared.value.Value.{out-Value};
+ghost use Rattle.tla_meaning.specs.Operators.{on_all_sets, on_set, on_sets};
+ghost use Rattle.tla_meaning.specs.Shapes.{all_set_items, choices, each_to, sublists, subsets, union_all, with_each};
+ghost use Rattle.tla_evaluator.specs.inner.Families.{of_set, of_sets};
+ghost use Rattle.tla_evaluator.specs.inner.Gives.{Gives};
 ghost use Rattle.tla_evaluator.specs.inner.Results.{all_of};
 
-use crate::logic::yes_no;
 use crate::numbers::number;
-use crate::operands::{one_set, two_sets};
+use crate::operands::Row;
+use crate::records::functions;
+use crate::stops::Stop;
 use std::alloc::{AllocError, Global};
-use tla_meaning::{Op, Outcome, Place};
-use tla_values::{List, Value, copy_value, inter_of, minus, set_of, union_of};
+use tla_meaning::{Op, Outcome};
+use tla_values::{List, Value, copy_onto, copy_value, inter_of, minus, set_of, union_of};
 
-// `{a, b}`.
-pub(crate) fn enumerated(alloc: Global, operands: Vec<Value>) -> Result<Outcome, AllocError>
-    requires { All Normal operands.items }
-    ensures value { IfOk result (λ o. o ≡ Outcome.Val (the_set operands.items)) }
-    ensures normal { IfOk result IsNormalOutcome }
-{
-    let set = set_of(alloc, List::from_vec(operands))?;
-    Ok(Outcome::Val(set))
-}
-
-// `S \cup T`.
-pub(crate) fn cup(alloc: Global, operands: &[Value], place: Place) -> Result<Outcome, AllocError>
-    requires { All Normal operands.now }
-    ensures value { IfOk result (λ o. o ≡ table None place Op.Cup operands.now) }
-    ensures normal { IfOk result IsNormalOutcome }
-{
-    match two_sets(operands) {
-        Some((left, right)) => {
-            let set = union_of(alloc, left, right)?;
-            Ok(Outcome::Val(set))
+impl Row<'_> {
+    // One set.
+    pub(crate) fn set(&self, op: &Op) -> Result<Value, Stop>
+        ensures { Gives (on_set self.now.place (of_set (Some self.now.width) self.now.place op.now)
+            (map out-Value self.now.operands.now)) result }
+    {
+        match self.operands {
+            [Value::Set(members)] => self.of_set(op, members),
+            _ => Err(Stop::Wrong(self.place)),
         }
-        None => Ok(Outcome::Wrong(place)),
     }
-}
 
-// `S \cap T`.
-pub(crate) fn cap(alloc: Global, operands: &[Value], place: Place) -> Result<Outcome, AllocError>
-    requires { All Normal operands.now }
-    ensures value { IfOk result (λ o. o ≡ table None place Op.Cap operands.now) }
-    ensures normal { IfOk result IsNormalOutcome }
-{
-    match two_sets(operands) {
-        Some((left, right)) => {
-            let set = inter_of(alloc, left, right)?;
-            Ok(Outcome::Val(set))
+    fn of_set(&self, op: &Op, members: &List<Value>) -> Result<Value, Stop>
+        ensures { Gives (of_set (Some self.now.width) self.now.place op.now members.now) result }
+    {
+        match op {
+            Op::Powerset => Ok(subsets_of(self.alloc, members)?),
+            Op::BigUnion => self.union_of_all(members),
+            Op::Cardinality => number(members.len() as i128, self.width, self.place),
+            Op::IsFinite => Ok(Value::Bool(true)),
+            _ => Err(Stop::Wrong(self.place)),
         }
-        None => Ok(Outcome::Wrong(place)),
     }
-}
 
-// `S \ T`.
-pub(crate) fn difference(
-    alloc: Global,
-    operands: &[Value],
-    place: Place,
-) -> Result<Outcome, AllocError>
-    requires { All Normal operands.now }
-    ensures value { IfOk result (λ o. o ≡ table None place Op.Minus operands.now) }
-    ensures normal { IfOk result IsNormalOutcome }
-{
-    match two_sets(operands) {
-        Some((left, right)) => {
-            let set = minus(alloc, left, right)?;
-            Ok(Outcome::Val(set))
+    // `UNION S`.
+    fn union_of_all(&self, sets: &List<Value>) -> Result<Value, Stop>
+        ensures { Gives (on_all_sets self.now.place
+            (λ xss. Outcome.Val (Value.Set (union_all xss))) sets.now) result }
+    {
+        match all_members(self.alloc, sets.as_slice())? {
+            Some(members) => {
+                let union = set_of(self.alloc, List::from_vec(members))?;
+                Ok(union)
+            }
+            None => Err(Stop::Wrong(self.place)),
         }
-        None => Ok(Outcome::Wrong(place)),
     }
-}
 
-// `Cardinality(S)`.
-pub(crate) fn cardinality(operands: &[Value], width: u32, place: Place) -> Outcome
-    requires narrow { width ≤ 64 }
-    requires wide { 4 ≤ width }
-    ensures value { result ≡ table (Some width) place Op.Cardinality operands.now }
-    ensures normal { IsNormalOutcome result }
-{
-    match one_set(operands) {
-        Some(set) => number(set.len() as i128, width, place),
-        None => Outcome::Wrong(place),
+    // Two sets.
+    pub(crate) fn sets(&self, op: &Op) -> Result<Value, Stop>
+        requires { All Normal self.now.operands.now }
+        ensures { Gives (on_sets self.now.place (of_sets self.now.place op.now)
+            (map out-Value self.now.operands.now)) result }
+    {
+        match self.operands {
+            [Value::Set(left), Value::Set(right)] => self.of_sets(op, left, right),
+            _ => Err(Stop::Wrong(self.place)),
+        }
     }
-}
 
-// `IsFiniteSet(S)`.
-pub(crate) fn is_finite(operands: &[Value], place: Place) -> Outcome
-    ensures value { result ≡ table None place Op.IsFinite operands.now }
-    ensures normal { IsNormalOutcome result }
-{
-    match one_set(operands) {
-        Some(_) => yes_no(true),
-        None => Outcome::Wrong(place),
+    fn of_sets(&self, op: &Op, left: &List<Value>, right: &List<Value>) -> Result<Value, Stop>
+        requires left { Normal (Value.Set left.now) }
+        requires right { Normal (Value.Set right.now) }
+        ensures { Gives (of_sets self.now.place op.now left.now right.now) result }
+    {
+        match op {
+            Op::Cup => Ok(union_of(self.alloc, left, right)?),
+            Op::Cap => Ok(inter_of(self.alloc, left, right)?),
+            Op::Minus => Ok(minus(self.alloc, left, right)?),
+            Op::FunSet => Ok(functions(self.alloc, left, right)?),
+            _ => Err(Stop::Wrong(self.place)),
+        }
     }
 }
 
 // `BOOLEAN`.
-pub(crate) fn truth_values(alloc: Global) -> Result<Outcome, AllocError>
-    ensures value { IfOk result (λ o. o ≡ Outcome.Val (Value.Set (Value.Bool false ∷ Value.Bool true ∷ []))) }
-    ensures normal { IfOk result IsNormalOutcome }
+pub(crate) fn truth_values(alloc: Global) -> Result<Value, AllocError>
+    ensures { IfOk result (λ v. v ≡ Value.Set (Value.Bool false ∷ Value.Bool true ∷ [])) }
 {
     let mut members = Vec::new(alloc);
     members.push(Value::Bool(false))?;
     members.push(Value::Bool(true))?;
-    Ok(Outcome::Val(Value::Set(List::from_vec(members))))
-}
-
-// `UNION S`.
-pub(crate) fn big_union(
-    alloc: Global,
-    operands: &[Value],
-    place: Place,
-) -> Result<Outcome, AllocError>
-    requires { All Normal operands.now }
-    ensures value { IfOk result (λ o. o ≡ table None place Op.BigUnion operands.now) }
-    ensures normal { IfOk result IsNormalOutcome }
-{
-    match one_set(operands) {
-        Some(sets) => {
-            let outcome = union_of_all(alloc, sets, place)?;
-            Ok(outcome)
-        }
-        None => Ok(Outcome::Wrong(place)),
-    }
-}
-
-fn union_of_all(alloc: Global, sets: &List<Value>, place: Place) -> Result<Outcome, AllocError>
-    requires { Normal (Value.Set sets.now) }
-    ensures value { IfOk result (λ o. o ≡ on_all_sets place (λ xss. Outcome.Val (Value.Set (union_all xss))) sets.now) }
-    ensures normal { IfOk result IsNormalOutcome }
-{
-    match all_members(alloc, sets.as_slice())? {
-        Some(members) => {
-            let set = set_of(alloc, List::from_vec(members))?;
-            Ok(Outcome::Val(set))
-        }
-        None => Ok(Outcome::Wrong(place)),
-    }
+    Ok(Value::Set(List::from_vec(members)))
 }
 
 // The members of all sets, one after another, where all values are sets.
 fn all_members(alloc: Global, sets: &[Value]) -> Result<Option<Vec<Value>>, AllocError>
-    ensures { IfOk result (λ o. option_map all_of (all_set_items sets.now) ≡ option_map (λ v. v.items) o) }
+    ensures { IfOk result
+        (λ o. option_map all_of (all_set_items sets.now) ≡ option_map (λ v. v.items) o) }
 {
     let mut members = Vec::new(alloc);
     for v in sets {
@@ -153,20 +105,6 @@ fn all_members(alloc: Global, sets: &[Value]) -> Result<Option<Vec<Value>>, Allo
         }
     }
     Ok(Some(members))
-}
-
-pub(crate) fn copy_onto(
-    alloc: Global,
-    items: &[Value],
-    out: &mut Vec<Value>,
-) -> Result<(), AllocError>
-    ensures { OnOk result (out.new.items ≡ out.old.items ++ items.now) }
-{
-    for item in items {
-        let copy = copy_value(alloc, item)?;
-        out.push(copy)?;
-    }
-    Ok(())
 }
 
 // ---- subsets, and choices of members
@@ -224,7 +162,8 @@ fn sublists(alloc: Global, items: &[Value]) -> Result<Vec<List<Value>>, AllocErr
 
 // Each list besides with one more item in front.
 fn add_with_first(alloc: Global, x: &Value, lists: &mut Vec<List<Value>>) -> Result<(), AllocError>
-    ensures { OnOk result (lists.new.items ≡ lists.old.items ++ map (λ ys. x.now ∷ ys) lists.old.items) }
+    ensures { OnOk result
+        (lists.new.items ≡ lists.old.items ++ map (λ ys. x.now ∷ ys) lists.old.items) }
 {
     let mut longer = Vec::new(alloc);
     push_with_first(alloc, x, lists.as_slice(), &mut longer)?;
@@ -252,7 +191,8 @@ pub(crate) fn choices_of(
     alloc: Global,
     sets: &[Value],
 ) -> Result<Option<Vec<List<Value>>>, AllocError>
-    ensures { IfOk result (λ o. option_map choices (all_set_items sets.now) ≡ option_map (λ cs. cs.items) o) }
+    ensures { IfOk result
+        (λ o. option_map choices (all_set_items sets.now) ≡ option_map (λ cs. cs.items) o) }
 {
     match sets {
         [] => {
@@ -292,28 +232,8 @@ pub(crate) fn each_to(
 }
 
 // `SUBSET S`.
-pub(crate) fn powerset(
-    alloc: Global,
-    operands: &[Value],
-    place: Place,
-) -> Result<Outcome, AllocError>
-    requires { All Normal operands.now }
-    ensures value { IfOk result (λ o. o ≡ table None place Op.Powerset operands.now) }
-    ensures normal { IfOk result IsNormalOutcome }
-{
-    match one_set(operands) {
-        Some(set) => {
-            let subsets = subsets_of(alloc, set)?;
-            Ok(Outcome::Val(subsets))
-        }
-        None => Ok(Outcome::Wrong(place)),
-    }
-}
-
 fn subsets_of(alloc: Global, set: &List<Value>) -> Result<Value, AllocError>
-    requires { Normal (Value.Set set.now) }
-    ensures value { IfOk result (λ v. v ≡ subsets set.now) }
-    ensures normal { IfOk result Normal }
+    ensures { IfOk result (λ v. v ≡ subsets set.now) }
 {
     let lists = sublists(alloc, set.as_slice())?;
     let members = sets_of(alloc, lists)?;

@@ -10,9 +10,9 @@ ghost use Rattle.tla_evaluator.specs.inner.Effects.{behind};
 ghost use Rattle.tla_meaning.specs.Outcomes.{IsNormalOutcome};
 ghost use Rattle.tla_evaluator.specs.Trees.{AreNormal, is_expanded, value_at};
 
-use crate::actions::{action, by_value};
-use crate::expressions::value;
-use crate::outcomes::{fault_or, join_faults};
+use crate::context::{Context, names_of};
+use crate::outcomes::join_faults;
+use crate::stops::told;
 use std::alloc::{AllocError, Global};
 use tla_meaning::{Assignable, Decl, Effect, Env, Expr, Fault, Job, Op, Outcome, State};
 use tla_values::{Text, Value};
@@ -21,7 +21,11 @@ use tla_values::{Text, Value};
 fn outcome_of(f: Effect) -> Outcome
     ensures { result ≡ outcome_of f }
 {
-    fault_or(f.fault, Outcome::Val(Value::Bool(f.holds)))
+    match f.fault {
+        Fault::NoFault => Outcome::Val(Value::Bool(f.holds)),
+        Fault::IsWrong(p) => Outcome::Wrong(p),
+        Fault::IsBig(p) => Outcome::Big(p),
+    }
 }
 
 /// What an expression gives in a state, with a next state for its primed names (Specifying Systems, chapter 16): its
@@ -47,10 +51,9 @@ pub fn eval(
     ensures value { IfOk result (λ o. o ≡ val (Some width) e.now (scope_of env.now) s.now (unwrap_or (option_copied t.entry) s.now)) }
     ensures normal { IfOk result IsNormalOutcome }
 {
-    match t {
-        Some(next) => value(alloc, e, env.vals.as_slice(), s, next, width),
-        None => value(alloc, e, env.vals.as_slice(), s, s, width),
-    }
+    let bound = names_of(alloc, env.vals.as_slice())?;
+    let context = Context::new(alloc, bound, s, t.unwrap_or(s), width);
+    told(context.value(e))
 }
 
 /// What an action of primed names gives between two states (Specifying Systems, sections 8.1 and 16.1): TRUE, FALSE,
@@ -66,7 +69,8 @@ pub fn act(alloc: Global, a: &Expr, s: &State, t: &State, width: u32) -> Result<
     requires next { All Normal t.now.vals }
     ensures { IfOk result (λ o. o ≡ act (Some width) Assignable.Primed a.now no_scope s.now t.now) }
 {
-    let effect = action(alloc, a, Assignable::Primed, &[], s, t, width)?;
+    let context = Context::unbound(alloc, s, t, width);
+    let effect = context.action(a, Assignable::Primed)?;
     Ok(outcome_of(effect))
 }
 
@@ -91,31 +95,16 @@ pub fn start(alloc: Global, job: &Job, s: &State, width: u32) -> Result<Outcome,
     ensures { IfOk result (λ o. o ≡ start (Some width) job.now s.now) }
 {
     let count = constants(job.names.as_slice());
-    let cinit = action(
-        alloc,
-        &job.cinit,
-        Assignable::Constants(count),
-        &[],
-        s,
-        s,
-        width,
-    )?;
+    let context = Context::unbound(alloc, s, s, width);
+    let cinit = context.action(&job.cinit, Assignable::Constants(count))?;
     if !cinit.holds {
         return Ok(outcome_of(cinit));
     }
-    let assumed = behind(cinit, by_value(alloc, &job.assume, &[], s, s, width)?);
+    let assumed = behind(cinit, context.by_value(&job.assume)?);
     if !assumed.holds {
         return Ok(outcome_of(assumed));
     }
-    let init = action(
-        alloc,
-        &job.init,
-        Assignable::Variables(count),
-        &[],
-        s,
-        s,
-        width,
-    )?;
+    let init = context.action(&job.init, Assignable::Variables(count))?;
     Ok(outcome_of(behind(assumed, init)))
 }
 
@@ -147,15 +136,8 @@ pub fn next(
     ensures { IfOk result (λ o. o ≡ next (Some width) job.now s.now t.now) }
 {
     let count = constants(job.names.as_slice());
-    let effect = action(
-        alloc,
-        &job.next,
-        Assignable::PrimedVariables(count),
-        &[],
-        s,
-        t,
-        width,
-    )?;
+    let context = Context::unbound(alloc, s, t, width);
+    let effect = context.action(&job.next, Assignable::PrimedVariables(count))?;
     Ok(outcome_of(effect))
 }
 
@@ -188,8 +170,9 @@ pub fn invariant(
         (r.1 ≡ val (Some width) (slice_index_or job.now.invs r.0 e).1 no_scope s.now s.now) × (IsYes r.1 → ⊥)) }
     ensures bound { IfOk result (λ r. r.0 ≤ length job.now.invs) }
 {
+    let context = Context::unbound(alloc, s, s, width);
     for (i, named) in job.invs.as_slice().iter().enumerate() {
-        let outcome = value(alloc, &named.1, &[], s, s, width)?;
+        let outcome = told(context.value(&named.1))?;
         if !is_yes(&outcome) {
             return Ok((i, outcome));
         }

@@ -4,6 +4,7 @@ ghost use Rattle.std.specs.List.{list_all, list_any};
 ghost use Rattle.tla_meaning.specs.Actions.{counts};
 ghost use Rattle.tla_evaluator.specs.Trees.{is_expanded, is_expanded_op};
 ghost use Rattle.tla_evaluator.specs.inner.Mentions.{mentions};
+ghost use Rattle.tla_evaluator.specs.inner.Nodes.{has_form};
 
 use tla_meaning::{Assignable, Expr, Op};
 
@@ -14,6 +15,24 @@ pub(crate) fn is_expanded_op(op: &Op) -> bool
     !matches!(
         op,
         Op::Use(_) | Op::Param(_) | Op::Let(_) | Op::Prime | Op::Unchanged | Op::Boxed | Op::Angled
+    )
+}
+
+// Whether the operator describes a set by what belongs to it, or notes what may.
+pub(crate) fn has_form(op: &Op) -> bool
+    ensures { result ≡ has_form op.now }
+{
+    matches!(
+        op,
+        Op::IntSet
+            | Op::NatSet
+            | Op::StringSet
+            | Op::SeqSet
+            | Op::Powerset
+            | Op::FunSet
+            | Op::RecSet(_)
+            | Op::Product
+            | Op::Noted(_)
     )
 }
 

@@ -1,5 +1,6 @@
 -- What the evaluation of an action answers, by the operator at the node.
-use Rattle.std.specs.Prelude.{ℕ, ◌||◌, List, [], ◌∷◌, ◌++◌, drop, length, take}
+use Rattle.std.specs.List.{list_any}
+use Rattle.std.specs.Prelude.{ℕ, Bool, true, false, ◌||◌, List, [], ◌∷◌, ◌++◌, drop, length, take}
 use Rattle.tla_values.specs.declared.value.Value.{Value}
 use Rattle.tla_meaning.specs.declared.actions.Assignable.{Assignable}
 use Rattle.tla_meaning.specs.declared.actions.Effect.{Effect}
@@ -8,10 +9,14 @@ use Rattle.tla_meaning.specs.declared.job.State.{State}
 use Rattle.tla_meaning.specs.declared.outcome.Fault.{Fault}
 use Rattle.tla_meaning.specs.declared.outcome.Fault.TheVariants.{IsWrong}
 use Rattle.tla_meaning.specs.declared.place.Place.{Place}
-use Rattle.tla_meaning.specs.Actions.{exists_effect, fails_by}
+use Rattle.tla_meaning.specs.declared.op.Op.{Op}
+use Rattle.tla_meaning.specs.declared.op.Op.TheVariants as op
+use Rattle.tla_meaning.specs.Actions.{case_effect, effects_and, effects_or, exists_effect, fails_by, if_effect}
+use Rattle.tla_evaluator.specs.inner.Mentions.{mentions}
 use Rattle.tla_meaning.specs.Outcomes.{join_faults}
 use Rattle.tla_meaning.specs.Scopes.{bound_to}
 use Rattle.tla_evaluator.specs.Trees.{effect_at, outcomes_at}
+use Rattle.tla_evaluator.specs.inner.Readings.{Reading, effects_in, outcomes_in}
 
 -- an effect behind a fault that came before
 abbrev pub behind : Fault → Effect → Effect
@@ -35,3 +40,30 @@ abbrev pub exists_at : ℕ → Assignable → Place → List (List ℕ) → List
 exists_at w m p xs es vars s t =
     exists_effect p (outcomes_at w (take (length xs) es) vars s t)
     (λ c. first_effect w m p (drop (length xs) es) (vars ++ bound_to xs c) s t)
+
+-- the same, by what an evaluation reads
+abbrev pub body_in : Reading → Assignable → Expr → List (List ℕ) → List Value → Effect
+body_in r m e xs c = body_effect r.width m e xs r.bound r.state r.next c
+
+abbrev pub exists_in : Reading → Assignable → Place → List (List ℕ) → List Expr → Effect
+exists_in r m p xs es = exists_at r.width m p xs es r.bound r.state r.next
+
+-- whether a node with these children acts by its parts, and not by its value
+abbrev pub acts : Assignable → Op → List Expr → Bool
+acts m op.And es = true
+acts m op.Exists es = true
+acts m (op.Noted x) es = true
+acts m op.Or es = list_any (mentions m) es
+acts m op.If es = list_any (mentions m) es
+acts m (op.Case other) es = list_any (mentions m) es
+acts m o es = false
+
+-- the effect of such a node, by its operator
+abbrev pub act_in : Reading → Assignable → Place → Op → List (List ℕ) → List Expr → Effect
+act_in r m p op.And xs es = effects_and (effects_in r m es)
+act_in r m p op.Exists xs es = exists_in r m p xs es
+act_in r m p (op.Noted x) xs es = first_effect r.width m p es r.bound r.state r.next
+act_in r m p op.Or xs es = effects_or (effects_in r m es)
+act_in r m p op.If xs es = if_effect p (outcomes_in r es) (effects_in r m es)
+act_in r m p (op.Case other) xs es = case_effect p (outcomes_in r es) (effects_in r m es)
+act_in r m p o xs es = fails_by (IsWrong p)

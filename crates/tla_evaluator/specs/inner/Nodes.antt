@@ -1,21 +1,26 @@
 -- What a node gives, by the outcomes of its children.
-use Rattle.std.specs.Prelude.{ℕ, suc, Bool, true, false, List, [], ◌∷◌, ◌++◌, drop, length, map, not, take}
+use Rattle.std.specs.Prelude.{ℕ, suc, Some, if◌then◌else◌, Bool, true, false, List, [], ◌∷◌, ◌++◌, drop, length, map, not, take}
 use Rattle.tla_values.specs.declared.value.Value.{Value}
+use Rattle.tla_values.specs.declared.value.Value.TheVariants as value
 use Rattle.tla_meaning.specs.declared.expr.Expr.{Expr}
 use Rattle.tla_meaning.specs.declared.job.State.{State}
 use Rattle.tla_meaning.specs.declared.op.Op.{Op}
 use Rattle.tla_meaning.specs.declared.op.Op.TheVariants as op
 use Rattle.tla_meaning.specs.declared.outcome.Outcome.{Outcome}
-use Rattle.tla_meaning.specs.declared.outcome.Outcome.TheVariants.{Wrong}
+use Rattle.tla_meaning.specs.declared.outcome.Outcome.TheVariants.{Val, Wrong}
 use Rattle.tla_meaning.specs.declared.place.Place.{Place}
 use Rattle.tla_meaning.specs.declared.forms.SetForm.{SetForm}
-use Rattle.tla_meaning.specs.Forms.{belongs}
-use Rattle.tla_meaning.specs.Meaning.{Update, all_in, bound_table, conjoined, disjoined, first_updated, fold_over}
-use Rattle.tla_meaning.specs.Operators.{on_all_sets, yes_no}
+use Rattle.tla_meaning.specs.declared.forms.SetForm.TheVariants as form
+use Rattle.tla_meaning.specs.declared.outcome.Fault.TheVariants.{IsWrong}
+use Rattle.tla_meaning.specs.Forms.{Broken, Formed, Made, belongs, is_set_form}
+use Rattle.tla_meaning.specs.Meaning.{Update, all_in, bound_table, case_chosen, conjoined, disjoined, first_updated, fold_over, form_of_all, form_of_one, function_form, if_chosen, implied, in_form, read}
+use Rattle.tla_meaning.specs.Operators.{on_all_sets, table, yes_no}
 use Rattle.tla_meaning.specs.Outcomes.{strict, values}
-use Rattle.tla_meaning.specs.Scopes.{bound_to}
+use Rattle.tla_meaning.specs.Scopes.{bound_to, find_last, value_found}
 use Rattle.tla_meaning.specs.Shapes.{choices}
+use Rattle.tla_meaning.specs.Numbers.{number}
 use Rattle.tla_evaluator.specs.Trees.{first_at, outcomes_at}
+use Rattle.tla_evaluator.specs.inner.Readings.{Reading, first_form_in, first_in, forms_in, outcomes_in}
 
 -- from the left, up to the first operand that has this truth value
 abbrev pub junction : Bool → Place → List Outcome → Outcome
@@ -70,19 +75,9 @@ membership_test op.NotIn p v f = yes_no (not (belongs f v))
 membership_test op.SubsetEq p v f = all_in p v f
 membership_test o p v f = Wrong p
 
-abbrev pub is_membership : Op → Bool
-is_membership op.In = true
-is_membership op.NotIn = true
-is_membership op.SubsetEq = true
-is_membership o = false
-
-abbrev pub is_binder : Op → Bool
-is_binder op.Exists = true
-is_binder op.Forall = true
-is_binder op.Filter = true
-is_binder op.MapTo = true
-is_binder op.Lambda = true
-is_binder o = false
+-- where the form is a set form
+abbrev pub tested : Op → Place → Value → SetForm → Outcome
+tested o p v f = if is_set_form f then membership_test o p v f else Wrong p
 
 -- the operators that describe a set by what belongs to it, and notes, which stand for what they note
 abbrev pub has_form : Op → Bool
@@ -96,3 +91,75 @@ has_form (op.RecSet names) = true
 has_form op.Product = true
 has_form (op.Noted x) = true
 has_form o = false
+
+-- the same, by what an evaluation reads
+abbrev pub bound_in : Reading → Place → Op → List (List ℕ) → List Expr → Outcome
+bound_in r p o xs es = bound_at r.width p o xs es r.bound r.state r.next
+
+abbrev pub except_in : Reading → Place → List ℕ → List (List ℕ) → List Expr → Outcome
+except_in r p ns xs es = except_at r.width p ns xs es r.bound r.state r.next
+
+abbrev pub fold_in : Reading → Place → List (List ℕ) → List Expr → Outcome
+fold_in r p xs es = fold_at r.width p xs es r.bound r.state r.next
+
+abbrev pub update_in : Reading → Place → List (List ℕ) → List Value → List Expr → Update
+update_in r p xs path es = update_at r.width p xs path es r.bound r.state r.next
+
+abbrev pub updates_in : Reading → Place → List (List ℕ) → List (ℕ × List Value) → List Expr → List Update
+updates_in r p xs paths es = updates_at r.width p xs paths es r.bound r.state r.next
+
+abbrev pub bodies_in : Reading → Place → List (List ℕ) → List Expr → List (List Value) → List Outcome
+bodies_in r p xs es cs = bodies_at r.width p xs es r.bound r.state r.next cs
+
+abbrev pub paths_in : Reading → List ℕ → List Expr → List (ℕ × List Value)
+paths_in r ns es = paths_at r.width ns es r.bound r.state r.next
+
+-- what a node gives in a position of values, by its operator
+abbrev pub node_in : Reading → Place → Op → List (List ℕ) → List Expr → Outcome
+node_in r p (op.Bool b) xs es = yes_no b
+node_in r p (op.Int n) xs es = number (Some r.width) p n
+node_in r p (op.Str a) xs es = Val (value.Text a)
+node_in r p (op.Name i primed) xs es = read p i (if primed then r.next else r.state)
+node_in r p (op.Bound x) xs es = value_found p (find_last x r.bound)
+node_in r p op.And xs es = junction false p (outcomes_in r es)
+node_in r p op.Or xs es = junction true p (outcomes_in r es)
+node_in r p op.Implies xs es = implied p (outcomes_in r es)
+node_in r p op.If xs es = if_chosen p (outcomes_in r es)
+node_in r p (op.Case other) xs es = case_chosen p (outcomes_in r es)
+node_in r p op.In xs es = in_form p (membership_test op.In p) (outcomes_in r es) (forms_in r es)
+node_in r p op.NotIn xs es = in_form p (membership_test op.NotIn p) (outcomes_in r es) (forms_in r es)
+node_in r p op.SubsetEq xs es = in_form p (membership_test op.SubsetEq p) (outcomes_in r es) (forms_in r es)
+node_in r p op.Exists xs es = bound_in r p op.Exists xs es
+node_in r p op.Forall xs es = bound_in r p op.Forall xs es
+node_in r p op.Filter xs es = bound_in r p op.Filter xs es
+node_in r p op.MapTo xs es = bound_in r p op.MapTo xs es
+node_in r p op.Lambda xs es = bound_in r p op.Lambda xs es
+node_in r p (op.Except ns) xs es = except_in r p ns xs es
+node_in r p op.Fold xs es = fold_in r p xs es
+node_in r p (op.Noted x) xs es = first_in r p es
+node_in r p (op.Use x) xs es = Wrong p
+node_in r p (op.Param x) xs es = Wrong p
+node_in r p (op.Let ds) xs es = Wrong p
+node_in r p op.Prime xs es = Wrong p
+node_in r p op.Unchanged xs es = Wrong p
+node_in r p op.Boxed xs es = Wrong p
+node_in r p op.Angled xs es = Wrong p
+node_in r p o xs es = strict (outcomes_in r es) (table (Some r.width) p o)
+
+-- `Seq(F)`, and else `SUBSET F`
+abbrev pub one_form : Op → SetForm → SetForm
+one_form op.SeqSet f = form.Sequences f
+one_form o f = form.Subsets f
+
+-- the form of a node that has one, by its operator
+abbrev pub form_node : Reading → Place → Op → List Expr → Formed
+form_node r p op.IntSet es = Made form.AllInts
+form_node r p op.NatSet es = Made form.AllNats
+form_node r p op.StringSet es = Made form.AllTexts
+form_node r p op.SeqSet es = form_of_one p (one_form op.SeqSet) (forms_in r es)
+form_node r p op.Powerset es = form_of_one p (one_form op.Powerset) (forms_in r es)
+form_node r p op.FunSet es = function_form p (outcomes_in r es) (forms_in r es)
+form_node r p (op.RecSet names) es = form_of_all p (form.Records names) (forms_in r es)
+form_node r p op.Product es = form_of_all p form.Tuples (forms_in r es)
+form_node r p (op.Noted x) es = first_form_in r p es
+form_node r p o es = Broken (IsWrong p)

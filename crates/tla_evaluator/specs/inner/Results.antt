@@ -1,10 +1,7 @@
 -- What the calls answer.
 use Rattle.std.specs.Prelude.{List, [], ◌∷◌, ◌++◌, if◌then◌else◌}
-use Rattle.tla_values.specs.Sets.{Normal, arguments, insert_pair, member}
+use Rattle.tla_values.specs.Sets.{arguments, insert_pair, member}
 use Rattle.tla_values.specs.declared.value.Value.{Value}
-
-abbrev pub IsNormalPair : Value × Value → Type 0
-IsNormalPair p = Normal p.0 × Normal p.1
 
 -- the function with one more pair, where its argument is a new one
 abbrev pub with_last : List (Value × Value) → Value × Value → List (Value × Value)

@@ -3,8 +3,8 @@ use mir.Syntax.{w128}
 use Rattle.tla_evaluator.proofs.NumberLemmas.{power_big, power_more}
 use Rattle.tla_evaluator.proofs.numbers.large_power.Goals as goal
 
-pub returns-in-None-clause-value : goal.returns-in-None-clause-value
-returns-in-None-clause-value c =
+pub returns-in-None : goal.returns-in-None
+returns-in-None c =
     power_big _ _ _ _ _ _ _ (to_z-of_z w128 c.args.a c.ranges.a) c.requires.base c.loop-k.invariant c.loop-k-test.true c.in-None.ensures.none
 
 pub loop-k-preserved : goal.loop-k-preserved

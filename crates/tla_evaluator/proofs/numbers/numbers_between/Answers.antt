@@ -1,7 +1,7 @@
 use Rattle.std.proofs.lemmas.Int.{to_z-of_z}
 use mir.Syntax.{w128}
 use Rattle.tla_evaluator.proofs.NumberLemmas.{in_more, left_less}
-use Rattle.tla_evaluator.proofs.NormalValues.{range_push, range_whole, range_normal}
+use Rattle.tla_evaluator.proofs.RowLemmas.{range_push, range_whole}
 use Rattle.tla_evaluator.proofs.numbers.numbers_between.Goals as goal
 
 pub loop-n-preserved : goal.loop-n-preserved
@@ -13,12 +13,7 @@ loop-n-preserved c = record {
 pub loop-n-smaller : goal.loop-n-smaller
 loop-n-smaller c = left_less _ _ _ _ _ c.in-Some.ensures.some.1 c.len.ensures c.in_ok-push.ensures.len
 
-pub returns-clause-value : goal.returns-clause-value
-returns-clause-value c =
+pub returns : goal.returns
+returns c =
     range_whole _ _ _ _ _ _ _ _ (to_z-of_z w128 c.args.a c.ranges.a) (to_z-of_z w128 c.args.b c.ranges.b) c.loop-n.invariant.same
-    c.loop-n.invariant.within c.len.ensures c.in_default.ensures.none c.from_vec.ensures
-
-pub returns-clause-normal : goal.returns-clause-normal
-returns-clause-normal c =
-    range_normal _ _ _ _ _ _ _ _ (to_z-of_z w128 c.args.a c.ranges.a) (to_z-of_z w128 c.args.b c.ranges.b) c.loop-n.invariant.same
     c.loop-n.invariant.within c.len.ensures c.in_default.ensures.none c.from_vec.ensures

@@ -1,4 +1,4 @@
-use Rattle.tla_evaluator.proofs.NormalValues.{numbered-next}
+use Rattle.tla_evaluator.proofs.RowLemmas.{numbered-next}
 use Rattle.tla_evaluator.proofs.sequences.numbered.Goals as goal
 
 pub loop-item-preserved : goal.loop-item-preserved

@@ -1,0 +1,101 @@
+-- What the rows of sets, ranges and sequences make.
+use Rattle.std.proofs.Common.{◌≡◌, ℕ, zero, suc, ◌+◌, ◌≤◌, List, [], ◌∷◌, ◌++◌, length, refl, ap, ◌∙◌, sym, subst, ℤ, pos, ◌+ℤ◌, arith, ◌<ℤ◌, add-one, Option, Some, None, option_map, Result, Ok, Err}
+use Rattle.std.specs.Prelude.{IfOk}
+use Rattle.std.specs.List.{All}
+use Rattle.std.proofs.lemmas.Int.{ints}
+use Rattle.std.proofs.lemmas.List.Elements.{recursion_from_All}
+use Rattle.tla_values.specs.Sets.{Normal, set_of, union_of}
+use Rattle.tla_values.specs.declared.value.Value.{Value, Int, Set}
+use Rattle.tla_values.proofs.SetLaws.{set_of-append}
+use Rattle.tla_meaning.specs.declared.op.Op.{Op}
+use Rattle.tla_meaning.specs.Shapes.{items_of, numbered, union_all, all_set_items}
+use Rattle.tla_meaning.specs.Numbers.{Width, from_on, range}
+use Rattle.tla_meaning.specs.declared.place.Place.{Place}
+use Rattle.tla_meaning.specs.declared.outcome.Outcome.{Outcome}
+use Rattle.tla_meaning.specs.declared.outcome.Outcome.TheVariants.{Val, Wrong}
+use Rattle.tla_meaning.specs.Operators.{on_all_sets, on_items, table}
+use Rattle.tla_meaning.specs.Outcomes.{IsNormalOutcome}
+use Rattle.tla_meaning.proofs.NormalTable.{table_normal}
+use Rattle.tla_evaluator.proofs.NumberLemmas.{size, out_size}
+use Rattle.tla_evaluator.specs.declared.stops.Stop.{Stop}
+use Rattle.tla_evaluator.specs.inner.Gives.{Gives}
+use Rattle.tla_evaluator.specs.inner.Results.{all_of}
+use Rattle.tla_meaning.specs.Forms.{results}
+
+abbrev Pair : Type 0
+Pair = Value × Value
+
+-- the row of normal operands is normal
+pub row_normal : {E : Type 0} (r : Result Outcome E) (w : Width) (p : Place) (o : Op) (vs : List Value) → All Normal vs →
+    IfOk r (λ q. q ≡ table w p o vs) → IfOk r IsNormalOutcome
+row_normal (Err x) w p o vs h is = tt
+row_normal (Ok q) w p o vs h is = subst IsNormalOutcome (sym is) (table_normal w p o vs (recursion_from_All Normal vs h))
+
+-- what is given of the results of a sequence
+pub items_give : (r : Result Value Stop) (p : Place) (f : List Value → Outcome) (ps qs rs : List Pair) → qs ≡ ps → rs ≡ ps →
+    items_of qs ≡ Some (results qs) → Gives (f (results rs)) r → Gives (on_items p f (items_of ps)) r
+items_give r p f ps qs rs same also is h =
+    let to : f (results rs) ≡ on_items p f (items_of ps) =
+    ap (λ l. f (results l)) (also ∙ sym same) ∙ ap (on_items p f) (sym is) ∙ ap (λ l. on_items p f (items_of l)) same in
+    subst (λ o. Gives o r) to h
+
+-- ---- unions of sets
+
+pub union_all_is : (xss : List (List Value)) → union_all xss ≡ set_of (all_of xss)
+union_all_is [] = refl
+union_all_is (xs ∷ xss) = ap (union_of xs) (union_all_is xss) ∙ sym (set_of-append xs (all_of xss))
+
+some_is : {X : Type 0} (x y : X) → Some x ≡ Some y → x ≡ y
+some_is x y e = cc
+
+pub union_found : (p : Place) (vs ws : List Value) (ms items : List Value) (v : Value) → ws ≡ vs →
+    option_map all_of (all_set_items ws) ≡ Some ms → items ≡ ms → v ≡ Set (set_of items) →
+    on_all_sets p (λ xss. Val (Set (union_all xss))) vs ≡ Val v
+union_found p vs ws ms items v ew e ei ev = sym (go (all_set_items vs) (ap (λ l. option_map all_of (all_set_items l)) (sym ew) ∙ e))
+  where
+    go : (o : Option (List (List Value))) → option_map all_of o ≡ Some ms →
+        Val v ≡ elim o [ None ↦ Wrong p | Some xss ↦ Val (Set (union_all xss)) ]
+    go None k = absurd (cc)
+    go (Some xss) k =
+        let m : all_of xss ≡ ms = some_is (all_of xss) ms k in
+        ap Val (ev ∙ ap (λ l. Set (set_of l)) (ei ∙ sym m) ∙ ap Set (sym (union_all_is xss)))
+
+-- ---- numbers in order
+
+pub from_on-more : (a : ℤ) (n : ℕ) → from_on a (n + 1) ≡ from_on a n ++ Int (a +ℤ pos n) ∷ []
+from_on-more a n = ap (from_on a) (add-one n) ∙ go a n
+  where
+    go : (a : ℤ) (n : ℕ) → from_on a (suc n) ≡ from_on a n ++ Int (a +ℤ pos n) ∷ []
+    go a zero = let e : a ≡ a +ℤ pos 0 = omega (arith, ints) in ap (λ m. Int m ∷ []) e
+    go a (suc n) = let e : (a +ℤ pos 1) +ℤ pos n ≡ a +ℤ pos (suc n) = omega (arith, ints) in
+        ap (λ l. Int a ∷ l) (go (a +ℤ pos 1) n ∙ ap (λ m. from_on (a +ℤ pos 1) n ++ Int m ∷ []) e)
+
+pub range_push : (a : ℤ) (n : Value) (old new : List Value) (k k' len : ℕ) → old ≡ from_on a k → n ≡ Int (a +ℤ pos len) → len ≡ k →
+    new ≡ old ++ n ∷ [] → k' ≡ k + 1 → new ≡ from_on a k'
+range_push a n old new k k' len eo en el ew ek =
+    ew ∙ ap (λ l. l ++ n ∷ []) eo ∙ ap (λ m. from_on a k ++ m ∷ []) (en ∙ ap (λ j. Int (a +ℤ pos j)) el)
+    ∙ sym (from_on-more a k) ∙ ap (from_on a) (sym ek)
+
+pub range_whole : (a b a' b' : ℤ) (items xs : List Value) (k len : ℕ) → a' ≡ a → b' ≡ b → items ≡ from_on a' k → k ≤ size a' b' → len ≡ k →
+    b' <ℤ (a' +ℤ pos len) → xs ≡ items → Set xs ≡ Set (range a b)
+range_whole a b a' b' items xs k len ea eb e le el h ex =
+    let lt : b' <ℤ (a' +ℤ pos k) = subst (λ j. b' <ℤ (a' +ℤ pos j)) el h in
+    ap Set (ex ∙ e ∙ ap (from_on a') (out_size a' b' k le lt) ∙ ap (λ x. from_on x (size x b')) ea ∙ ap (λ y. from_on a (size a y)) eb)
+
+-- ---- sequences
+
+numbered-length : (n : ℕ) (xs : List Value) → length (numbered n xs) ≡ length xs
+numbered-length n [] = refl
+numbered-length n (x ∷ xs) = ap suc (numbered-length (n + 1) xs)
+
+pub numbered-more : (n : ℕ) (xs : List Value) (x : Value) → numbered n (xs ++ x ∷ []) ≡ numbered n xs ++ (Int (pos (n + length xs)), x) ∷ []
+numbered-more n [] x = let e : n ≡ n + 0 = omega arith in ap (λ k. (Int (pos k), x) ∷ []) e
+numbered-more n (y ∷ xs) x =
+    let e : (n + 1) + length xs ≡ n + suc (length xs) = omega arith in
+    ap (λ l. (Int (pos n), y) ∷ l) (numbered-more (n + 1) xs x ∙ ap (λ k. numbered (n + 1) xs ++ (Int (pos k), x) ∷ []) e)
+
+pub numbered-next : (xs : List Value) (x n : Value) (old new : List Pair) → old ≡ numbered 1 xs → n ≡ Int (pos (1 + length old)) →
+    new ≡ old ++ (n, x) ∷ [] → new ≡ numbered 1 (xs ++ x ∷ [])
+numbered-next xs x n old new e f g =
+    g ∙ ap (λ k. old ++ (k, x) ∷ []) (f ∙ ap (λ l. Int (pos (1 + length l))) e ∙ ap (λ k. Int (pos (1 + k))) (numbered-length 1 xs))
+    ∙ ap (λ l. l ++ (Int (pos (1 + length xs)), x) ∷ []) e ∙ sym (numbered-more 1 xs x)
