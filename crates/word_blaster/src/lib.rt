@@ -13,12 +13,14 @@
 
 mod adders;
 mod bitwise;
+mod choices;
 mod comparisons;
 mod literals;
 mod products;
 mod quotients;
 
 pub use adders::{add, neg, sub};
+pub use choices::choose_word;
 pub use comparisons::{equal, less};
 pub use literals::literal;
 pub use products::mul;
