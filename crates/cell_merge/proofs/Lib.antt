@@ -1,3 +1,5 @@
 pub mod Edges
 pub mod Names
 pub mod SortLaws
+pub mod Present
+pub mod Unions

@@ -6,5 +6,9 @@
 #![tactic(auto)]
 
 mod equality;
+mod likeness;
+mod merging;
 
 pub use equality::{member_in, same, same_in, subset_in};
+pub use likeness::alike;
+pub use merging::{Join, merge_edges};
