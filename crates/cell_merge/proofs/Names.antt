@@ -7,7 +7,7 @@ use Rattle.std.proofs.Math.Facts.{ltb_yes}
 use Rattle.sat_formula.specs.declared.lit.Lit.{Lit}
 use Rattle.sat_formula.specs.declared.cnf.Cnf.{Cnf}
 use Rattle.sat_formula.specs.Formula.{Satisfies, Grows}
-use Rattle.word_blaster.specs.Word.{word_value, WordBelow}
+use Rattle.word_blaster.specs.Word.{word_value, WordBelow, AreWords}
 use Rattle.word_blaster.proofs.Words.{WordBelow-later}
 use Rattle.tla_values.specs.Order.{same_value}
 use Rattle.tla_values.specs.Sets.{member, distinct}
@@ -21,7 +21,7 @@ use Rattle.cell_merge.specs.Sorts.{IsOver}
 use Rattle.cell_arena.specs.declared.kinds.CellId.{CellId}
 use Rattle.cell_arena.specs.declared.kinds.CellKind.{CellKind}
 use Rattle.cell_arena.specs.declared.kinds.CellKind.TheVariants.{Bit, Word, Text}
-use Rattle.cell_arena.specs.Cells.{Cells, IsHeld, NamesBelow, is_index, in_range, InRange, kind_at}
+use Rattle.cell_arena.specs.Cells.{Cells, IsHeld, NamesBelow, is_index, in_range, InRange, kind_at, IsFormed}
 use Rattle.cell_arena.specs.Decode.{text_at, kind_value, decode}
 
 abbrev values_of : List (List ℕ) → List Value
@@ -102,12 +102,33 @@ IsOver-later c f g over h = record { fits = let p = over.fits in let q = h.vars 
 pub ruleset over = (IsOver-later)
 
 -- a word that a cell names, in a larger formula
-pub word-named : (c : Cells) (f : Cnf) (n : ℕ) (k : CellKind) (v : List Lit) → IsOver c f → IsHeld n c.vars c.width k → k ≡ Word v → WordBelow f.vars v
+word-named : (c : Cells) (f : Cnf) (n : ℕ) (k : CellKind) (v : List Lit) → IsOver c f → IsHeld n c.vars c.width k → k ≡ Word v → WordBelow f.vars v
 word-named c f n k v over held e =
     let P : CellKind → Type 0 = NamesBelow c.vars in
     WordBelow-later c.vars f.vars v (subst P e held.named) over.fits
 
-pub text-named : (c : Cells) (f : Cnf) (n : ℕ) (k : CellKind) (v : List Lit) → IsOver c f → IsHeld n c.vars c.width k → k ≡ Text v → WordBelow f.vars v
+text-named : (c : Cells) (f : Cnf) (n : ℕ) (k : CellKind) (v : List Lit) → IsOver c f → IsHeld n c.vars c.width k → k ≡ Text v → WordBelow f.vars v
 text-named c f n k v over held e =
     let P : CellKind → Type 0 = NamesBelow c.vars in
     WordBelow-later c.vars f.vars v (subst P e held.named) over.fits
+
+-- two words, and two codes, are of one width
+pub words-alike : (c : Cells) (f : Cnf) (m n : ℕ) (k l : CellKind) (v w : List Lit) → IsOver c f
+    → IsHeld m c.vars c.width k → IsHeld n c.vars c.width l → k ≡ Word v → l ≡ Word w → AreWords f.vars v w
+words-alike c f m n k l v w over one two e d =
+    let P : CellKind → Type 0 = IsFormed c.width in
+    record {
+      left = word-named c f m k v over one e;
+      right = word-named c f n l w over two d;
+      same = subst P e one.formed ∙ sym (subst P d two.formed);
+    }
+
+pub texts-alike : (c : Cells) (f : Cnf) (m n : ℕ) (k l : CellKind) (v w : List Lit) → IsOver c f
+    → IsHeld m c.vars c.width k → IsHeld n c.vars c.width l → k ≡ Text v → l ≡ Text w → AreWords f.vars v w
+texts-alike c f m n k l v w over one two e d =
+    let P : CellKind → Type 0 = IsFormed c.width in
+    record {
+      left = text-named c f m k v over one e;
+      right = text-named c f n l w over two d;
+      same = subst P e one.formed ∙ sym (subst P d two.formed);
+    }

@@ -1,10 +1,13 @@
 -- What a string of bytes is, as a whole: a blank, a comment, a token, or none of them. Source: Specifying Systems,
 -- chapter 15: the lexemes of module TLAPlusGrammar, and comments.
-use Rattle.std.specs.Prelude.{◌≡◌, ℕ, zero, suc, ◌+◌, ◌-◌, ◌*◌, ◌^◌, ◌<◌, ◌≤◌, ◌++◌, Bool, true, false, not, ◌&&◌, ◌||◌, Option, Some, None, List, [], ◌∷◌, length, take, drop, ◌==◌, nat_lt, nat_le, pos, codes, bytes_eq, if◌then◌else◌, unwrap_or, option_map, fold}
+use Rattle.std.specs.Prelude.{◌≡◌, ℕ, zero, suc, ◌+◌, ◌-◌, ◌*◌, ◌^◌, ◌<◌, ◌≤◌, ◌++◌, Bool, true, false, not, ◌&&◌, ◌||◌, Option, Some, None, List, [], ◌∷◌, length, take, drop, ◌==◌, nat_lt, nat_le, pos, codes, bytes_eq, if◌then◌else◌, unwrap_or, option_map, fold, ⊤}
 use Rattle.std.specs.List.{list_all, list_any}
 use Rattle.tla_values.specs.Names.{is_letter, is_name_byte, is_reserved, begins_fairness}
 use Rattle.tla_lexer.specs.declared.pieces.Piece.{Piece}
 use Rattle.tla_lexer.specs.declared.pieces.Piece.TheVariants.{Blanks, LineComment, BlockComment, OpenComment, Lexeme, BigNumber, Bad}
+use Rattle.tla_lexer.specs.declared.classes.Class.{Class}
+use Rattle.tla_lexer.specs.declared.classes.Class.TheVariants.{Dash, EqualSign}
+use Rattle.tla_lexer.specs.declared.token.TokenKind.{TokenKind}
 use Rattle.tla_lexer.specs.declared.token.TokenKind.TheVariants.{Dashes, End, Number, Name, Reserved, Quoted, ProofStep, Symbol}
 use Rattle.tla_lexer.specs.Classes.{is_digit, is_line_feed, is_blank, is_dash, is_equal_sign, StartsIn}
 use Rattle.tla_lexer.specs.Symbols.{symbol_of}
@@ -43,15 +46,28 @@ word s = if list_all is_name_byte s && (not (begins_fairness s) || length s == 3
 
 -- ---- runs of one sign
 
-abbrev pub dashes : List ℕ → Option Piece
-dashes s =
-    if list_all is_dash s then Some (if nat_le 4 (length s) then Lexeme Dashes else symbol_or_bad s)
+-- the signs that stand in runs
+abbrev pub IsSign : Class → Type 0
+IsSign Dash = ⊤
+IsSign EqualSign = ⊤
+IsSign _ = ⊥
+
+-- the token that four or more of one sign are
+abbrev pub run_token : Class → TokenKind
+run_token Dash = Dashes
+run_token _ = End
+
+-- fewer than four are a symbol or bad
+abbrev pub signs : (ℕ → Bool) → TokenKind → List ℕ → Option Piece
+signs is_sign many s =
+    if list_all is_sign s then Some (if nat_le 4 (length s) then Lexeme many else symbol_or_bad s)
     else symbol_or_stray s
 
+abbrev pub dashes : List ℕ → Option Piece
+dashes s = signs is_dash Dashes s
+
 abbrev pub equal_signs : List ℕ → Option Piece
-equal_signs s =
-    if list_all is_equal_sign s then Some (if nat_le 4 (length s) then Lexeme End else symbol_or_bad s)
-    else symbol_or_stray s
+equal_signs s = signs is_equal_sign End s
 
 -- ---- texts
 

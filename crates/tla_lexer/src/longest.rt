@@ -1,7 +1,7 @@
 // The longest piece that a text begins with.
 ghost use Rattle.std.specs.Prelude.{◌≡◌, ◌<◌, ◌==◌, length, IfOk, IfSome, IfNone};
-ghost use Rattle.tla_lexer.specs.Classes.{is_blank, is_dash, is_equal_sign, StartsIn};
-ghost use Rattle.tla_lexer.specs.Pieces.{is_other, begins_octal, IsFound, IsSymbolic, IsStepLength, HasNoStep};
+ghost use Rattle.tla_lexer.specs.Classes.{is_blank, is_in, StartsIn};
+ghost use Rattle.tla_lexer.specs.Pieces.{is_other, begins_octal, run_token, IsSign, IsFound, IsSymbolic, IsStepLength, HasNoStep};
 ghost use Rattle.tla_lexer.specs.Symbols.{NoSymbolPast};
 
 use crate::classes::{Class, run_length};
@@ -29,8 +29,8 @@ pub(crate) fn longest_piece(alloc: Global, bytes: &[u8]) -> Result<Found, AllocE
         b'"' => longest_text(alloc, bytes),
         b'(' => parenthesis(alloc, bytes),
         b'\\' => backslash(alloc, bytes),
-        b'-' => dashes(alloc, bytes),
-        b'=' => equal_signs(alloc, bytes),
+        b'-' => signs(alloc, bytes, Class::Dash),
+        b'=' => signs(alloc, bytes, Class::EqualSign),
         b'<' => less(alloc, bytes),
         _ => other(alloc, bytes),
     }
@@ -93,36 +93,32 @@ fn begins_octal(bytes: &[u8]) -> bool
     }
 }
 
-fn dashes(alloc: Global, bytes: &[u8]) -> Result<Found, AllocError>
-    requires { StartsIn is_dash bytes.now }
+// A run of one sign: a token where there are four or more, and else a symbol or a bad piece.
+fn signs(alloc: Global, bytes: &[u8], sign: Class) -> Result<Found, AllocError>
+    requires sign { IsSign sign }
+    requires starts { StartsIn (is_in sign) bytes.now }
     ensures { IfOk result (λ found. IsFound bytes.now found.piece found.length) }
 {
-    let length = run_length(bytes, Class::Dash);
+    let length = run_length(bytes, sign);
     if length == 1 {
         return symbol(alloc, bytes);
     }
     let piece = if length >= 4 {
-        Piece::Lexeme(TokenKind::Dashes)
+        Piece::Lexeme(run_token(sign))
     } else {
         symbol_or_bad(alloc, &bytes[..length])?
     };
     Ok(Found { piece, length })
 }
 
-fn equal_signs(alloc: Global, bytes: &[u8]) -> Result<Found, AllocError>
-    requires { StartsIn is_equal_sign bytes.now }
-    ensures { IfOk result (λ found. IsFound bytes.now found.piece found.length) }
+// The token that four or more of the sign are.
+fn run_token(sign: Class) -> TokenKind
+    ensures { result ≡ run_token sign }
 {
-    let length = run_length(bytes, Class::EqualSign);
-    if length == 1 {
-        return symbol(alloc, bytes);
+    match sign {
+        Class::Dash => TokenKind::Dashes,
+        _ => TokenKind::End,
     }
-    let piece = if length >= 4 {
-        Piece::Lexeme(TokenKind::End)
-    } else {
-        symbol_or_bad(alloc, &bytes[..length])?
-    };
-    Ok(Found { piece, length })
 }
 
 // A proof step or a symbol.

@@ -4,17 +4,7 @@ ghost use Rattle.std.specs.Prelude.{◌≡◌, IfOk};
 use crate::expr::{Decl, Expr};
 use crate::op::Op;
 use std::alloc::{AllocError, Global};
-use tla_values::{List, Text, copy_text};
-
-pub(crate) fn copy_texts(alloc: Global, texts: &List<Text>) -> Result<List<Text>, AllocError>
-    ensures { IfOk result (λ l. l ≡ texts.now) }
-{
-    let mut items = Vec::new(alloc);
-    for text in texts.as_slice() {
-        items.push(copy_text(alloc, text)?)?;
-    }
-    Ok(List::from_vec(items))
-}
+use tla_values::{List, Text, copy_text, copy_texts};
 
 fn copy_numbers(alloc: Global, numbers: &List<usize>) -> Result<List<usize>, AllocError>
     ensures { IfOk result (λ l. l ≡ numbers.now) }

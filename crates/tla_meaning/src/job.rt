@@ -1,10 +1,10 @@
 // What is checked, and its states.
 ghost use Rattle.std.specs.Prelude.{◌≡◌, IfOk};
 
-use crate::copy::{copy_aliases, copy_decls, copy_expr, copy_named, copy_texts};
+use crate::copy::{copy_aliases, copy_decls, copy_expr, copy_named};
 use crate::expr::{Decl, Expr};
 use std::alloc::{AllocError, Global};
-use tla_values::{List, Text, Value, copy_value};
+use tla_values::{List, Text, Value, copy_texts, copy_value};
 
 /// What is checked.
 #[derive(Drop)]

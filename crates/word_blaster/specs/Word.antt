@@ -32,6 +32,17 @@ signed bs = pos (number bs) -ℤ pos (taken bs)
 unfoldable pub WordBelow : ℕ → List Lit → Type 0
 WordBelow n w = All (IsBelow n) w
 
+-- a word of so many literals over the first v variables
+pub record IsWord (v n : ℕ) (w : List Lit) : Type 0 where
+  pub below : WordBelow v w
+  pub width : length w ≡ n
+
+-- two words of one width over the first v variables
+pub record AreWords (v : ℕ) (x y : List Lit) : Type 0 where
+  pub left : WordBelow v x
+  pub right : WordBelow v y
+  pub same : length x ≡ length y
+
 -- the number that a word stands for under an assignment
 abbrev pub word_value : List Lit → List Bool → ℤ
 word_value w a = signed (values w a)

@@ -3,7 +3,7 @@
 ghost use Rattle.std.specs.Prelude.{◌≡◌, ◌+◌, ◌-◌, ◌*◌, ◌^◌, ◌<◌, ◌≤◌, Bool, length, IfOk, List, if◌then◌else◌, ℤ, ◌+ℤ◌, ◌-ℤ◌, neg_ℤ};
 ghost use Rattle.sat_formula.specs.Lit.{lit_value, differ};
 ghost use Rattle.sat_formula.specs.Formula.{Grows, HasValue, Satisfies};
-ghost use Rattle.word_blaster.specs.Word.{word_value, bit, number, taken, signed, values, IsExact, WordBelow};
+ghost use Rattle.word_blaster.specs.Word.{word_value, bit, number, taken, signed, values, IsExact, WordBelow, IsWord, AreWords};
 
 use crate::bitwise::{complement, filled};
 use sat_formula::{Formula, Lit, Word};
@@ -34,12 +34,9 @@ pub(crate) fn ripple(
     y: &[Lit],
     carry_in: Lit,
 ) -> Result<(Vec<Lit>, Lit), AllocError>
-    requires same { length x.now ≡ length y.now }
-    requires x_below { WordBelow f.old.vars x.now }
-    requires y_below { WordBelow f.old.vars y.now }
+    requires words { AreWords f.old.vars x.now y.now }
     requires carry_below { carry_in.var < f.old.vars }
-    ensures below { IfOk result (λ r. WordBelow f.new.vars r.0.items) }
-    ensures len { IfOk result (λ r. length r.0.items ≡ length x.now) }
+    ensures word { IfOk result (λ r. IsWord f.new.vars (length x.now) r.0.items) }
     ensures carry_out { IfOk result (λ r. r.1.var < f.new.vars) }
     ensures value { IfOk result (λ r. (a : List Bool) → Satisfies a f.new → number (values r.0.items a) + bit (lit_value r.1 a) * 2 ^ length x.now ≡ number (values x.now a) + number (values y.now a) + bit (lit_value carry_in a)) }
     ensures grows { Grows f.old f.new }
@@ -64,12 +61,9 @@ pub(crate) fn wide_sum(
     carry_in: Lit,
 ) -> Result<Vec<Lit>, AllocError>
     requires some { 0 < length x.now }
-    requires same { length x.now ≡ length y.now }
-    requires x_below { WordBelow f.old.vars x.now }
-    requires y_below { WordBelow f.old.vars y.now }
+    requires words { AreWords f.old.vars x.now y.now }
     requires carry_below { carry_in.var < f.old.vars }
-    ensures below { IfOk result (λ r. WordBelow f.new.vars r.items) }
-    ensures len { IfOk result (λ r. length r.items ≡ length x.now + 1) }
+    ensures word { IfOk result (λ r. IsWord f.new.vars (length x.now + 1) r.items) }
     ensures value { IfOk result (λ r. (a : List Bool) → Satisfies a f.new → number (values r.items a) + taken (values x.now a) + taken (values y.now a) ≡ number (values x.now a) + number (values y.now a) + bit (lit_value carry_in a) + taken (values r.items a)) }
     ensures grows { Grows f.old f.new }
 {
@@ -90,11 +84,8 @@ pub(crate) fn wide_difference(
     y: &[Lit],
 ) -> Result<Vec<Lit>, AllocError>
     requires some { 0 < length x.now }
-    requires same { length x.now ≡ length y.now }
-    requires x_below { WordBelow f.old.vars x.now }
-    requires y_below { WordBelow f.old.vars y.now }
-    ensures below { IfOk result (λ r. WordBelow f.new.vars r.items) }
-    ensures len { IfOk result (λ r. length r.items ≡ length x.now + 1) }
+    requires words { AreWords f.old.vars x.now y.now }
+    ensures word { IfOk result (λ r. IsWord f.new.vars (length x.now + 1) r.items) }
     ensures value { IfOk result (λ r. (a : List Bool) → Satisfies a f.new → number (values r.items a) + taken (values x.now a) + number (values y.now a) ≡ number (values x.now a) + taken (values y.now a) + taken (values r.items a)) }
     ensures grows { Grows f.old f.new }
 {
@@ -134,9 +125,7 @@ pub(crate) fn narrow(
 #[tactic(auto, using(sat_formula::proofs::Extension::gates, crate::proofs::Words::words))]
 pub fn add(alloc: Global, f: &mut Formula, x: &Word, y: &Word) -> Result<(Word, Lit), AllocError>
     requires some { 0 < length x.now }
-    requires same { length x.now ≡ length y.now }
-    requires x_below { WordBelow f.old.vars x.now }
-    requires y_below { WordBelow f.old.vars y.now }
+    requires words { AreWords f.old.vars x.now y.now }
     ensures exact { IfOk result (λ r. IsExact f.new (length x.now) r.0 r.1 (λ a. word_value x.now a +ℤ word_value y.now a)) }
     ensures grows { Grows f.old f.new }
 {
@@ -153,9 +142,7 @@ pub fn add(alloc: Global, f: &mut Formula, x: &Word, y: &Word) -> Result<(Word, 
 #[tactic(auto, using(sat_formula::proofs::Extension::gates, crate::proofs::Words::words))]
 pub fn sub(alloc: Global, f: &mut Formula, x: &Word, y: &Word) -> Result<(Word, Lit), AllocError>
     requires some { 0 < length x.now }
-    requires same { length x.now ≡ length y.now }
-    requires x_below { WordBelow f.old.vars x.now }
-    requires y_below { WordBelow f.old.vars y.now }
+    requires words { AreWords f.old.vars x.now y.now }
     ensures exact { IfOk result (λ r. IsExact f.new (length x.now) r.0 r.1 (λ a. word_value x.now a -ℤ word_value y.now a)) }
     ensures grows { Grows f.old f.new }
 {

@@ -3,7 +3,7 @@
 ghost use Rattle.std.specs.Prelude.{◌≡◌, ◌<◌, ◌≤◌, ◌&&◌, Bool, not, length, IfOk, List, if◌then◌else◌, map, replicate};
 ghost use Rattle.sat_formula.specs.Lit.{lit_value};
 ghost use Rattle.sat_formula.specs.Formula.{Grows, Satisfies};
-ghost use Rattle.word_blaster.specs.Word.{values, WordBelow};
+ghost use Rattle.word_blaster.specs.Word.{values, WordBelow, IsWord, AreWords};
 
 use sat_formula::{Formula, Lit};
 use std::alloc::{AllocError, Global};
@@ -45,8 +45,7 @@ pub(crate) fn masked(
 ) -> Result<Vec<Lit>, AllocError>
     requires x_below { WordBelow f.old.vars x.now }
     requires l_below { l.var < f.old.vars }
-    ensures below { IfOk result (λ r. WordBelow f.new.vars r.items) }
-    ensures len { IfOk result (λ r. length r.items ≡ length x.now) }
+    ensures word { IfOk result (λ r. IsWord f.new.vars (length x.now) r.items) }
     ensures value { IfOk result (λ r. (a : List Bool) → Satisfies a f.new → values r.items a ≡ map (λ b. b && lit_value l a) (values x.now a)) }
     ensures grows { Grows f.old f.new }
 {
@@ -67,12 +66,9 @@ pub(crate) fn choose(
     x: &[Lit],
     y: &[Lit],
 ) -> Result<Vec<Lit>, AllocError>
-    requires same { length x.now ≡ length y.now }
     requires c_below { c.var < f.old.vars }
-    requires x_below { WordBelow f.old.vars x.now }
-    requires y_below { WordBelow f.old.vars y.now }
-    ensures below { IfOk result (λ r. WordBelow f.new.vars r.items) }
-    ensures len { IfOk result (λ r. length r.items ≡ length x.now) }
+    requires words { AreWords f.old.vars x.now y.now }
+    ensures word { IfOk result (λ r. IsWord f.new.vars (length x.now) r.items) }
     ensures value { IfOk result (λ r. (a : List Bool) → Satisfies a f.new → values r.items a ≡ (if lit_value c a then values x.now a else values y.now a)) }
     ensures grows { Grows f.old f.new }
 {

@@ -5,7 +5,7 @@ ghost use Rattle.std.specs.Ordering.{int_eq};
 ghost use Rattle.std.specs.List.{list_all};
 ghost use Rattle.sat_formula.specs.Lit.{lit_value};
 ghost use Rattle.sat_formula.specs.Formula.{Grows, HasValue, Satisfies};
-ghost use Rattle.word_blaster.specs.Word.{word_value, number, signed, values, WordBelow};
+ghost use Rattle.word_blaster.specs.Word.{word_value, number, values, WordBelow, AreWords};
 
 use sat_formula::{Formula, Lit, Word};
 use std::alloc::{AllocError, Global};
@@ -14,9 +14,7 @@ use std::alloc::{AllocError, Global};
 // the two numbers without sign are equal.
 #[tactic(auto, using(sat_formula::proofs::Extension::gates, crate::proofs::Words::words))]
 fn agreements(alloc: Global, f: &mut Formula, x: &[Lit], y: &[Lit]) -> Result<Vec<Lit>, AllocError>
-    requires same { length x.now ≡ length y.now }
-    requires x_below { WordBelow f.old.vars x.now }
-    requires y_below { WordBelow f.old.vars y.now }
+    requires words { AreWords f.old.vars x.now y.now }
     ensures below { IfOk result (λ r. WordBelow f.new.vars r.items) }
     ensures value { IfOk result (λ r. (a : List Bool) → Satisfies a f.new → list_all (λ l. lit_value l a) r.items ≡ (number (values x.now a) == number (values y.now a))) }
     ensures grows { Grows f.old f.new }
@@ -32,9 +30,7 @@ fn agreements(alloc: Global, f: &mut Formula, x: &[Lit], y: &[Lit]) -> Result<Ve
 /// Whether an unsigned number is below another.
 #[tactic(auto, using(sat_formula::proofs::Extension::gates, crate::proofs::Words::words))]
 fn number_below(f: &mut Formula, x: &[Lit], y: &[Lit]) -> Result<Lit, AllocError>
-    requires same { length x.now ≡ length y.now }
-    requires x_below { WordBelow f.old.vars x.now }
-    requires y_below { WordBelow f.old.vars y.now }
+    requires words { AreWords f.old.vars x.now y.now }
     ensures value { IfOk result (λ r. HasValue f.new r (λ a. nat_lt (number (values x.now a)) (number (values y.now a)))) }
     ensures grows { Grows f.old f.new }
 {
@@ -53,9 +49,7 @@ fn number_below(f: &mut Formula, x: &[Lit], y: &[Lit]) -> Result<Lit, AllocError
 #[tactic(auto, using(sat_formula::proofs::Extension::gates, crate::proofs::Words::words))]
 pub fn equal(alloc: Global, f: &mut Formula, x: &Word, y: &Word) -> Result<Lit, AllocError>
     requires some { 0 < length x.now }
-    requires same { length x.now ≡ length y.now }
-    requires x_below { WordBelow f.old.vars x.now }
-    requires y_below { WordBelow f.old.vars y.now }
+    requires words { AreWords f.old.vars x.now y.now }
     ensures value { IfOk result (λ r. HasValue f.new r (λ a. int_eq (word_value x.now a) (word_value y.now a))) }
     ensures grows { Grows f.old f.new }
 {
@@ -70,9 +64,7 @@ pub fn equal(alloc: Global, f: &mut Formula, x: &Word, y: &Word) -> Result<Lit, 
 #[tactic(auto, using(sat_formula::proofs::Extension::gates, crate::proofs::Words::words))]
 pub fn less(_alloc: Global, f: &mut Formula, x: &Word, y: &Word) -> Result<Lit, AllocError>
     requires some { 0 < length x.now }
-    requires same { length x.now ≡ length y.now }
-    requires x_below { WordBelow f.old.vars x.now }
-    requires y_below { WordBelow f.old.vars y.now }
+    requires words { AreWords f.old.vars x.now y.now }
     ensures value { IfOk result (λ r. HasValue f.new r (λ a. int_lt (word_value x.now a) (word_value y.now a))) }
     ensures grows { Grows f.old f.new }
 {

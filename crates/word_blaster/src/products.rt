@@ -3,7 +3,7 @@
 ghost use Rattle.std.specs.Prelude.{◌≡◌, ◌+◌, ◌*◌, ◌<◌, ◌≤◌, Bool, length, IfOk, List, ℤ, ◌*ℤ◌};
 ghost use Rattle.sat_formula.specs.Lit.{lit_value};
 ghost use Rattle.sat_formula.specs.Formula.{Grows, Satisfies};
-ghost use Rattle.word_blaster.specs.Word.{word_value, bit, number, taken, signed, values, IsExact, WordBelow};
+ghost use Rattle.word_blaster.specs.Word.{word_value, bit, number, taken, signed, values, IsExact, WordBelow, IsWord, AreWords};
 
 use crate::adders::{narrow, wide_difference, wide_sum};
 use crate::bitwise::{filled, masked};
@@ -20,13 +20,10 @@ fn add_part(
     l: Lit,
 ) -> Result<(Lit, Vec<Lit>), AllocError>
     requires some { 0 < length x.now }
-    requires same { length high.now ≡ length x.now }
-    requires high_below { WordBelow f.old.vars high.now }
-    requires x_below { WordBelow f.old.vars x.now }
+    requires words { AreWords f.old.vars high.now x.now }
     requires l_below { l.var < f.old.vars }
     ensures low_below { IfOk result (λ r. r.0.var < f.new.vars) }
-    ensures below { IfOk result (λ r. WordBelow f.new.vars r.1.items) }
-    ensures len { IfOk result (λ r. length r.1.items ≡ length x.now) }
+    ensures word { IfOk result (λ r. IsWord f.new.vars (length x.now) r.1.items) }
     ensures value { IfOk result (λ r. (a : List Bool) → Satisfies a f.new → bit (lit_value r.0 a) + 2 * number (values r.1.items a) + taken (values high.now a) + bit (lit_value l a) * taken (values x.now a) ≡ number (values high.now a) + bit (lit_value l a) * number (values x.now a) + 2 * taken (values r.1.items a)) }
     ensures grows { Grows f.old f.new }
 {
@@ -51,8 +48,7 @@ fn wide_product(
     requires y_some { 0 < length y.now }
     requires x_below { WordBelow f.old.vars x.now }
     requires y_below { WordBelow f.old.vars y.now }
-    ensures below { IfOk result (λ r. WordBelow f.new.vars r.items) }
-    ensures len { IfOk result (λ r. length r.items ≡ length x.now + length y.now) }
+    ensures word { IfOk result (λ r. IsWord f.new.vars (length x.now + length y.now) r.items) }
     ensures value { IfOk result (λ r. (a : List Bool) → Satisfies a f.new → signed (values r.items a) ≡ signed (values x.now a) *ℤ signed (values y.now a)) }
     ensures grows { Grows f.old f.new }
 {
@@ -78,9 +74,7 @@ fn wide_product(
 #[tactic(auto, using(sat_formula::proofs::Extension::gates, crate::proofs::Words::words))]
 pub fn mul(alloc: Global, f: &mut Formula, x: &Word, y: &Word) -> Result<(Word, Lit), AllocError>
     requires some { 0 < length x.now }
-    requires same { length x.now ≡ length y.now }
-    requires x_below { WordBelow f.old.vars x.now }
-    requires y_below { WordBelow f.old.vars y.now }
+    requires words { AreWords f.old.vars x.now y.now }
     ensures exact { IfOk result (λ r. IsExact f.new (length x.now) r.0 r.1 (λ a. word_value x.now a *ℤ word_value y.now a)) }
     ensures grows { Grows f.old f.new }
 {

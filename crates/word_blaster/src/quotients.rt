@@ -5,7 +5,7 @@ ghost use Rattle.sat_formula.specs.Lit.{lit_value};
 ghost use Rattle.sat_formula.specs.Formula.{Grows, Satisfies};
 ghost use Rattle.word_blaster.specs.inner.Division.{IsDivideStep, IsFirstRest, IsDivided};
 ghost use Rattle.word_blaster.specs.Quotient.{IsDividedWhere, IsFloorQuotient, IsFloorRemainder};
-ghost use Rattle.word_blaster.specs.Word.{values, WordBelow};
+ghost use Rattle.word_blaster.specs.Word.{values, WordBelow, IsWord, AreWords};
 
 use crate::adders::ripple;
 use crate::bitwise::{choose, complement, filled, masked};
@@ -26,8 +26,7 @@ fn divide_step(
     requires rest_below { WordBelow f.old.vars rest.now }
     requires lowest_below { lowest.var < f.old.vars }
     ensures bit_below { IfOk result (λ r. r.0.var < f.new.vars) }
-    ensures below { IfOk result (λ r. WordBelow f.new.vars r.1.items) }
-    ensures len { IfOk result (λ r. length r.1.items ≡ length rest.now) }
+    ensures word { IfOk result (λ r. IsWord f.new.vars (length rest.now) r.1.items) }
     ensures value { IfOk result (λ r. (a : List Bool) → Satisfies a f.new → IsDivideStep (lit_value lowest a) (values y.now a) (values rest.now a) (lit_value r.0 a) (values r.1.items a)) }
     ensures grows { Grows f.old f.new }
 {
@@ -72,12 +71,9 @@ fn divide(
     y: &[Lit],
 ) -> Result<(Vec<Lit>, Vec<Lit>), AllocError>
     requires some { 0 < length x.now }
-    requires same { length x.now ≡ length y.now }
-    requires x_below { WordBelow f.old.vars x.now }
-    requires y_below { WordBelow f.old.vars y.now }
-    ensures quotient_below { IfOk result (λ r. WordBelow f.new.vars r.0.items) }
+    requires words { AreWords f.old.vars x.now y.now }
+    ensures quotient_word { IfOk result (λ r. IsWord f.new.vars (length x.now) r.0.items) }
     ensures rest_below { IfOk result (λ r. WordBelow f.new.vars r.1.items) }
-    ensures quotient_len { IfOk result (λ r. length r.0.items ≡ length x.now) }
     ensures rest_len { IfOk result (λ r. length r.1.items + 1 ≡ length x.now) }
     ensures value { IfOk result (λ r. (a : List Bool) → Satisfies a f.new → IsDivided (values y.now a) (values x.now a) (values r.0.items a) (values r.1.items a)) }
     ensures grows { Grows f.old f.new }
@@ -106,14 +102,10 @@ pub fn div_rem_floor(
     y: &Word,
 ) -> Result<(Word, Word), AllocError>
     requires some { 0 < length x.now }
-    requires same { length x.now ≡ length y.now }
-    requires x_below { WordBelow f.old.vars x.now }
-    requires y_below { WordBelow f.old.vars y.now }
-    ensures quotient_below { IfOk result (λ r. WordBelow f.new.vars r.0) }
-    ensures quotient_width { IfOk result (λ r. length r.0 ≡ length x.now) }
+    requires words { AreWords f.old.vars x.now y.now }
+    ensures quotient_word { IfOk result (λ r. IsWord f.new.vars (length x.now) r.0) }
     ensures quotient { IfOk result (λ r. IsFloorQuotient f.new x.now y.now r.0) }
-    ensures rest_below { IfOk result (λ r. WordBelow f.new.vars r.1) }
-    ensures rest_width { IfOk result (λ r. length r.1 ≡ length x.now) }
+    ensures rest_word { IfOk result (λ r. IsWord f.new.vars (length x.now) r.1) }
     ensures rest { IfOk result (λ r. IsFloorRemainder f.new x.now y.now r.1) }
     ensures division { IfOk result (λ r. IsDividedWhere f.new x.now y.now r.0 r.1) }
     ensures grows { Grows f.old f.new }
@@ -130,11 +122,8 @@ pub fn div_rem_floor(
 #[tactic(auto, using(sat_formula::proofs::Extension::gates, crate::proofs::Words::words))]
 pub fn div_floor(alloc: Global, f: &mut Formula, x: &Word, y: &Word) -> Result<Word, AllocError>
     requires some { 0 < length x.now }
-    requires same { length x.now ≡ length y.now }
-    requires x_below { WordBelow f.old.vars x.now }
-    requires y_below { WordBelow f.old.vars y.now }
-    ensures below { IfOk result (λ r. WordBelow f.new.vars r) }
-    ensures width { IfOk result (λ r. length r ≡ length x.now) }
+    requires words { AreWords f.old.vars x.now y.now }
+    ensures word { IfOk result (IsWord f.new.vars (length x.now)) }
     ensures value { IfOk result (λ r. IsFloorQuotient f.new x.now y.now r) }
     ensures grows { Grows f.old f.new }
 {
@@ -148,11 +137,8 @@ pub fn div_floor(alloc: Global, f: &mut Formula, x: &Word, y: &Word) -> Result<W
 #[tactic(auto, using(sat_formula::proofs::Extension::gates, crate::proofs::Words::words))]
 pub fn rem_floor(alloc: Global, f: &mut Formula, x: &Word, y: &Word) -> Result<Word, AllocError>
     requires some { 0 < length x.now }
-    requires same { length x.now ≡ length y.now }
-    requires x_below { WordBelow f.old.vars x.now }
-    requires y_below { WordBelow f.old.vars y.now }
-    ensures below { IfOk result (λ r. WordBelow f.new.vars r) }
-    ensures width { IfOk result (λ r. length r ≡ length x.now) }
+    requires words { AreWords f.old.vars x.now y.now }
+    ensures word { IfOk result (IsWord f.new.vars (length x.now)) }
     ensures value { IfOk result (λ r. IsFloorRemainder f.new x.now y.now r) }
     ensures grows { Grows f.old f.new }
 {

@@ -6,7 +6,7 @@ use Rattle.tla_values.specs.Order.{same_value}
 use Rattle.tla_values.specs.Sets.{member, elements}
 use Rattle.cell_arena.specs.Decode.{decode}
 use Rattle.cell_merge.proofs.Edges.{negated-value, member-all, subset-all, left-there, right-there, one-bit, one-word, one-text, one-set, one-other, sets-back, same-sets-typed, same-bits, same-words}
-use Rattle.cell_merge.proofs.Names.{IsOver-later, same-names, word-named, text-named}
+use Rattle.cell_merge.proofs.Names.{IsOver-later, same-names, words-alike, texts-alike}
 use Rattle.cell_merge.proofs.equality.+same.Goals as goal
 use Rattle.cell_merge.proofs.equality.+same.Goals.{same_in-in-Bit+in_default-kind, same_in-in-Word+in_default-kind-2, same_in-in-Text+in_default-kind-3, same_in-in_default}
 
@@ -66,17 +66,11 @@ same_in-kind-requires-in-Word t c = right-there _ _ _ c.requires.types
 pub same_in-kind-requires-in-Text : goal.same_in-kind-requires-in-Text
 same_in-kind-requires-in-Text t c = right-there _ _ _ c.requires.types
 
-pub same_in-equal-requires-clause-x_below : goal.same_in-equal-requires-clause-x_below
-same_in-equal-requires-clause-x_below t c = word-named _ _ _ _ _ c.requires.over c.kind.ensures.held c.in-Word.is
+pub same_in-equal-requires-clause-words : goal.same_in-equal-requires-clause-words
+same_in-equal-requires-clause-words t c = words-alike _ _ _ _ _ _ _ _ c.requires.over c.kind.ensures.held c.kind-in-Word.ensures.held c.in-Word.is c.in-Word-kind.is
 
-pub same_in-equal-requires-clause-y_below : goal.same_in-equal-requires-clause-y_below
-same_in-equal-requires-clause-y_below t c = word-named _ _ _ _ _ c.requires.over c.kind-in-Word.ensures.held c.in-Word-kind.is
-
-pub same_in-equal-requires-in-Text-kind-clause-x_below : goal.same_in-equal-requires-in-Text-kind-clause-x_below
-same_in-equal-requires-in-Text-kind-clause-x_below t c = text-named _ _ _ _ _ c.requires.over c.kind.ensures.held c.in-Text.is
-
-pub same_in-equal-requires-in-Text-kind-clause-y_below : goal.same_in-equal-requires-in-Text-kind-clause-y_below
-same_in-equal-requires-in-Text-kind-clause-y_below t c = text-named _ _ _ _ _ c.requires.over c.kind-in-Text.ensures.held c.in-Text-kind.is
+pub same_in-equal-requires-in-Text-kind-clause-words : goal.same_in-equal-requires-in-Text-kind-clause-words
+same_in-equal-requires-in-Text-kind-clause-words t c = texts-alike _ _ _ _ _ _ _ _ c.requires.over c.kind.ensures.held c.kind-in-Text.ensures.held c.in-Text.is c.in-Text-kind.is
 
 pub same_in-returns-in-Bit-kind-clause-value : goal.same_in-returns-in-Bit-kind-clause-value
 same_in-returns-in-Bit-kind-clause-value t c = record {

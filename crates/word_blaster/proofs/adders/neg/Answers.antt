@@ -1,4 +1,5 @@
 use Rattle.std.proofs.Common.{◌≡◌, ◌<◌, false, not, List, length, replicate, ap, arith, sym, ◌∙◌, subst}
+use Rattle.std.proofs.lemmas.List.{length-replicate}
 use Rattle.sat_formula.specs.Lit.{lit_value}
 use Rattle.sat_formula.specs.declared.lit.Lit.{Lit}
 use Rattle.sat_formula.proofs.Extension.{Satisfies-older}
@@ -8,10 +9,15 @@ use Rattle.word_blaster.proofs.Exact.{IsExact-same, number-zeros, taken-zeros}
 use Rattle.word_blaster.proofs.Signs.{signed_negation}
 use Rattle.word_blaster.proofs.adders.neg.Goals as goal
 
-pub wide_difference-requires-clause-x_below : goal.wide_difference-requires-clause-x_below
-wide_difference-requires-clause-x_below c =
-    subst (λ (w : List Lit). WordBelow c.args.f.now.vars w) (sym (c.as_slice.ensures.value ∙ c.in_ok-zero.ensures))
-    (WordBelow-replicate _ _ _ (subst (λ (l : Lit). l.var < c.args.f.now.vars) (sym c.negated.ensures) c.top.ensures.below))
+pub wide_difference-requires-clause-words : goal.wide_difference-requires-clause-words
+wide_difference-requires-clause-words c =
+    let zeros = c.as_slice.ensures.value ∙ c.in_ok-zero.ensures in
+    record {
+      left = subst (λ (w : List Lit). WordBelow c.args.f.now.vars w) (sym zeros)
+          (WordBelow-replicate _ _ _ (subst (λ (l : Lit). l.var < c.args.f.now.vars) (sym c.negated.ensures) c.top.ensures.below));
+      right = subst (λ (w : List Lit). WordBelow c.args.f.now.vars w) (sym c.lits-2.ensures) c.requires.x_below;
+      same = omega (arith, ap length zeros, length-replicate (length c.lits.result.now) c.negated.result, ap length c.lits.ensures, ap length c.lits-2.ensures);
+    }
 
 pub returns-clause-exact : goal.returns-clause-exact
 returns-clause-exact c =

@@ -18,10 +18,10 @@ loop-i-init c = record {
 }
 
 pub full_adder-requires-clause-x_below : goal.full_adder-requires-clause-x_below
-full_adder-requires-clause-x_below c = WordBelow-get c.args.f.now.vars c.loop-i.f.vars c.args.x.now c.loop-i.i _ c.requires.x_below (omega arith) (omega arith)
+full_adder-requires-clause-x_below c = WordBelow-get c.args.f.now.vars c.loop-i.f.vars c.args.x.now c.loop-i.i _ c.requires.words.left (omega arith) (omega arith)
 
 pub full_adder-requires-clause-y_below : goal.full_adder-requires-clause-y_below
-full_adder-requires-clause-y_below c = WordBelow-get c.args.f.now.vars c.loop-i.f.vars c.args.y.now c.loop-i.i _ c.requires.y_below (omega arith) (omega arith)
+full_adder-requires-clause-y_below c = WordBelow-get c.args.f.now.vars c.loop-i.f.vars c.args.y.now c.loop-i.i _ c.requires.words.right (omega arith) (omega arith)
 
 pub loop-i-preserved : goal.loop-i-preserved
 loop-i-preserved c =

@@ -1,4 +1,5 @@
 use Rattle.std.proofs.Common.{◌≡◌, ◌<◌, not, length, List, map, ap, arith, sym, ◌∙◌, subst}
+use Rattle.std.proofs.lemmas.List.{length-map}
 use Rattle.sat_formula.specs.Lit.{lit_value}
 use Rattle.sat_formula.specs.declared.lit.Lit.{Lit}
 use Rattle.sat_formula.proofs.Extension.{Satisfies-older}
@@ -7,9 +8,14 @@ use Rattle.word_blaster.proofs.Words.{WordBelow-not, values-not, values-length}
 use Rattle.word_blaster.proofs.Signs.{number-not, taken-not}
 use Rattle.word_blaster.proofs.adders.wide_difference.Goals as goal
 
-pub wide_sum-requires-clause-y_below : goal.wide_sum-requires-clause-y_below
-wide_sum-requires-clause-y_below c =
-    subst (λ (w : List Lit). WordBelow c.args.f.now.vars w) (sym (c.as_slice.ensures.value ∙ c.in_ok-turned.ensures)) (WordBelow-not _ c.args.y.now c.requires.y_below)
+pub wide_sum-requires-clause-words : goal.wide_sum-requires-clause-words
+wide_sum-requires-clause-words c =
+    let turned = c.as_slice.ensures.value ∙ c.in_ok-turned.ensures in
+    record {
+      left = c.requires.words.left;
+      right = subst (λ (w : List Lit). WordBelow c.args.f.now.vars w) (sym turned) (WordBelow-not _ c.args.y.now c.requires.words.right);
+      same = omega (arith, c.requires.words.same, ap length turned, length-map {B = Lit} c.args.y.now (λ (l : Lit). record { var = l.var; neg = not l.neg }));
+    }
 
 pub returns-clause-value : goal.returns-clause-value
 returns-clause-value c = λ a s.

@@ -9,10 +9,10 @@ use Rattle.word_blaster.proofs.Words.{WordBelow-get, WordBelow-push, WordBelow-l
 use Rattle.word_blaster.proofs.bitwise.choose.Goals as goal
 
 pub mux-requires-clause-y_below : goal.mux-requires-clause-y_below
-mux-requires-clause-y_below c = WordBelow-get c.args.f.now.vars _ c.args.x.now _ _ c.requires.x_below (omega arith) c.loop-i.invariant.grows.vars
+mux-requires-clause-y_below c = WordBelow-get c.args.f.now.vars _ c.args.x.now _ _ c.requires.words.left (omega arith) c.loop-i.invariant.grows.vars
 
 pub mux-requires-clause-z_below : goal.mux-requires-clause-z_below
-mux-requires-clause-z_below c = WordBelow-get c.args.f.now.vars _ c.args.y.now _ _ c.requires.y_below (omega arith) c.loop-i.invariant.grows.vars
+mux-requires-clause-z_below c = WordBelow-get c.args.f.now.vars _ c.args.y.now _ _ c.requires.words.right (omega arith) c.loop-i.invariant.grows.vars
 
 chosen_push : (c p q : Bool) (xs ys : List Bool) → (if c then xs else ys) ++ (if c then p else q) ∷ [] ≡ (if c then xs ++ p ∷ [] else ys ++ q ∷ [])
 chosen_push true p q xs ys = refl

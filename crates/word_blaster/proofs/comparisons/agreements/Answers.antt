@@ -11,10 +11,10 @@ use Rattle.word_blaster.proofs.Signs.{same_more}
 use Rattle.word_blaster.proofs.comparisons.agreements.Goals as goal
 
 pub iff-requires-clause-x_below : goal.iff-requires-clause-x_below
-iff-requires-clause-x_below c = WordBelow-get c.args.f.now.vars _ c.args.x.now _ _ c.requires.x_below (omega arith) c.loop-i.invariant.grows.vars
+iff-requires-clause-x_below c = WordBelow-get c.args.f.now.vars _ c.args.x.now _ _ c.requires.words.left (omega arith) c.loop-i.invariant.grows.vars
 
 pub iff-requires-clause-y_below : goal.iff-requires-clause-y_below
-iff-requires-clause-y_below c = WordBelow-get c.args.f.now.vars _ c.args.y.now _ _ c.requires.y_below (omega arith) c.loop-i.invariant.grows.vars
+iff-requires-clause-y_below c = WordBelow-get c.args.f.now.vars _ c.args.y.now _ _ c.requires.words.right (omega arith) c.loop-i.invariant.grows.vars
 
 one_more : (p b : Bool) → (p && (b && true)) ≡ (p && b)
 one_more p true = refl

@@ -26,5 +26,5 @@ returns-clause-value c = record {
       ∙ c.in_ok-agree.ensures.value a s0
       ∙ ap (λ (w : List Lit). number (values w a) == number (values c.lits-2.result.now a)) c.lits.ensures
       ∙ ap (λ (w : List Lit). number (values x a) == number (values w a)) c.lits-2.ensures
-      ∙ signed_same (values x a) (values y a) (omega (arith, values-length x a)) (values-length x a ∙ c.requires.same ∙ sym (values-length y a));
+      ∙ signed_same (values x a) (values y a) (omega (arith, values-length x a)) (values-length x a ∙ c.requires.words.same ∙ sym (values-length y a));
 }

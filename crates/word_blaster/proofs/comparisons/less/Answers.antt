@@ -1,4 +1,5 @@
 use Rattle.std.proofs.Common.{◌≡◌, ◌-◌, ◌<◌, Bool, false, length, List, [], ◌∷◌, ◌++◌, take, ap, arith, sym, ◌∙◌, get_or, subst}
+use Rattle.std.proofs.lemmas.List.{length-take-le}
 use Rattle.std.specs.Prelude.{int_lt, if◌then◌else◌}
 use Rattle.sat_formula.specs.Lit.{lit_value, differ}
 use Rattle.sat_formula.specs.declared.lit.Lit.{Lit}
@@ -8,24 +9,31 @@ use Rattle.word_blaster.proofs.Words.{WordBelow-get, WordBelow-take, values-last
 use Rattle.word_blaster.proofs.Signs.{signed_less}
 use Rattle.word_blaster.proofs.comparisons.less.Goals as goal
 
-pub number_below-requires-clause-x_below : goal.number_below-requires-clause-x_below
-number_below-requires-clause-x_below c = WordBelow-take _ _ _ (subst (λ (w : List Lit). WordBelow c.args.f.now.vars w) (sym c.lits-p.ensures) c.requires.x_below)
-
-pub number_below-requires-clause-y_below : goal.number_below-requires-clause-y_below
-number_below-requires-clause-y_below c = WordBelow-take _ _ _ (subst (λ (w : List Lit). WordBelow c.args.f.now.vars w) (sym c.lits-q.ensures) c.requires.y_below)
+pub number_below-requires : goal.number_below-requires
+number_below-requires c =
+    let p = c.lits-p.result.now in
+    let q = c.lits-q.result.now in
+    let lengths : length p ≡ length q = ap length c.lits-p.ensures ∙ c.requires.words.same ∙ sym (ap length c.lits-q.ensures) in
+    record {
+      words = record {
+        left = WordBelow-take _ _ _ (subst (λ (w : List Lit). WordBelow c.args.f.now.vars w) (sym c.lits-p.ensures) c.requires.words.left);
+        right = WordBelow-take _ _ _ (subst (λ (w : List Lit). WordBelow c.args.f.now.vars w) (sym c.lits-q.ensures) c.requires.words.right);
+        same = length-take-le (length p - 1) p (omega arith) ∙ sym (length-take-le (length p - 1) q (omega (arith, lengths)));
+      };
+    }
 
 pub xor-requires-clause-x_below : goal.xor-requires-clause-x_below
 xor-requires-clause-x_below c =
-    WordBelow-get c.args.f.now.vars _ _ _ _ (subst (λ (w : List Lit). WordBelow c.args.f.now.vars w) (sym c.lits-p.ensures) c.requires.x_below) (omega (arith, ap length c.lits-p.ensures)) c.in_ok-below.ensures.grows.vars
+    WordBelow-get c.args.f.now.vars _ _ _ _ (subst (λ (w : List Lit). WordBelow c.args.f.now.vars w) (sym c.lits-p.ensures) c.requires.words.left) (omega (arith, ap length c.lits-p.ensures)) c.in_ok-below.ensures.grows.vars
 
 pub xor-requires-clause-y_below : goal.xor-requires-clause-y_below
 xor-requires-clause-y_below c =
-    WordBelow-get c.args.f.now.vars _ _ _ _ (subst (λ (w : List Lit). WordBelow c.args.f.now.vars w) (sym c.lits-q.ensures) c.requires.y_below)
+    WordBelow-get c.args.f.now.vars _ _ _ _ (subst (λ (w : List Lit). WordBelow c.args.f.now.vars w) (sym c.lits-q.ensures) c.requires.words.right)
     (omega (arith, ap length c.lits-p.ensures, ap length c.lits-q.ensures)) c.in_ok-below.ensures.grows.vars
 
 pub mux-requires-clause-y_below : goal.mux-requires-clause-y_below
 mux-requires-clause-y_below c =
-    WordBelow-get c.args.f.now.vars _ _ _ _ (subst (λ (w : List Lit). WordBelow c.args.f.now.vars w) (sym c.lits-p.ensures) c.requires.x_below) (omega (arith, ap length c.lits-p.ensures))
+    WordBelow-get c.args.f.now.vars _ _ _ _ (subst (λ (w : List Lit). WordBelow c.args.f.now.vars w) (sym c.lits-p.ensures) c.requires.words.left) (omega (arith, ap length c.lits-p.ensures))
     (omega (arith, c.in_ok-below.ensures.grows.vars, c.in_ok-apart.ensures.grows.vars))
 
 pub returns-clause-value : goal.returns-clause-value
@@ -40,7 +48,7 @@ returns-clause-value c = record {
       let i = length p - 1 in
       let pl = ap length c.lits-p.ensures in
       let ql = ap length c.lits-q.ensures in
-      let same : length p ≡ length q = pl ∙ c.requires.same ∙ sym ql in
+      let same : length p ≡ length q = pl ∙ c.requires.words.same ∙ sym ql in
       let some : 0 < length p = omega (arith, pl) in
       let s = lit_value (get_or p i d) a in
       let t = lit_value (get_or q i d) a in

@@ -9,13 +9,13 @@ use Rattle.word_blaster.proofs.Signs.{below_more_place}
 use Rattle.word_blaster.proofs.comparisons.number_below.Goals as goal
 
 pub xor-requires-clause-x_below : goal.xor-requires-clause-x_below
-xor-requires-clause-x_below c = WordBelow-get c.args.f.now.vars _ c.args.x.now _ _ c.requires.x_below (omega arith) c.loop-i.invariant.grows.vars
+xor-requires-clause-x_below c = WordBelow-get c.args.f.now.vars _ c.args.x.now _ _ c.requires.words.left (omega arith) c.loop-i.invariant.grows.vars
 
 pub xor-requires-clause-y_below : goal.xor-requires-clause-y_below
-xor-requires-clause-y_below c = WordBelow-get c.args.f.now.vars _ c.args.y.now _ _ c.requires.y_below (omega arith) c.loop-i.invariant.grows.vars
+xor-requires-clause-y_below c = WordBelow-get c.args.f.now.vars _ c.args.y.now _ _ c.requires.words.right (omega arith) c.loop-i.invariant.grows.vars
 
 pub mux-requires-clause-y_below : goal.mux-requires-clause-y_below
-mux-requires-clause-y_below c = WordBelow-get c.args.f.now.vars _ c.args.y.now _ _ c.requires.y_below (omega arith) (omega (arith, c.loop-i.invariant.grows.vars, c.in_ok-apart.ensures.grows.vars))
+mux-requires-clause-y_below c = WordBelow-get c.args.f.now.vars _ c.args.y.now _ _ c.requires.words.right (omega arith) (omega (arith, c.loop-i.invariant.grows.vars, c.in_ok-apart.ensures.grows.vars))
 
 pub loop-i-preserved : goal.loop-i-preserved
 loop-i-preserved c = record {

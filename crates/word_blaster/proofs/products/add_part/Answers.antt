@@ -1,5 +1,5 @@
 use Rattle.std.proofs.Common.{◌≡◌, ◌+◌, ◌*◌, false, not, ◌&&◌, length, List, drop, map, ap, arith, sym, ◌∙◌, get_or, subst}
-use Rattle.std.proofs.lemmas.List.{take_rest}
+use Rattle.std.proofs.lemmas.List.{take_rest, length-drop}
 use Rattle.sat_formula.specs.Lit.{lit_value}
 use Rattle.sat_formula.specs.declared.lit.Lit.{Lit}
 use Rattle.sat_formula.proofs.Extension.{Satisfies-older}
@@ -10,13 +10,17 @@ use Rattle.word_blaster.proofs.products.add_part.Goals as goal
 
 pub returns-clause-low_below : goal.returns-clause-low_below
 returns-clause-low_below c =
-    WordBelow-get _ _ c.as_slice-bits.result.now 0 _ (subst (λ (w : List Lit). WordBelow c.wide_sum.new.f.vars w) (sym c.as_slice-bits.ensures.value) c.in_ok-sum.ensures.below)
-    (omega (arith, ap length c.as_slice-bits.ensures.value, c.in_ok-sum.ensures.len)) (omega arith)
+    WordBelow-get _ _ c.as_slice-bits.result.now 0 _ (subst (λ (w : List Lit). WordBelow c.wide_sum.new.f.vars w) (sym c.as_slice-bits.ensures.value) c.in_ok-sum.ensures.word.below)
+    (omega (arith, ap length c.as_slice-bits.ensures.value, c.in_ok-sum.ensures.word.width)) (omega arith)
 
-pub returns-clause-below : goal.returns-clause-below
-returns-clause-below c =
-    subst (λ (w : List Lit). WordBelow c.wide_sum.new.f.vars w) (sym (c.in_ok-rest.ensures.items ∙ take_rest c.as_slice-bits.result.now 1 ∙ ap (λ (w : List Lit). drop 1 w) c.as_slice-bits.ensures.value))
-    (WordBelow-drop _ 1 _ c.in_ok-sum.ensures.below)
+pub returns-clause-word : goal.returns-clause-word
+returns-clause-word c =
+    let rest : c.in_ok-rest.rest.items ≡ drop 1 c.in_ok-sum.sum.items =
+    c.in_ok-rest.ensures.items ∙ take_rest c.as_slice-bits.result.now 1 ∙ ap (λ (w : List Lit). drop 1 w) c.as_slice-bits.ensures.value in
+    record {
+      below = subst (λ (w : List Lit). WordBelow c.wide_sum.new.f.vars w) (sym rest) (WordBelow-drop _ 1 _ c.in_ok-sum.ensures.word.below);
+      width = omega (arith, ap length rest, length-drop 1 c.in_ok-sum.sum.items, c.in_ok-sum.ensures.word.width, c.requires.words.same);
+    }
 
 pub returns-clause-value : goal.returns-clause-value
 returns-clause-value c = λ a s2.
@@ -32,7 +36,7 @@ returns-clause-value c = λ a s2.
     let sum = c.in_ok-sum.sum.items in
     let bits = c.as_slice-bits.result.now in
     let same : bits ≡ sum = c.as_slice-bits.ensures.value in
-    let len : length bits ≡ length c.args.high.now + 1 = ap length same ∙ c.in_ok-sum.ensures.len in
+    let len : length bits ≡ length c.args.high.now + 1 = ap length same ∙ c.in_ok-sum.ensures.word.width in
     let v = c.in_ok-sum.ensures.value a s2 in
     let rest : c.in_ok-rest.rest.items ≡ drop 1 bits = c.in_ok-rest.ensures.items ∙ take_rest bits 1 in
     let n : number (values sum a) ≡ bit (lit_value (get_or bits 0 d) a) + 2 * number (values c.in_ok-rest.rest.items a) =

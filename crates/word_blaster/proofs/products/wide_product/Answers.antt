@@ -1,5 +1,5 @@
 use Rattle.std.proofs.Common.{◌≡◌, ℕ, ◌+◌, ◌-◌, ◌*◌, ◌^◌, ◌<◌, false, not, ◌&&◌, length, List, [], ◌++◌, map, take, replicate, ap, arith, sym, ◌∙◌, get_or, subst}
-use Rattle.std.proofs.lemmas.List.{length_push, length-replicate}
+use Rattle.std.proofs.lemmas.List.{length_push, length-replicate, length-append}
 use Rattle.sat_formula.specs.Lit.{lit_value}
 use Rattle.sat_formula.specs.declared.lit.Lit.{Lit}
 use Rattle.sat_formula.proofs.Extension.{Satisfies-older, Grows-refl, Grows-trans}
@@ -44,9 +44,9 @@ loop-i-preserved c =
       grows = Grows-trans _ _ _ c.loop-i.invariant.grows c.in_ok-bit.ensures.grows;
       low_below = subst (λ (w : List Lit). WordBelow c.add_part.new.f.vars w) (sym c.in_ok-push.ensures.items)
           (WordBelow-push _ _ b (WordBelow-later _ _ _ c.loop-i.invariant.low_below c.in_ok-bit.ensures.grows.vars) c.in_ok-bit.ensures.low_below);
-      high_below = c.in_ok-bit.ensures.below;
+      high_below = c.in_ok-bit.ensures.word.below;
       low_len = ap length c.in_ok-push.ensures.items ∙ length_push c.loop-i.low.items b ∙ ap (λ (k : ℕ). k + 1) c.loop-i.invariant.low_len;
-      high_len = c.in_ok-bit.ensures.len;
+      high_len = c.in_ok-bit.ensures.word.width;
       value = λ a s1.
           let s0 = Satisfies-older _ _ a c.in_ok-bit.ensures.grows s1 in
           let q = lit_value (get_or y i d) a in
@@ -64,10 +64,16 @@ loop-i-preserved c =
 pub masked-requires-clause-l_below : goal.masked-requires-clause-l_below
 masked-requires-clause-l_below c = WordBelow-get c.args.f.now.vars _ c.args.y.now _ _ c.requires.y_below (omega arith) c.loop-i.invariant.grows.vars
 
-pub returns-clause-below : goal.returns-clause-below
-returns-clause-below c =
-    subst (λ (w : List Lit). WordBelow c.wide_difference.new.f.vars w) (sym (c.in_ok-extend_from_slice.ensures.items ∙ ap (λ (w : List Lit). c.loop-i.low.items ++ w) c.as_slice-4.ensures.value))
-    (WordBelow-append _ _ _ (WordBelow-later _ _ _ c.loop-i.invariant.low_below (omega (arith, c.in_ok-part.ensures.grows.vars, c.in_ok-difference.ensures.grows.vars))) c.in_ok-difference.ensures.below)
+pub returns-clause-word : goal.returns-clause-word
+returns-clause-word c =
+    let low = c.loop-i.low.items in
+    let difference = c.in_ok-difference.difference.items in
+    let all : c.extend_from_slice.new.self.items ≡ low ++ difference = c.in_ok-extend_from_slice.ensures.items ∙ ap (λ (w : List Lit). low ++ w) c.as_slice-4.ensures.value in
+    record {
+      below = subst (λ (w : List Lit). WordBelow c.wide_difference.new.f.vars w) (sym all)
+          (WordBelow-append _ _ _ (WordBelow-later _ _ _ c.loop-i.invariant.low_below (omega (arith, c.in_ok-part.ensures.grows.vars, c.in_ok-difference.ensures.grows.vars))) c.in_ok-difference.ensures.word.below);
+      width = omega (arith, ap length all, length-append low difference, c.in_ok-difference.ensures.word.width, ap length c.as_slice-2.ensures.value, c.loop-i.invariant.high_len, c.loop-i.invariant.low_len);
+    }
 
 pub returns-clause-value : goal.returns-clause-value
 returns-clause-value c = λ a s2.
@@ -97,7 +103,7 @@ returns-clause-value c = λ a s2.
     let all : values c.extend_from_slice.new.self.items a ≡ low ++ out =
     ap (λ (w : List Lit). values w a) (c.in_ok-extend_from_slice.ensures.items ∙ ap (λ (w : List Lit). c.loop-i.low.items ++ w) c.as_slice-4.ensures.value)
     ∙ values-append c.loop-i.low.items c.in_ok-difference.difference.items a in
-    let ol : 0 < length out = omega (arith, values-length c.in_ok-difference.difference.items a, c.in_ok-difference.ensures.len) in
+    let ol : 0 < length out = omega (arith, values-length c.in_ok-difference.difference.items a, c.in_ok-difference.ensures.word.width) in
     let n : number (values c.extend_from_slice.new.self.items a) ≡ number low + h * number out =
     ap number all ∙ number-append low out ∙ ap (λ (k : ℕ). number low + 2 ^ k * number out) ll in
     let k : taken (values c.extend_from_slice.new.self.items a) ≡ h * taken out =

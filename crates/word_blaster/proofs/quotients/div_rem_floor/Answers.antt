@@ -18,7 +18,7 @@ returns-clause-quotient c = λ a s n e.
     let y = c.args.y.now in
     let q = c.in_ok-quotient.quotient.items in
     let left = values c.in_ok-quotient.rest.items a in
-    let p = positive_is (values y a) n (omega (arith, values-length y a, c.requires.same, c.requires.some)) e in
+    let p = positive_is (values y a) n (omega (arith, values-length y a, c.requires.words.same, c.requires.some)) e in
     let d = subst (λ (w : List Lit). IsDivided (values y a) (values w a) (values q a) left) c.lits.ensures
     (subst (λ (w : List Lit). IsDivided (values w a) (values c.lits.result.now a) (values q a) left) c.lits-2.ensures (c.in_ok-quotient.ensures.value a s)) in
     ap (λ (w : List Lit). signed (values w a)) c.from_vec.ensures ∙ divided_quotient (values y a) (values c.args.x.now a) (values q a) left n d p.0 p.1
@@ -30,7 +30,7 @@ returns-clause-rest c = λ a s1 n e.
     let q = c.in_ok-quotient.quotient.items in
     let rest = c.in_ok-quotient.rest.items in
     let zero = c.negated-zero.result in
-    let p = positive_is (values y a) n (omega (arith, values-length y a, c.requires.same, c.requires.some)) e in
+    let p = positive_is (values y a) n (omega (arith, values-length y a, c.requires.words.same, c.requires.some)) e in
     let d = subst (λ (w : List Lit). IsDivided (values y a) (values w a) (values q a) (values rest a)) c.lits.ensures
     (subst (λ (w : List Lit). IsDivided (values w a) (values c.lits.result.now a) (values q a) (values rest a)) c.lits-2.ensures (c.in_ok-quotient.ensures.value a s1)) in
     let b : lit_value zero a ≡ false = turned-value c.top.result zero a c.negated-zero.ensures ∙ ap not (c.top.ensures.forced a s0) in

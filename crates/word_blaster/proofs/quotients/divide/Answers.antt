@@ -10,10 +10,10 @@ use Rattle.word_blaster.proofs.Divisions.{divided_sign, divided_more}
 use Rattle.word_blaster.proofs.quotients.divide.Goals as goal
 
 pub first_rest-requires-clause-l_below : goal.first_rest-requires-clause-l_below
-first_rest-requires-clause-l_below c = WordBelow-get c.args.f.now.vars _ c.args.x.now _ _ c.requires.x_below (omega arith) (omega arith)
+first_rest-requires-clause-l_below c = WordBelow-get c.args.f.now.vars _ c.args.x.now _ _ c.requires.words.left (omega arith) (omega arith)
 
 pub divide_step-requires-clause-lowest_below : goal.divide_step-requires-clause-lowest_below
-divide_step-requires-clause-lowest_below c = WordBelow-get c.args.f.now.vars _ c.args.x.now _ _ c.requires.x_below (omega arith) (omega (arith, c.loop-k.invariant.grows.vars, c.in_ok-rest.ensures.grows.vars))
+divide_step-requires-clause-lowest_below c = WordBelow-get c.args.f.now.vars _ c.args.x.now _ _ c.requires.words.left (omega arith) (omega (arith, c.loop-k.invariant.grows.vars, c.in_ok-rest.ensures.grows.vars))
 
 minus-zero : (n : ℕ) → n - 0 ≡ n
 minus-zero n = omega arith
@@ -35,10 +35,10 @@ loop-k-init c =
     record {
       grows = Grows-refl _;
       quotient_below = subst (λ (w : List Lit). WordBelow c.first_rest.new.f.vars w) (sym c.in_ok-quotient.ensures.items)
-          (WordBelow-cons _ sign [] (WordBelow-get c.args.f.now.vars _ x last d c.requires.x_below (omega arith) c.in_ok-rest.ensures.grows.vars) (WordBelow-nil _));
+          (WordBelow-cons _ sign [] (WordBelow-get c.args.f.now.vars _ x last d c.requires.words.left (omega arith) c.in_ok-rest.ensures.grows.vars) (WordBelow-nil _));
       rest_below = c.in_ok-rest.ensures.below;
       quotient_len = ap length c.in_ok-quotient.ensures.items;
-      rest_len = c.in_ok-rest.ensures.len ∙ sym c.requires.same;
+      rest_len = c.in_ok-rest.ensures.len ∙ sym c.requires.words.same;
       value = λ a s.
           let e = divided_sign (lit_value sign a) (values c.args.y.now a) (values c.in_ok-rest.rest.items a) (c.in_ok-rest.ensures.value a s) in
           let f = subst (λ (w : List Lit). IsDivided (values c.args.y.now a) (values w a) (lit_value sign a ∷ []) (values c.in_ok-rest.rest.items a)) (sym one) e in
@@ -61,9 +61,9 @@ loop-k-preserved c =
       grows = Grows-trans _ _ _ c.loop-k.invariant.grows c.in_ok-bit.ensures.grows;
       quotient_below = subst (λ (w : List Lit). WordBelow c.divide_step.new.f.vars w) (sym quotient)
           (WordBelow-cons _ b _ c.in_ok-bit.ensures.bit_below (WordBelow-later _ _ _ c.loop-k.invariant.quotient_below c.in_ok-bit.ensures.grows.vars));
-      rest_below = c.in_ok-bit.ensures.below;
+      rest_below = c.in_ok-bit.ensures.word.below;
       quotient_len = ap length quotient ∙ omega (arith, c.loop-k.invariant.quotient_len);
-      rest_len = omega (arith, c.in_ok-bit.ensures.len, ap length c.as_slice.ensures.value, c.loop-k.invariant.rest_len);
+      rest_len = omega (arith, c.in_ok-bit.ensures.word.width, ap length c.as_slice.ensures.value, c.loop-k.invariant.rest_len);
       value = λ a s1.
           let s0 = Satisfies-older _ _ a c.in_ok-bit.ensures.grows s1 in
           let old = c.loop-k.invariant.value a s0 in

@@ -1,33 +1,43 @@
-use Rattle.std.proofs.Common.{◌≡◌, ℕ, ◌+◌, ◌*◌, ◌^◌, Bool, not, length, List, [], ◌∷◌, ◌++◌, take, map, ap, arith, sym, ◌∙◌, subst}
+use Rattle.std.proofs.Common.{◌≡◌, ◌<◌, ℕ, ◌+◌, ◌*◌, ◌^◌, Bool, not, length, List, [], ◌∷◌, ◌++◌, take, map, ap, arith, sym, ◌∙◌, subst}
 use Rattle.std.specs.Prelude.{if◌then◌else◌}
 use Rattle.sat_formula.specs.Lit.{lit_value}
 use Rattle.sat_formula.specs.declared.lit.Lit.{Lit}
 use Rattle.sat_formula.proofs.Extension.{Satisfies-older}
 use Rattle.word_blaster.specs.Word.{bit, number, values, WordBelow}
 use Rattle.word_blaster.proofs.Words.{WordBelow-not, WordBelow-push, WordBelow-append, WordBelow-later, WordBelow-nil, WordBelow-take, values-not, values-length}
-use Rattle.std.proofs.lemmas.List.{take-map}
+use Rattle.std.proofs.lemmas.List.{take-map, length-take-le, length-map}
 use Rattle.word_blaster.proofs.Divisions.{divide_step_is}
 use Rattle.word_blaster.proofs.quotients.divide_step.Goals as goal
 
-pub ripple-requires-clause-x_below : goal.ripple-requires-clause-x_below
-ripple-requires-clause-x_below c =
-    subst (λ (w : List Lit). WordBelow c.args.f.now.vars w)
-    (sym (c.as_slice.ensures.value ∙ c.in_ok-extend_from_slice.ensures.items ∙ ap (λ (w : List Lit). w ++ c.args.rest.now) c.in_ok-shifted.ensures.items))
-    (WordBelow-append _ _ _ (WordBelow-push _ [] _ (WordBelow-nil _) c.requires.lowest_below) c.requires.rest_below)
+-- the bit below the rest is a word
+shifted_below : (n : ℕ) (lowest : Lit) (rest : List Lit) → lowest.var < n → WordBelow n rest → WordBelow n (lowest ∷ rest)
+shifted_below n lowest rest l r = WordBelow-append n (lowest ∷ []) rest (WordBelow-push n [] lowest (WordBelow-nil n) l) r
 
-pub ripple-requires-clause-y_below : goal.ripple-requires-clause-y_below
-ripple-requires-clause-y_below c =
-    subst (λ (w : List Lit). WordBelow c.args.f.now.vars w) (sym (c.as_slice-2.ensures.value ∙ c.in_ok-turned.ensures)) (WordBelow-not _ c.args.y.now c.requires.y_below)
+pub ripple-requires-clause-words : goal.ripple-requires-clause-words
+ripple-requires-clause-words c =
+    let shifted : c.as_slice.result.now ≡ c.args.lowest ∷ c.args.rest.now =
+    c.as_slice.ensures.value ∙ c.in_ok-extend_from_slice.ensures.items ∙ ap (λ (w : List Lit). w ++ c.args.rest.now) c.in_ok-shifted.ensures.items in
+    let turned = c.as_slice-2.ensures.value ∙ c.in_ok-turned.ensures in
+    record {
+      left = subst (λ (w : List Lit). WordBelow c.args.f.now.vars w) (sym shifted) (shifted_below _ _ _ c.requires.lowest_below c.requires.rest_below);
+      right = subst (λ (w : List Lit). WordBelow c.args.f.now.vars w) (sym turned) (WordBelow-not _ c.args.y.now c.requires.y_below);
+      same = omega (arith, ap length shifted, ap length turned, length-map {B = Lit} c.args.y.now (λ (l : Lit). record { var = l.var; neg = not l.neg }), c.requires.same);
+    }
 
-pub choose-requires-clause-x_below : goal.choose-requires-clause-x_below
-choose-requires-clause-x_below c =
-    WordBelow-take _ _ _ (subst (λ (w : List Lit). WordBelow c.ripple.new.f.vars w) (sym c.as_slice-high.ensures.value) c.in_ok-difference.ensures.below)
-
-pub choose-requires-clause-y_below : goal.choose-requires-clause-y_below
-choose-requires-clause-y_below c =
-    WordBelow-take _ _ _ (subst (λ (w : List Lit). WordBelow c.ripple.new.f.vars w)
-    (sym (c.as_slice-old.ensures.value ∙ c.in_ok-extend_from_slice.ensures.items ∙ ap (λ (w : List Lit). w ++ c.args.rest.now) c.in_ok-shifted.ensures.items))
-    (WordBelow-later _ _ _ (WordBelow-append _ _ _ (WordBelow-push _ [] _ (WordBelow-nil _) c.requires.lowest_below) c.requires.rest_below) c.in_ok-difference.ensures.grows.vars))
+pub choose-requires-clause-words : goal.choose-requires-clause-words
+choose-requires-clause-words c =
+    let shifted : c.as_slice.result.now ≡ c.args.lowest ∷ c.args.rest.now =
+    c.as_slice.ensures.value ∙ c.in_ok-extend_from_slice.ensures.items ∙ ap (λ (w : List Lit). w ++ c.args.rest.now) c.in_ok-shifted.ensures.items in
+    let old : c.as_slice-old.result.now ≡ c.args.lowest ∷ c.args.rest.now =
+    c.as_slice-old.ensures.value ∙ c.in_ok-extend_from_slice.ensures.items ∙ ap (λ (w : List Lit). w ++ c.args.rest.now) c.in_ok-shifted.ensures.items in
+    let high = c.as_slice-high.ensures.value in
+    let size = length c.args.rest.now in
+    record {
+      left = WordBelow-take _ _ _ (subst (λ (w : List Lit). WordBelow c.ripple.new.f.vars w) (sym high) c.in_ok-difference.ensures.word.below);
+      right = WordBelow-take _ _ _ (subst (λ (w : List Lit). WordBelow c.ripple.new.f.vars w) (sym old)
+          (WordBelow-later _ _ _ (shifted_below _ _ _ c.requires.lowest_below c.requires.rest_below) c.in_ok-difference.ensures.grows.vars));
+      same = length-take-le size _ (omega (arith, ap length high, c.in_ok-difference.ensures.word.width, ap length shifted)) ∙ sym (length-take-le size _ (omega (arith, ap length old)));
+    }
 
 pub returns-clause-value : goal.returns-clause-value
 returns-clause-value c = λ a s2.
@@ -59,4 +69,4 @@ returns-clause-value c = λ a s2.
     ∙ ap (λ (v : List Bool). if q then v else values (take k c.as_slice-old.result.now) a) high
     ∙ ap (λ (v : List Bool). if q then take k (values diff a) else v) old in
     divide_step_is q b (values y a) (values rest a) (values diff a) (values c.in_ok-chosen.chosen.items a) k
-    (values-length y a ∙ sym c.requires.same) (values-length diff a ∙ c.in_ok-difference.ensures.len ∙ tl) e f
+    (values-length y a ∙ sym c.requires.same) (values-length diff a ∙ c.in_ok-difference.ensures.word.width ∙ tl) e f
