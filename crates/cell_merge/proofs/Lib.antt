@@ -3,3 +3,4 @@ pub mod Names
 pub mod SortLaws
 pub mod Present
 pub mod Unions
+pub mod Chosen

@@ -151,7 +151,7 @@ module _ (c : Cells) (f g : Cnf) (join : Join) (es fs left : List Edge) (i : ℕ
         let of : CellId → Value = decode c a in
         let q : Bool = p (of e.1) in
         let before = subst (λ (xs : List Edge). (any_edge a of p out || joined join a false (any_edge a of p xs)) ≡ joined join a (any_edge a of p es) (any_edge a of p fs)) here
-            (joining.members a (Satisfies-older f g a grows sat) p) in
+        (joining.members a (Satisfies-older f g a grows sat) p) in
         ap (λ t. t || joined join a false (any_edge a of p (drop (i + 1) left))) (joins.members a sat of p)
         ∙ rest-test join a (any_edge a of p out) (lit_value none a) (lit_value e.0 a) q (any_edge a of p (drop (i + 1) left)) (joined join a (any_edge a of p es) (any_edge a of p fs)) (off a sat) before;
   }

@@ -1,3 +1,4 @@
 pub mod Sorts
 pub mod Edges
+pub mod Choices
 pub mod inner

@@ -5,10 +5,12 @@
 //! (Konnov, Kukovec and Tran, "TLA+ Model Checking Made Symbolic", OOPSLA 2019.)
 #![tactic(auto)]
 
+mod choice;
 mod equality;
 mod likeness;
 mod merging;
 
+pub use choice::choose_cell;
 pub use equality::{member_in, same, same_in, subset_in};
 pub use likeness::alike;
 pub use merging::{Join, merge_edges};

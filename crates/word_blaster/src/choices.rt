@@ -3,7 +3,7 @@
 ghost use Rattle.std.specs.Prelude.{◌≡◌, ◌<◌, Bool, List, length, IfOk, if◌then◌else◌};
 ghost use Rattle.sat_formula.specs.Lit.{lit_value};
 ghost use Rattle.sat_formula.specs.Formula.{Grows, Satisfies};
-ghost use Rattle.word_blaster.specs.Word.{word_value, WordBelow};
+ghost use Rattle.word_blaster.specs.Word.{word_value, AreWords, IsWord};
 
 use crate::bitwise::choose;
 use sat_formula::{Formula, Lit, Word};
@@ -19,12 +19,9 @@ pub fn choose_word(
     x: &Word,
     y: &Word,
 ) -> Result<Word, AllocError>
-    requires same { length x.now ≡ length y.now }
     requires c_below { c.var < f.old.vars }
-    requires x_below { WordBelow f.old.vars x.now }
-    requires y_below { WordBelow f.old.vars y.now }
-    ensures below { IfOk result (WordBelow f.new.vars) }
-    ensures width { IfOk result (λ r. length r ≡ length x.now) }
+    requires words { AreWords f.old.vars x.now y.now }
+    ensures wide { IfOk result (IsWord f.new.vars (length x.now)) }
     ensures value { IfOk result (λ r. (a : List Bool) → Satisfies a f.new → word_value r a ≡ (if lit_value c a then word_value x.now a else word_value y.now a)) }
     ensures grows { Grows f.old f.new }
 {
