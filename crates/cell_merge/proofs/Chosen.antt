@@ -205,7 +205,7 @@ code-chosen c f g l x y v w r over grows types e h gate a s =
     let P : ℤ → Type 0 = λ n. IsTrue (is_index (length c.texts) n) in
     let s0 = Satisfies-older f g a grows s in
     subst P (sym (gate a s))
-        (either (lit_value l a) (code-in c f a x v over.ranges s0 (left-there c.kinds x y types) e) (code-in c f a y w over.ranges s0 (right-there c.kinds x y types) h))
+    (either (lit_value l a) (code-in c f a x v over.ranges s0 (left-there c.kinds x y types) e) (code-in c f a y w over.ranges s0 (right-there c.kinds x y types) h))
   where
     either : (t : Bool) → IsTrue (is_index (length c.texts) (word_value v a)) → IsTrue (is_index (length c.texts) (word_value w a))
         → IsTrue (is_index (length c.texts) (if t then word_value v a else word_value w a))

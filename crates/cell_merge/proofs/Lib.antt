@@ -4,3 +4,4 @@ pub mod SortLaws
 pub mod Present
 pub mod Unions
 pub mod Chosen
+pub mod Layering

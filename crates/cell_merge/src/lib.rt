@@ -9,8 +9,10 @@ mod choice;
 mod equality;
 mod likeness;
 mod merging;
+mod picking;
 
 pub use choice::choose_cell;
 pub use equality::{member_in, same, same_in, subset_in};
 pub use likeness::alike;
 pub use merging::{Join, merge_edges};
+pub use picking::pick;

@@ -34,7 +34,7 @@ pub returns-in-Bit-kind-clause-chosen : goal.returns-in-Bit-kind-clause-chosen
 returns-in-Bit-kind-clause-chosen c =
     let r = c.in_ok-id-in-Bit.ensures in
     chosen-bit c.args.b.now _ _ _ _ _ _ _ _ _ _ refl c.kind.ensures.decodes c.kind-in-Bit.ensures.decodes c.kind.ensures.same c.kind-in-Bit.ensures.same r.cell r.value r.grows
-        _ _ _ c.in-Bit.is c.in-Bit-kind.is refl refl c.in_ok-bit-in-Bit.ensures.value
+    _ _ _ c.in-Bit.is c.in-Bit-kind.is refl refl c.in_ok-bit-in-Bit.ensures.value
 
 pub kind-requires-in-Word : goal.kind-requires-in-Word
 kind-requires-in-Word c = right-there _ _ _ c.requires.types
@@ -51,7 +51,7 @@ pub returns-in-Word-kind-clause-chosen : goal.returns-in-Word-kind-clause-chosen
 returns-in-Word-kind-clause-chosen c =
     let r = c.in_ok-id-in-Word.ensures in
     chosen-word c.args.b.now _ _ _ _ _ _ _ _ _ _ refl c.kind.ensures.decodes c.kind-in-Word.ensures.decodes c.kind.ensures.same c.kind-in-Word.ensures.same r.cell r.value r.grows
-        _ _ _ c.in-Word.is c.in-Word-kind.is refl refl c.in_ok-word-in-Word.ensures.value
+    _ _ _ c.in-Word.is c.in-Word-kind.is refl refl c.in_ok-word-in-Word.ensures.value
 
 pub kind-requires-in-Text : goal.kind-requires-in-Text
 kind-requires-in-Text c = right-there _ _ _ c.requires.types
@@ -65,7 +65,7 @@ pub text-requires-clause-index : goal.text-requires-clause-index
 text-requires-clause-index c =
     let b = c.args.b.now in
     code-chosen b.arena b.formula _ c.args.l c.args.x c.args.y _ _ _ (record { fits = b.fits; built = b.built; ranges = b.ranges }) c.in_ok-code-in-Text.ensures.grows c.requires.types
-        (sym c.kind.ensures.same ∙ c.in-Text.is) (sym c.kind-in-Text.ensures.same ∙ c.in-Text-kind.is) c.in_ok-code-in-Text.ensures.value
+    (sym c.kind.ensures.same ∙ c.in-Text.is) (sym c.kind-in-Text.ensures.same ∙ c.in-Text-kind.is) c.in_ok-code-in-Text.ensures.value
 
 pub returns-in_err-id-in-Text-clause-grows : goal.returns-in_err-id-in-Text-clause-grows
 returns-in_err-id-in-Text-clause-grows c = Grows-trans _ _ _ (Grows-formula _ _ c.in_ok-code-in-Text.ensures.grows refl) c.in_err-id-in-Text.ensures.grows
@@ -74,7 +74,7 @@ pub returns-in-Text-kind-clause-chosen : goal.returns-in-Text-kind-clause-chosen
 returns-in-Text-kind-clause-chosen c =
     let r = c.in_ok-id-in-Text.ensures in
     chosen-text c.args.b.now _ _ _ _ _ _ _ _ _ _ refl c.kind.ensures.decodes c.kind-in-Text.ensures.decodes c.kind.ensures.same c.kind-in-Text.ensures.same r.cell r.value r.grows
-        _ _ _ c.in-Text.is c.in-Text-kind.is refl refl c.in_ok-code-in-Text.ensures.value
+    _ _ _ c.in-Text.is c.in-Text-kind.is refl refl c.in_ok-code-in-Text.ensures.value
 
 pub kind-requires-in-Set : goal.kind-requires-in-Set
 kind-requires-in-Set c = right-there _ _ _ c.requires.types
@@ -83,13 +83,13 @@ pub merge_edges-requires-clause-sets : goal.merge_edges-requires-clause-sets
 merge_edges-requires-clause-sets c =
     let b = c.args.b.now in
     two-sets _ _ _ _ _ _ _ _ c.in-Set.es c.in-Set-kind.fs _ _ (record { fits = b.fits; built = b.built; ranges = b.ranges }) c.requires.types c.kind.ensures.held c.kind-in-Set.ensures.held
-        c.kind.ensures.same c.kind-in-Set.ensures.same c.in-Set.is c.in-Set-kind.is c.as_slice.ensures c.as_slice-in-Set-kind.ensures
+    c.kind.ensures.same c.kind-in-Set.ensures.same c.in-Set.is c.in-Set-kind.is c.as_slice.ensures c.as_slice-in-Set-kind.ensures
 
 pub set-requires-clause-older : goal.set-requires-clause-older
 set-requires-clause-older c =
     let b = c.args.b.now in
     let t = two-sets _ _ _ _ _ _ _ _ c.in-Set.es c.in-Set-kind.fs _ _ (record { fits = b.fits; built = b.built; ranges = b.ranges }) c.requires.types c.kind.ensures.held c.kind-in-Set.ensures.held
-        c.kind.ensures.same c.kind-in-Set.ensures.same c.in-Set.is c.in-Set-kind.is c.as_slice.ensures c.as_slice-in-Set-kind.ensures in
+    c.kind.ensures.same c.kind-in-Set.ensures.same c.in-Set.is c.in-Set-kind.is c.as_slice.ensures c.as_slice-in-Set-kind.ensures in
     rw c.from_vec.ensures (lead-there _ t.sort _ (c.in_ok-edges-in-Set.ensures.merges.sorts t.sort t.left t.right))
 
 pub returns-in_err-id-in-Set-clause-grows : goal.returns-in_err-id-in-Set-clause-grows
@@ -99,8 +99,8 @@ pub returns-in-Set-kind-clause-chosen : goal.returns-in-Set-kind-clause-chosen
 returns-in-Set-kind-clause-chosen c =
     let r = c.in_ok-id-in-Set.ensures in
     chosen-set c.args.b.now _ _ _ _ _ _ _ _ _ _ refl c.kind.ensures.decodes c.kind-in-Set.ensures.decodes c.kind.ensures.same c.kind-in-Set.ensures.same r.cell r.value r.grows
-        _ _ _ c.in-Set.is c.in-Set-kind.is refl refl
-        (rw (c.as_slice.ensures, c.as_slice-in-Set-kind.ensures, ← c.from_vec.ensures) at c.in_ok-edges-in-Set.ensures.merges)
+    _ _ _ c.in-Set.is c.in-Set-kind.is refl refl
+    (rw (c.as_slice.ensures, c.as_slice-in-Set-kind.ensures, ← c.from_vec.ensures) at c.in_ok-edges-in-Set.ensures.merges)
 
 pub returns-in_default-kind : goal.returns-in_default-kind
 returns-in_default-kind c = absurd (one-bit _ _ _ c.requires.types _ (sym c.kind.ensures.same ∙ c.in-Bit.is) (λ m f. c.in_default-kind.not-Bit m (c.kind-in-Bit.ensures.same ∙ f)))
