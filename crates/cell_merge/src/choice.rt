@@ -15,9 +15,9 @@ use std::alloc::AllocError;
 use tla_values::List;
 use word_blaster::choose_word;
 
-// The value of the literal of the first variable or of its negation; of any other none.
+/// The value of `top` and of its negation; of any other literal none.
 #[tactic(auto, using(crate::proofs::Chosen::top_value))]
-fn known(formula: &Formula, l: Lit) -> Option<bool>
+pub fn known(formula: &Formula, l: Lit) -> Option<bool>
     ensures { IfSome result (λ v. (a : List Bool) → Satisfies a formula.now → lit_value l a ≡ v) }
 {
     let top = formula.top();

@@ -11,7 +11,7 @@ mod likeness;
 mod merging;
 mod picking;
 
-pub use choice::choose_cell;
+pub use choice::{choose_cell, known};
 pub use equality::{member_in, same, same_in, subset_in};
 pub use likeness::alike;
 pub use merging::{Join, merge_edges};

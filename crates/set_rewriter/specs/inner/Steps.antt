@@ -1,0 +1,36 @@
+-- The steps of loops over edges.
+use Rattle.std.specs.Prelude.{◌≡◌, ℕ, ◌<◌, Bool, true, false, ◌&&◌, not, List, [], ◌∷◌, All, length, slice_index_or, if◌then◌else◌}
+use Rattle.std.specs.List.{list_any}
+use Rattle.sat_formula.specs.declared.lit.Lit.{Lit}
+use Rattle.sat_formula.specs.declared.cnf.Cnf.{Cnf}
+use Rattle.sat_formula.specs.Lit.{lit_value, IsBelow}
+use Rattle.sat_formula.specs.Formula.{Satisfies}
+use Rattle.tla_values.specs.declared.value.Value.{Value}
+use Rattle.tla_values.specs.Sets.{member, elements}
+use Rattle.cell_arena.specs.declared.kinds.CellId.{CellId}
+use Rattle.cell_arena.specs.declared.kinds.CellKind.{CellKind}
+use Rattle.cell_arena.specs.Cells.{Cells}
+use Rattle.cell_arena.specs.Decode.{decode}
+use Rattle.cell_merge.specs.Sorts.{Sort, OfSort}
+use Rattle.cell_merge.specs.Edges.{any_edge, LeadTo, AreNamed}
+use Rattle.set_rewriter.specs.Edges.{kept}
+
+-- of the first edges those that are kept
+pub record KeepsEdges (f : Cnf) (es front : List (Lit × CellId)) (keep : List Lit) (out : List (Lit × CellId)) : Type 0 where
+  pub named : AreNamed f.vars out
+  pub sorts : (ks : List CellKind) (s : Sort) → LeadTo ks s es → LeadTo ks s out
+  pub members : (a : List Bool) → Satisfies a f → (of : CellId → Value) (p : Value → Bool) →
+      any_edge a of p out ≡ list_any p (kept a of front keep)
+
+-- whether the test answers what is wanted
+abbrev pub wanted_is : Bool → Bool → Bool
+wanted_is true t = t
+wanted_is false t = not t
+
+-- for each of the first n edges a literal: whether its value is a member of the set, or is none, as
+-- is wanted
+pub record Marks (c : Cells) (f : Cnf) (set : CellId) (wanted : Bool) (es : List (Lit × CellId)) (n : ℕ) (marks : List Lit) : Type 0 where
+  pub named : All (IsBelow f.vars) marks
+  pub count : length marks ≡ n
+  pub values : (a : List Bool) → Satisfies a f → (i : ℕ) → i < n → (e : Lit × CellId) (l : Lit) →
+      lit_value (slice_index_or marks i l) a ≡ wanted_is wanted (member (decode c a (slice_index_or es i e).1) (elements (decode c a set)))

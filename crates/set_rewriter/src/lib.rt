@@ -1,0 +1,16 @@
+//! Sets of cells: the set operators of the language.
+//!
+//! Each call gives, under every satisfying assignment, the value of its operator at the values of
+//! its cells. The cells of one call have one sort, and the cells that are answered have the sort
+//! that the operator gives. A set has one edge for members that are alike, and none whose literal
+//! is the negation of `top`. (Specifying Systems, section 16.1.6; Konnov, Kukovec and Tran, "TLA+
+//! Model Checking Made Symbolic", OOPSLA 2019, section 5.)
+#![tactic(auto)]
+
+mod filters;
+mod members;
+mod unions;
+
+pub use filters::{filter, inter, minus};
+pub use members::{member, subset};
+pub use unions::union;
