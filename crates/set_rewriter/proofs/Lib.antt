@@ -1,3 +1,4 @@
 pub mod Keeping
 pub mod Made
 pub mod Marking
+pub mod Uniting
