@@ -2,3 +2,4 @@ pub mod Keeping
 pub mod Made
 pub mod Marking
 pub mod Uniting
+pub mod Gathering

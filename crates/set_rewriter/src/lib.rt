@@ -13,4 +13,4 @@ mod unions;
 
 pub use filters::{filter, inter, minus};
 pub use members::{member, subset};
-pub use unions::union;
+pub use unions::{big_union, map, union};

@@ -1,5 +1,5 @@
 -- The steps of loops over edges.
-use Rattle.std.specs.Prelude.{◌≡◌, ℕ, ◌<◌, Bool, true, false, ◌&&◌, not, List, [], ◌∷◌, All, length, slice_index_or, if◌then◌else◌}
+use Rattle.std.specs.Prelude.{◌≡◌, ℕ, ◌<◌, Bool, true, false, ◌&&◌, ◌||◌, not, List, [], ◌∷◌, All, length, slice_index_or, if◌then◌else◌}
 use Rattle.std.specs.List.{list_any}
 use Rattle.sat_formula.specs.declared.lit.Lit.{Lit}
 use Rattle.sat_formula.specs.declared.cnf.Cnf.{Cnf}
@@ -11,7 +11,7 @@ use Rattle.cell_arena.specs.declared.kinds.CellId.{CellId}
 use Rattle.cell_arena.specs.declared.kinds.CellKind.{CellKind}
 use Rattle.cell_arena.specs.Cells.{Cells}
 use Rattle.cell_arena.specs.Decode.{decode}
-use Rattle.cell_merge.specs.Sorts.{Sort, OfSort}
+use Rattle.cell_merge.specs.Sorts.{Sort, OfSort, set_of as set_sort}
 use Rattle.cell_merge.specs.Edges.{any_edge, LeadTo, AreNamed}
 use Rattle.set_rewriter.specs.Edges.{kept}
 
@@ -34,3 +34,47 @@ pub record Marks (c : Cells) (f : Cnf) (set : CellId) (wanted : Bool) (es : List
   pub count : length marks ≡ n
   pub values : (a : List Bool) → Satisfies a f → (i : ℕ) → i < n → (e : Lit × CellId) (l : Lit) →
       lit_value (slice_index_or marks i l) a ≡ wanted_is wanted (member (decode c a (slice_index_or es i e).1) (elements (decode c a set)))
+
+-- edges of one sort over the first n variables
+pub record OneSort (ks : List CellKind) (n : ℕ) (es : List (Lit × CellId)) : Type 0 where
+  pub sort : Sort
+  pub cells : LeadTo ks sort es
+  pub named : AreNamed n es
+
+-- a set of some sort
+pub record IsSetIn (ks : List CellKind) (id : CellId) : Type 0 where
+  pub sort : Sort
+  pub is : OfSort ks (set_sort sort) id
+
+-- edges to sets of one sort over the first n variables
+pub record AreSets (ks : List CellKind) (n : ℕ) (es : List (Lit × CellId)) : Type 0 where
+  pub sort : Sort
+  pub cells : LeadTo ks (set_sort sort) es
+  pub named : AreNamed n es
+
+-- edges that have the members of the first ones
+pub record JoinsAll (c : Cells) (f : Cnf) (es front out : List (Lit × CellId)) : Type 0 where
+  pub named : AreNamed f.vars out
+  pub sorts : (s : Sort) → LeadTo c.kinds s es → LeadTo c.kinds s out
+  pub members : (a : List Bool) → Satisfies a f → (p : Value → Bool) → any_edge a (decode c a) p out ≡ any_edge a (decode c a) p front
+
+-- more edges, each there only where the literal is true
+pub record Guards (f : Cnf) (l : Lit) (es front old new : List (Lit × CellId)) : Type 0 where
+  pub named : AreNamed f.vars new
+  pub sorts : (ks : List CellKind) (s : Sort) → LeadTo ks s old → LeadTo ks s es → LeadTo ks s new
+  pub members : (a : List Bool) → Satisfies a f → (of : CellId → Value) (p : Value → Bool) →
+      any_edge a of p new ≡ (any_edge a of p old || (lit_value l a && any_edge a of p front))
+
+-- more edges, for the members of a set where the literal is true
+pub record GuardsSet (c : Cells) (f : Cnf) (l : Lit) (set : CellId) (old new : List (Lit × CellId)) : Type 0 where
+  pub named : AreNamed f.vars new
+  pub sorts : (s : Sort) → LeadTo c.kinds s old → OfSort c.kinds (set_sort s) set → LeadTo c.kinds s new
+  pub members : (a : List Bool) → Satisfies a f → (p : Value → Bool) →
+      any_edge a (decode c a) p new ≡ (any_edge a (decode c a) p old || (lit_value l a && list_any p (elements (decode c a set))))
+
+-- the edges of the first sets, each there only where its set is
+pub record Inside (c : Cells) (f : Cnf) (es front out : List (Lit × CellId)) : Type 0 where
+  pub named : AreNamed f.vars out
+  pub sorts : (s : Sort) → LeadTo c.kinds (set_sort s) es → LeadTo c.kinds s out
+  pub members : (a : List Bool) → Satisfies a f → (p : Value → Bool) →
+      any_edge a (decode c a) p out ≡ any_edge a (decode c a) (λ v. list_any p (elements v)) front

@@ -24,8 +24,8 @@ returns-clause-made c =
     let b = c.args.b.now in
     let m = rw (c.as_slice.ensures, c.as_slice-2.ensures, ← c.from_vec.ensures) at c.in_ok-edges.ensures.merges in
     made b _ _ c.args.x c.args.y _ _ _ refl c.in_ok-id.ensures.grows c.in_ok-id.ensures.cell c.in_ok-id.ensures.value
-        (λ s h k. m.sorts s (edges-sort b.arena.kinds s c.args.x c.in-Set.es h (sym c.kind.ensures.same ∙ c.in-Set.is))
-        (edges-sort b.arena.kinds s c.args.y c.in-Set-kind.fs k (sym c.kind-2.ensures.same ∙ c.in-Set-kind.is)))
-        (λ a s.
-        let value = kind_value b.arena.texts a (decode b.arena a) in
-        united b.arena _ a c.args.x c.args.y _ _ _ m s (c.kind.ensures.decodes a ∙ ap value c.in-Set.is) (c.kind-2.ensures.decodes a ∙ ap value c.in-Set-kind.is))
+    (λ s h k. m.sorts s (edges-sort b.arena.kinds s c.args.x c.in-Set.es h (sym c.kind.ensures.same ∙ c.in-Set.is))
+    (edges-sort b.arena.kinds s c.args.y c.in-Set-kind.fs k (sym c.kind-2.ensures.same ∙ c.in-Set-kind.is)))
+    (λ a s.
+    let value = kind_value b.arena.texts a (decode b.arena a) in
+    united b.arena _ a c.args.x c.args.y _ _ _ m s (c.kind.ensures.decodes a ∙ ap value c.in-Set.is) (c.kind-2.ensures.decodes a ∙ ap value c.in-Set-kind.is))
