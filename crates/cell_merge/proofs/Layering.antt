@@ -212,7 +212,7 @@ module _ (old mid new : Build) (l : Lit) (es : List Edge) (half i : ℕ) (d : Ed
 
 -- ---- one layer, by a free bit
 
-goes-on : (f g : Cnf) (a : List Bool) → FormulaGrows f g → length a ≡ f.vars → Satisfies a f → (more : List Bool) × ((length (a ++ more) ≡ g.vars) × Satisfies (a ++ more) g)
+pub goes-on : (f g : Cnf) (a : List Bool) → FormulaGrows f g → length a ≡ f.vars → Satisfies a f → (more : List Bool) × ((length (a ++ more) ≡ g.vars) × Satisfies (a ++ more) g)
 unfolding Extends Satisfies
 goes-on f g a grows n s = grows.extends.law a n s
 

@@ -3,3 +3,4 @@ pub mod Made
 pub mod Marking
 pub mod Uniting
 pub mod Gathering
+pub mod Freedom

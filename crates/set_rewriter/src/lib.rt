@@ -9,8 +9,10 @@
 
 mod filters;
 mod members;
+mod subsets;
 mod unions;
 
 pub use filters::{filter, inter, minus};
 pub use members::{member, subset};
+pub use subsets::pick_subset;
 pub use unions::{big_union, map, union};

@@ -1,5 +1,5 @@
 -- The steps of loops over edges.
-use Rattle.std.specs.Prelude.{◌≡◌, ℕ, ◌<◌, Bool, true, false, ◌&&◌, ◌||◌, not, List, [], ◌∷◌, All, length, slice_index_or, if◌then◌else◌}
+use Rattle.std.specs.Prelude.{◌≡◌, ℕ, ◌<◌, Bool, true, false, ◌&&◌, ◌||◌, not, List, [], ◌∷◌, ◌++◌, map, All, length, slice_index_or, if◌then◌else◌}
 use Rattle.std.specs.List.{list_any}
 use Rattle.sat_formula.specs.declared.lit.Lit.{Lit}
 use Rattle.sat_formula.specs.declared.cnf.Cnf.{Cnf}
@@ -78,3 +78,15 @@ pub record Inside (c : Cells) (f : Cnf) (es front out : List (Lit × CellId)) : 
   pub sorts : (s : Sort) → LeadTo c.kinds (set_sort s) es → LeadTo c.kinds s out
   pub members : (a : List Bool) → Satisfies a f → (p : Value → Bool) →
       any_edge a (decode c a) p out ≡ any_edge a (decode c a) (λ v. list_any p (elements v)) front
+
+-- each assignment that satisfies the old formula may give the new variables any values
+unfoldable pub AreFree : Cnf → Cnf → List Lit → Type 0
+AreFree old new bits =
+    (a : List Bool) → length a ≡ old.vars → Satisfies a old → (values : List Bool) → length values ≡ length bits →
+    (length (a ++ values) ≡ new.vars) × (Satisfies (a ++ values) new × (map (λ l. lit_value l (a ++ values)) bits ≡ values))
+
+-- as many new variables
+pub record FreeBits (old new : Cnf) (n : ℕ) (bits : List Lit) : Type 0 where
+  pub named : All (IsBelow new.vars) bits
+  pub count : length bits ≡ n
+  pub free : AreFree old new bits
