@@ -4,8 +4,12 @@
 #[cfg(test)]
 mod arena;
 #[cfg(test)]
+mod cases;
+#[cfg(test)]
 mod constants;
 #[cfg(test)]
 mod decoding;
 #[cfg(test)]
 mod equality;
+#[cfg(test)]
+mod sets;

@@ -4,3 +4,4 @@ pub mod Marking
 pub mod Uniting
 pub mod Gathering
 pub mod Freedom
+pub mod Numbers

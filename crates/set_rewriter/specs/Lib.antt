@@ -1,3 +1,4 @@
 pub mod Edges
 pub mod Subsets
+pub mod Ranges
 pub mod inner

@@ -1,19 +1,23 @@
 -- The steps of loops over edges.
-use Rattle.std.specs.Prelude.{◌≡◌, ℕ, ◌<◌, Bool, true, false, ◌&&◌, ◌||◌, not, List, [], ◌∷◌, ◌++◌, map, All, length, slice_index_or, if◌then◌else◌}
+use Rattle.std.specs.Prelude.{◌≡◌, ℕ, ◌<◌, Bool, true, false, ◌&&◌, ◌||◌, not, List, [], ◌∷◌, ◌++◌, map, filter, All, length, slice_index_or, ℤ, if◌then◌else◌}
 use Rattle.std.specs.List.{list_any}
 use Rattle.sat_formula.specs.declared.lit.Lit.{Lit}
 use Rattle.sat_formula.specs.declared.cnf.Cnf.{Cnf}
 use Rattle.sat_formula.specs.Lit.{lit_value, IsBelow}
-use Rattle.sat_formula.specs.Formula.{Satisfies}
+use Rattle.sat_formula.specs.Formula.{Satisfies, HasValue}
 use Rattle.tla_values.specs.declared.value.Value.{Value}
 use Rattle.tla_values.specs.Sets.{member, elements}
 use Rattle.cell_arena.specs.declared.kinds.CellId.{CellId}
 use Rattle.cell_arena.specs.declared.kinds.CellKind.{CellKind}
 use Rattle.cell_arena.specs.Cells.{Cells}
 use Rattle.cell_arena.specs.Decode.{decode}
-use Rattle.cell_merge.specs.Sorts.{Sort, OfSort, set_of as set_sort}
+use Rattle.cell_arena.specs.Growth.{Decodes}
+use Rattle.cell_arena.specs.declared.build.Build.{Build}
+use Rattle.cell_merge.specs.Sorts.{Sort, OfSort, number, set_of as set_sort}
 use Rattle.cell_merge.specs.Edges.{any_edge, LeadTo, AreNamed}
 use Rattle.set_rewriter.specs.Edges.{kept}
+use Rattle.set_rewriter.specs.Ranges.{from_on, lies}
+use Rattle.tla_values.specs.declared.value.Value.TheVariants as value
 
 -- of the first edges those that are kept
 pub record KeepsEdges (f : Cnf) (es front : List (Lit × CellId)) (keep : List Lit) (out : List (Lit × CellId)) : Type 0 where
@@ -90,3 +94,16 @@ pub record FreeBits (old new : Cnf) (n : ℕ) (bits : List Lit) : Type 0 where
   pub named : All (IsBelow new.vars) bits
   pub count : length bits ≡ n
   pub free : AreFree old new bits
+
+-- a number as a cell, and whether it lies from x to y
+pub record IsCandidate (old new : Build) (x y : CellId) (n : ℤ) (r : Lit × CellId) : Type 0 where
+  pub sort : OfSort new.arena.kinds number r.1
+  pub cell : Decodes new r.1 (λ a. value.Int n)
+  pub literal : HasValue new.formula r.0 (λ a. lies (decode old.arena a x) (decode old.arena a y) (value.Int n))
+
+-- the first n numbers from low on, each there where it lies from x to y
+pub record Candidates (old new : Build) (x y : CellId) (low : ℤ) (n : ℕ) (edges : List (Lit × CellId)) : Type 0 where
+  pub cells : LeadTo new.arena.kinds number edges
+  pub named : AreNamed new.formula.vars edges
+  pub members : (a : List Bool) → Satisfies a new.formula → (p : Value → Bool) →
+      any_edge a (decode new.arena a) p edges ≡ list_any p (filter (lies (decode old.arena a x) (decode old.arena a y)) (from_on low n))
