@@ -9,10 +9,12 @@
 
 mod filters;
 mod members;
+mod ranges;
 mod subsets;
 mod unions;
 
 pub use filters::{filter, inter, minus};
 pub use members::{member, subset};
+pub use ranges::range;
 pub use subsets::pick_subset;
 pub use unions::{big_union, map, union};

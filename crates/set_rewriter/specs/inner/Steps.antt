@@ -1,5 +1,5 @@
 -- The steps of loops over edges.
-use Rattle.std.specs.Prelude.{◌≡◌, ℕ, ◌<◌, Bool, true, false, ◌&&◌, ◌||◌, not, List, [], ◌∷◌, ◌++◌, map, filter, All, length, slice_index_or, ℤ, if◌then◌else◌}
+use Rattle.std.specs.Prelude.{◌≡◌, ℕ, ◌<◌, Bool, true, false, ◌&&◌, ◌||◌, not, List, [], ◌∷◌, ◌++◌, map, filter, All, length, slice_index_or, ℤ, pos, neg_ℤ, ◌≤ℤ◌, ◌^◌, if◌then◌else◌}
 use Rattle.std.specs.List.{list_any}
 use Rattle.sat_formula.specs.declared.lit.Lit.{Lit}
 use Rattle.sat_formula.specs.declared.cnf.Cnf.{Cnf}
@@ -107,3 +107,8 @@ pub record Candidates (old new : Build) (x y : CellId) (low : ℤ) (n : ℕ) (ed
   pub named : AreNamed new.formula.vars edges
   pub members : (a : List Bool) → Satisfies a new.formula → (p : Value → Bool) →
       any_edge a (decode new.arena a) p edges ≡ list_any p (filter (lies (decode old.arena a x) (decode old.arena a y)) (from_on low n))
+
+-- within 64 bits and a sign
+pub record IsSmall (n : ℤ) : Type 0 where
+  pub from : neg_ℤ (pos (2 ^ 64)) ≤ℤ n
+  pub to : n ≤ℤ pos (2 ^ 64)
