@@ -14,7 +14,7 @@ use tla_values::List;
 use word_blaster::literal;
 
 // Whether the clause has a true literal, or one of a later variable.
-fn is_met(lits: &[Lit], a: &[bool]) -> bool {
+pub fn is_met(lits: &[Lit], a: &[bool]) -> bool {
     for l in lits {
         match a.get(l.var) {
             Some(b) => {
@@ -28,7 +28,7 @@ fn is_met(lits: &[Lit], a: &[bool]) -> bool {
     false
 }
 
-fn are_met(f: &Formula, a: &[bool]) -> bool {
+pub fn are_met(f: &Formula, a: &[bool]) -> bool {
     for c in f.clauses().clauses() {
         if !is_met(c.lits(), a) {
             return false;

@@ -12,4 +12,6 @@ mod decoding;
 #[cfg(test)]
 mod equality;
 #[cfg(test)]
+mod picks;
+#[cfg(test)]
 mod sets;
