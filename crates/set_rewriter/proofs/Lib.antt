@@ -5,3 +5,4 @@ pub mod Uniting
 pub mod Gathering
 pub mod Freedom
 pub mod Numbers
+pub mod Sizes

@@ -7,12 +7,14 @@
 //! Model Checking Made Symbolic", OOPSLA 2019, section 5.)
 #![tactic(auto)]
 
+mod counting;
 mod filters;
 mod members;
 mod ranges;
 mod subsets;
 mod unions;
 
+pub use counting::cardinality;
 pub use filters::{filter, inter, minus};
 pub use members::{member, subset};
 pub use ranges::range;

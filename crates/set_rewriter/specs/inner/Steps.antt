@@ -6,11 +6,12 @@ use Rattle.sat_formula.specs.declared.cnf.Cnf.{Cnf}
 use Rattle.sat_formula.specs.Lit.{lit_value, IsBelow}
 use Rattle.sat_formula.specs.Formula.{Satisfies, HasValue}
 use Rattle.tla_values.specs.declared.value.Value.{Value}
-use Rattle.tla_values.specs.Sets.{member, elements}
+use Rattle.tla_values.specs.Sets.{member, elements, set_of}
 use Rattle.cell_arena.specs.declared.kinds.CellId.{CellId}
 use Rattle.cell_arena.specs.declared.kinds.CellKind.{CellKind}
 use Rattle.cell_arena.specs.Cells.{Cells}
-use Rattle.cell_arena.specs.Decode.{decode}
+use Rattle.word_blaster.specs.Word.{WordBelow, values, number as bit_number}
+use Rattle.cell_arena.specs.Decode.{decode, present}
 use Rattle.cell_arena.specs.Growth.{Decodes}
 use Rattle.cell_arena.specs.declared.build.Build.{Build}
 use Rattle.cell_merge.specs.Sorts.{Sort, OfSort, number, set_of as set_sort}
@@ -112,3 +113,15 @@ pub record Candidates (old new : Build) (x y : CellId) (low : ℤ) (n : ℕ) (ed
 pub record IsSmall (n : ℤ) : Type 0 where
   pub from : neg_ℤ (pos (2 ^ 64)) ≤ℤ n
   pub to : n ≤ℤ pos (2 ^ 64)
+
+-- a cell and edges of its sort
+pub record CellAndEdges (ks : List CellKind) (n : ℕ) (cell : CellId) (es : List (Lit × CellId)) : Type 0 where
+  pub sort : Sort
+  pub is : OfSort ks sort cell
+  pub cells : LeadTo ks sort es
+  pub named : AreNamed n es
+
+-- the bits are the number of members of the edges
+pub record CountsEdges (c : Cells) (f : Cnf) (es : List (Lit × CellId)) (bits : List Lit) : Type 0 where
+  pub below : WordBelow f.vars bits
+  pub value : (a : List Bool) → Satisfies a f → bit_number (values bits a) ≡ length (set_of (present a (decode c a) es))
