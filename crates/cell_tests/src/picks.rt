@@ -14,7 +14,7 @@ use crate::sets::{free_bits, set};
 use cell_arena::{Build, CellId};
 use cell_merge::{choose_cell, pick};
 use sat_formula::{Formula, Lit};
-use set_rewriter::{filter, map, member, pick_subset, range};
+use set_rewriter::{cardinality, filter, map, member, pick_subset, range};
 use std::alloc::{AllocError, Global};
 use std::test::Fail;
 use tla_values::List;
@@ -210,18 +210,19 @@ fn parts_and_images_have_their_members(rt: HostRuntime) -> Result<(), Fail> {
 fn row(
     alloc: Global,
     ends: (i128, i128),
-    bounds: (i128, i128),
+    low: i128,
+    high: i128,
     bit: bool,
 ) -> Result<Vec<u8>, AllocError>
-    requires low { IsTrue (fits_width 5 bounds.0) }
-    requires high { IsTrue (fits_width 5 bounds.1) }
+    requires low { IsTrue (fits_width 5 low) }
+    requires high { IsTrue (fits_width 5 high) }
 {
     let mut b = Build::new(alloc, &List::new(alloc), 5)?;
     let l = free(&mut b)?;
     let x = int(alloc, &mut b, ends.0)?;
     let last = int(alloc, &mut b, ends.1)?;
     let y = choose_cell(&mut b, l, last, x)?;
-    let id = range(&mut b, x, y, bounds.0, bounds.1)?;
+    let id = range(&mut b, x, y, low, high)?;
     let a = extended(alloc, &b.formula, &[true, bit])?;
     shown_at(alloc, &b, a.as_slice(), id)
 }
@@ -230,28 +231,64 @@ fn row(
 fn rows_end_where_both_bounds_end(rt: HostRuntime) -> Result<(), Fail> {
     let alloc = rt.alloc();
     assert_eq!(rt;
-        row(alloc, (1, 3), (0, 7), true)?.as_slice(),
+        row(alloc, (1, 3), 0, 7, true)?.as_slice(),
         b"{1, 2, 3}".as_slice()
     );
     assert_eq!(rt;
-        row(alloc, (1, 3), (0, 7), false)?.as_slice(),
+        row(alloc, (1, 3), 0, 7, false)?.as_slice(),
         b"{1}".as_slice()
     );
     assert_eq!(rt;
-        row(alloc, (-16, 15), (14, 15), true)?.as_slice(),
+        row(alloc, (-16, 15), 14, 15, true)?.as_slice(),
         b"{14, 15}".as_slice()
     );
     assert_eq!(rt;
-        row(alloc, (-2, 2), (-1, 1), true)?.as_slice(),
+        row(alloc, (-2, 2), -1, 1, true)?.as_slice(),
         b"{-1, 0, 1}".as_slice()
     );
     assert_eq!(rt;
-        row(alloc, (3, 2), (0, 7), true)?.as_slice(),
+        row(alloc, (3, 2), 0, 7, true)?.as_slice(),
         b"{}".as_slice()
     );
     assert_eq!(rt;
-        row(alloc, (1, 3), (2, 1), true)?.as_slice(),
+        row(alloc, (1, 3), 2, 1, true)?.as_slice(),
         b"{}".as_slice()
     );
+    Ok(())
+}
+
+// How many members the set has at width 4, or `out` where that is outside of the width.
+#[tactic(auto, using(cell_arena::proofs::Growing::growing))]
+fn counted(alloc: Global, edges: &str, given: &str) -> Result<Vec<u8>, AllocError> {
+    let mut b = Build::new(alloc, &List::new(alloc), 4)?;
+    let bits = free_bits(alloc, &mut b)?;
+    let x = set(alloc, &mut b, bits.as_slice(), edges.as_bytes())?;
+    let (id, outside) = cardinality(&mut b, x)?;
+    let a = given_bits(alloc, given)?;
+    let values = extended(alloc, &b.formula, a.as_slice())?;
+    if !is_met(&[outside.negated()], values.as_slice()) {
+        return Vec::from_slice(alloc, b"out");
+    }
+    shown_at(alloc, &b, values.as_slice(), id)
+}
+
+#[test]
+fn members_are_counted_once(rt: HostRuntime) -> Result<(), Fail> {
+    let cases: [(&str, &str, &[u8]); 7] = [
+        ("", "00000000", b"0"),
+        ("3T3T4T", "00000000", b"2"),
+        ("1TkT", "00000000", b"1"),
+        ("1TkT", "00000010", b"2"),
+        ("1a2b3c1d", "10110000", b"2"),
+        ("0T1T2T3T4T5T6T", "00000000", b"7"),
+        ("0T1T2T3T4T5T6T7Tna", "10000000", b"out"),
+    ];
+    for (edges, given, want) in cases {
+        assert_eq!(rt;
+            counted(rt.alloc(), edges, given)?.as_slice(),
+            want,
+            "{edges}"
+        );
+    }
     Ok(())
 }
