@@ -6,3 +6,4 @@ pub mod Gathering
 pub mod Freedom
 pub mod Numbers
 pub mod Sizes
+pub mod Powers

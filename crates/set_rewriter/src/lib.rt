@@ -10,13 +10,13 @@
 mod counting;
 mod filters;
 mod members;
+mod powersets;
 mod ranges;
-mod subsets;
 mod unions;
 
 pub use counting::cardinality;
 pub use filters::{filter, inter, minus};
 pub use members::{member, subset};
+pub use powersets::{pick_subset, subsets};
 pub use ranges::range;
-pub use subsets::pick_subset;
 pub use unions::{big_union, map, union};

@@ -1,5 +1,5 @@
 -- The steps of loops over edges.
-use Rattle.std.specs.Prelude.{◌≡◌, ℕ, ◌<◌, Bool, true, false, ◌&&◌, ◌||◌, not, List, [], ◌∷◌, ◌++◌, map, filter, All, length, slice_index_or, ℤ, pos, neg_ℤ, ◌≤ℤ◌, ◌^◌, if◌then◌else◌}
+use Rattle.std.specs.Prelude.{◌≡◌, ℕ, ◌<◌, Bool, true, false, ◌&&◌, ◌||◌, not, List, [], ◌∷◌, ◌++◌, map, filter, take, All, length, slice_index_or, ℤ, pos, neg_ℤ, ◌≤ℤ◌, ◌^◌, if◌then◌else◌}
 use Rattle.std.specs.List.{list_any}
 use Rattle.sat_formula.specs.declared.lit.Lit.{Lit}
 use Rattle.sat_formula.specs.declared.cnf.Cnf.{Cnf}
@@ -19,6 +19,10 @@ use Rattle.cell_merge.specs.Edges.{any_edge, LeadTo, AreNamed}
 use Rattle.set_rewriter.specs.Edges.{kept}
 use Rattle.set_rewriter.specs.Ranges.{from_on, lies}
 use Rattle.tla_values.specs.declared.value.Value.TheVariants as value
+
+-- the value, where it is there
+abbrev pub one : Bool → Value → List Value
+one t v = if t then v ∷ [] else []
 
 -- of the first edges those that are kept
 pub record KeepsEdges (f : Cnf) (es front : List (Lit × CellId)) (keep : List Lit) (out : List (Lit × CellId)) : Type 0 where
@@ -125,3 +129,47 @@ pub record CellAndEdges (ks : List CellKind) (n : ℕ) (cell : CellId) (es : Lis
 pub record CountsEdges (c : Cells) (f : Cnf) (es : List (Lit × CellId)) (bits : List Lit) : Type 0 where
   pub below : WordBelow f.vars bits
   pub value : (a : List Bool) → Satisfies a f → bit_number (values bits a) ≡ length (set_of (present a (decode c a) es))
+
+-- a set of some of the items
+pub record IsSome (v : Value) (items : List Value) : Type 0 where
+  pub some : List Value
+  pub is : v ≡ value.Set (set_of some)
+  pub within : (w : Value) → member w some ≡ true → member w items ≡ true
+
+-- one of the cells is the set of the items that pass the test
+pub record HasPart (c : Cells) (a : List Bool) (cells : List CellId) (items : List Value) (test : Value → Bool) : Type 0 where
+  pub index : ℕ
+  pub within : index < length cells
+  pub is : (d : CellId) → decode c a (slice_index_or cells index d) ≡ value.Set (set_of (filter test items))
+
+-- the cells are the subsets of the first i edges
+pub record SubsetCells (old new : Build) (es : List (Lit × CellId)) (i : ℕ) (cells : List CellId) : Type 0 where
+  pub sorts : (s : Sort) → LeadTo old.arena.kinds s es → All (OfSort new.arena.kinds (set_sort s)) cells
+  pub each : (a : List Bool) → Satisfies a new.formula → (k : ℕ) (d : CellId) → k < length cells →
+      IsSome (decode new.arena a (slice_index_or cells k d)) (present a (decode old.arena a) (take i es))
+  pub all : (a : List Bool) → Satisfies a new.formula → (test : Value → Bool) →
+      HasPart new.arena a cells (present a (decode old.arena a) (take i es)) test
+
+-- the set with one more edge
+pub record WithEdge (old new : Build) (e : Lit × CellId) (cell id : CellId) : Type 0 where
+  pub sort : (s : Sort) → OfSort old.arena.kinds (set_sort s) cell → OfSort old.arena.kinds s e.1 → OfSort new.arena.kinds (set_sort s) id
+  pub value : (a : List Bool) → Satisfies a new.formula → (items : List Value) → decode old.arena a cell ≡ value.Set (set_of items) →
+      decode new.arena a id ≡ value.Set (set_of (items ++ one (lit_value e.0 a) (decode old.arena a e.1)))
+
+-- each of the first n sets with one more edge
+pub record WithEach (old new : Build) (e : Lit × CellId) (cells : List CellId) (n : ℕ) (out : List CellId) : Type 0 where
+  pub count : length out ≡ n
+  pub sorts : (s : Sort) → All (OfSort old.arena.kinds (set_sort s)) cells → OfSort old.arena.kinds s e.1 → All (OfSort new.arena.kinds (set_sort s)) out
+  pub values : (a : List Bool) → Satisfies a new.formula → (k : ℕ) (d : CellId) → k < n → (items : List Value) → decode old.arena a (slice_index_or cells k d) ≡ value.Set (set_of items) →
+      decode new.arena a (slice_index_or out k d) ≡ value.Set (set_of (items ++ one (lit_value e.0 a) (decode old.arena a e.1)))
+
+-- sets of one sort, and an edge to a cell of it
+pub record SetsAndEdge (b : Build) (cells : List CellId) (e : Lit × CellId) : Type 0 where
+  pub sort : Sort
+  pub sets : All (OfSort b.arena.kinds (set_sort sort)) cells
+  pub cell : OfSort b.arena.kinds sort e.1
+  pub below : e.0.var < b.formula.vars
+
+-- edges of one sort over the build
+pub record EdgesOfSort (b : Build) (es : List (Lit × CellId)) : Type 0 where
+  pub edges : OneSort b.arena.kinds b.formula.vars es

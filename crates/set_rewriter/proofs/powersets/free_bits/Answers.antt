@@ -2,7 +2,7 @@ use Rattle.std.proofs.Common.{ap}
 use Rattle.sat_formula.specs.declared.cnf.Cnf.{Cnf}
 use Rattle.sat_formula.proofs.Extension.{Grows-refl, Grows-trans}
 use Rattle.set_rewriter.proofs.Freedom.{bits-none, bits-more}
-use Rattle.set_rewriter.proofs.subsets.free_bits.Goals as goal
+use Rattle.set_rewriter.proofs.powersets.free_bits.Goals as goal
 
 pub loop-i-init : goal.loop-i-init
 loop-i-init c = record {

@@ -6,7 +6,7 @@ use Rattle.cell_merge.proofs.Edges.{sort-there}
 use Rattle.cell_merge.specs.Sorts.{set_of as set_sort}
 use Rattle.set_rewriter.specs.Edges.{edges_of}
 use Rattle.set_rewriter.proofs.Freedom.{picks-subset}
-use Rattle.set_rewriter.proofs.subsets.pick_subset.Goals as goal
+use Rattle.set_rewriter.proofs.powersets.pick_subset.Goals as goal
 
 pub returns-in_err-id-clause-grows : goal.returns-in_err-id-clause-grows
 returns-in_err-id-clause-grows c = Grows-trans _ _ _ (Grows-formula _ _ c.in_ok-keep.ensures.grows refl) c.in_err-id.ensures.grows
