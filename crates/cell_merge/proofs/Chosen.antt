@@ -1,5 +1,5 @@
 -- A choice between two cells, by their kinds.
-use Rattle.std.proofs.Common.{◌≡◌, ℕ, ◌<◌, Bool, true, false, not, IsTrue, List, [], ◌∷◌, length, All, get_or, ℤ, refl, sym, ap, ◌∙◌, subst, arith}
+use Rattle.std.proofs.Common.{◌≡◌, ℕ, ◌<◌, Bool, true, false, not, IsTrue, List, length, All, get_or, ℤ, refl, sym, ap, ◌∙◌, subst}
 use Rattle.std.specs.Prelude.{if◌then◌else◌}
 use Rattle.sat_formula.specs.declared.lit.Lit.{Lit}
 use Rattle.sat_formula.specs.declared.cnf.Cnf.{Cnf}
@@ -8,22 +8,22 @@ use Rattle.sat_formula.specs.Formula.{Satisfies, HasValue, Grows as FormulaGrows
 use Rattle.sat_formula.proofs.Extension.{Satisfies-older}
 use Rattle.word_blaster.specs.Word.{word_value}
 use Rattle.tla_values.specs.Order.{same_value}
-use Rattle.tla_values.specs.Sets.{set_of, member, subset}
+use Rattle.tla_values.specs.Sets.{set_of, member}
 use Rattle.tla_values.specs.declared.value.Value.{Value}
 use Rattle.tla_values.specs.declared.value.Value.TheVariants as value
 use Rattle.tla_values.proofs.Extensional.{same_members, set_of_rising, members_of, member-set_of}
 use Rattle.cell_arena.specs.declared.build.Build.{Build}
 use Rattle.cell_arena.specs.declared.kinds.CellId.{CellId}
 use Rattle.cell_arena.specs.declared.kinds.CellKind.{CellKind}
-use Rattle.cell_arena.specs.declared.kinds.CellKind.TheVariants.{Bit, Word, Text, Set, Fun, Rec, Tup, Seq}
+use Rattle.cell_arena.specs.declared.kinds.CellKind.TheVariants.{Bit, Word, Text, Set}
 use Rattle.cell_arena.specs.Cells.{Cells, kind_at, IsHeld, NamesBelow, is_index}
 use Rattle.cell_arena.specs.Decode.{decode, present, kind_value, text_at}
 use Rattle.cell_arena.specs.Growth.{Grows, Decodes, Adds}
-use Rattle.cell_arena.proofs.Growing.{Decodes-same, Satisfies-before, Grows-formula, Grows-trans}
+use Rattle.cell_arena.proofs.Growing.{Decodes-same, Satisfies-before}
 use Rattle.cell_merge.specs.declared.merging.Join.TheVariants.{Chosen}
 use Rattle.cell_merge.specs.Sorts.{Sort, truth, number, name, set_of as set_sort, OfSort, IsBit, IsWord, IsText, IsSet, OneType, IsOver}
 use Rattle.cell_merge.specs.Choices.{Chooses}
-use Rattle.cell_merge.specs.Edges.{any_edge, LeadTo, Merges, TwoSets}
+use Rattle.cell_merge.specs.Edges.{LeadTo, Merges, TwoSets}
 use Rattle.cell_merge.proofs.Edges.{any-present, sort-there, edges-sort, one-set, left-there, right-there}
 use Rattle.cell_merge.proofs.Unions.{AreNamed-later}
 use Rattle.cell_merge.proofs.Names.{code-in}

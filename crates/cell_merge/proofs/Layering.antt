@@ -1,9 +1,9 @@
 -- The steps of a pick.
-use Rattle.std.proofs.Common.{◌≡◌, ℕ, zero, suc, ◌+◌, ◌*◌, ◌<◌, ◌≤◌, Bool, true, false, cond, ◌&&◌, ◌||◌, List, [], ◌∷◌, ◌++◌, length, take, drop, get_or, All, refl, sym, ap, ◌∙◌, subst, arith, append_assoc, length-drop, ◌⊎◌, inl, inr}
+use Rattle.std.proofs.Common.{◌≡◌, ℕ, ◌+◌, ◌*◌, ◌<◌, ◌≤◌, Bool, true, false, ◌&&◌, ◌||◌, List, [], ◌∷◌, ◌++◌, length, take, drop, get_or, All, refl, sym, ap, ◌∙◌, subst, arith, append_assoc, length-drop, ◌⊎◌, inl, inr}
 use Rattle.std.specs.Prelude.{if◌then◌else◌}
 use Rattle.std.specs.List.{list_any}
-use Rattle.std.proofs.lemmas.Bool.{cases_lt, cases_Bool, or_cases}
-use Rattle.std.proofs.lemmas.List.{append-nil, take_all, take-append-drop, length_push, get_or_push, get_or_past, get_or-drop, get_or_default}
+use Rattle.std.proofs.lemmas.Bool.{cases_lt, or_cases}
+use Rattle.std.proofs.lemmas.List.{append-nil, take_all, take-append-drop, length_push, get_or_push, get_or_past, get_or-drop}
 use Rattle.std.proofs.lemmas.List.Folds.{list_any_at, list_any-append, list_any_more}
 use Rattle.std.proofs.lemmas.List.Elements.{All-push, All-weaker, All-head, All-tail, All-take, All-drop}
 use Rattle.sat_formula.specs.declared.lit.Lit.{Lit}
@@ -12,20 +12,18 @@ use Rattle.sat_formula.specs.Lit.{lit_value, IsBelow}
 use Rattle.sat_formula.specs.Formula.{Satisfies, Extends, Grows as FormulaGrows, EitherExtends}
 use Rattle.sat_formula.proofs.Extension.{lit_value-append}
 use Rattle.tla_values.specs.Order.{same_value}
-use Rattle.tla_values.specs.Sets.{member, elements}
 use Rattle.tla_values.specs.declared.value.Value.{Value}
 use Rattle.tla_values.proofs.Extensional.{same_itself, same_equal}
 use Rattle.cell_arena.specs.declared.build.Build.{Build}
 use Rattle.cell_arena.specs.declared.kinds.CellId.{CellId}
-use Rattle.cell_arena.specs.declared.kinds.CellKind.{CellKind}
 use Rattle.cell_arena.specs.declared.kinds.CellKind.TheVariants.{Set}
 use Rattle.cell_arena.specs.Cells.{Cells}
 use Rattle.cell_arena.specs.Decode.{decode, kind_value}
-use Rattle.cell_arena.specs.Growth.{Grows, Decodes}
+use Rattle.cell_arena.specs.Growth.{Grows}
 use Rattle.cell_arena.proofs.Growing.{Decodes-later, Satisfies-before, decode-before, decode-assigned}
 use Rattle.cell_merge.specs.Sorts.{Sort, OfSort, OneType, set_of as set_sort}
 use Rattle.cell_merge.specs.Choices.{Chooses}
-use Rattle.cell_merge.specs.Picks.{Reaches, PicksFrom}
+use Rattle.cell_merge.specs.Picks.{PicksFrom}
 use Rattle.cell_merge.specs.Edges.{any_edge, LeadTo, AreNamed}
 use Rattle.cell_merge.specs.inner.Layers.{AreEdges, ChoosesEdge, ChoosesEach, GoesOn, Narrows}
 use Rattle.cell_merge.proofs.Edges.{any-cell, sort-there}

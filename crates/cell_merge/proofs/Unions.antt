@@ -1,8 +1,7 @@
 -- The steps in which the edges of two sets are made into those of one.
-use Rattle.std.proofs.Common.{◌≡◌, ℕ, ◌+◌, ◌<◌, ◌≤◌, Bool, true, false, IsTrue, ◌&&◌, ◌||◌, List, [], ◌∷◌, ◌++◌, length, take, drop, get_or, All, refl, sym, ap, ◌∙◌, subst, arith}
+use Rattle.std.proofs.Common.{◌≡◌, ℕ, ◌+◌, ◌<◌, ◌≤◌, Bool, true, false, ◌&&◌, ◌||◌, List, [], ◌∷◌, ◌++◌, length, take, drop, get_or, refl, sym, ap, ◌∙◌, subst, arith}
 use Rattle.std.specs.Prelude.{if◌then◌else◌}
-use Rattle.std.specs.List.{list_any}
-use Rattle.std.proofs.lemmas.List.{take_more, drop_more}
+use Rattle.std.proofs.lemmas.List.{drop_more}
 use Rattle.std.proofs.lemmas.List.Folds.{list_any_more, list_any-append}
 use Rattle.std.proofs.lemmas.List.Elements.{All-push, All-weaker, All-head, All-rest}
 use Rattle.sat_formula.specs.declared.lit.Lit.{Lit}
@@ -12,12 +11,11 @@ use Rattle.sat_formula.specs.Formula.{Satisfies, Grows, HasValue}
 use Rattle.sat_formula.proofs.Extension.{Satisfies-older}
 use Rattle.tla_values.specs.declared.value.Value.{Value}
 use Rattle.cell_arena.specs.declared.kinds.CellId.{CellId}
-use Rattle.cell_arena.specs.declared.kinds.CellKind.{CellKind}
 use Rattle.cell_arena.specs.Cells.{Cells}
 use Rattle.cell_arena.specs.Decode.{decode}
 use Rattle.cell_merge.specs.declared.merging.Join.{Join}
 use Rattle.cell_merge.specs.declared.merging.Join.TheVariants.{Either, Chosen}
-use Rattle.cell_merge.specs.Sorts.{Sort, OfSort}
+use Rattle.cell_merge.specs.Sorts.{OfSort}
 use Rattle.cell_merge.specs.Edges.{any_edge, LeadTo, AreNamed, joined}
 use Rattle.cell_merge.specs.inner.Parts.{Parted, Joins, Joining}
 

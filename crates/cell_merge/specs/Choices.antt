@@ -1,5 +1,5 @@
 -- A cell with the value of one of two.
-use Rattle.std.specs.Prelude.{Bool, if◌then◌else◌}
+use Rattle.std.specs.Prelude.{if◌then◌else◌}
 use Rattle.sat_formula.specs.declared.lit.Lit.{Lit}
 use Rattle.sat_formula.specs.Lit.{lit_value}
 use Rattle.cell_arena.specs.declared.build.Build.{Build}

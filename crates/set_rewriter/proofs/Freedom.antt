@@ -1,12 +1,12 @@
 -- New variables, and a subset by them.
-use Rattle.std.proofs.Common.{◌≡◌, ℕ, zero, suc, ◌+◌, ◌<◌, ◌≤◌, Bool, true, false, cond, ◌&&◌, ◌||◌, List, [], ◌∷◌, ◌++◌, map, length, take, get_or, All, refl, ap, ◌∙◌, sym, subst, arith, append_assoc}
+use Rattle.std.proofs.Common.{◌≡◌, ℕ, zero, suc, ◌+◌, ◌<◌, Bool, true, false, cond, ◌&&◌, ◌||◌, List, [], ◌∷◌, ◌++◌, map, length, take, get_or, All, refl, ap, ◌∙◌, sym, subst, arith, append_assoc}
 use Rattle.std.specs.Prelude.{filter, if◌then◌else◌}
 use Rattle.std.proofs.lemmas.List.{append-nil, length_push, length-take-le, length-map, take_all, take_more, map-append, get_or_push}
 use Rattle.std.proofs.lemmas.List.Elements.{All-nil, All-push, All-weaker}
 use Rattle.sat_formula.specs.declared.lit.Lit.{Lit}
 use Rattle.sat_formula.specs.declared.cnf.Cnf.{Cnf}
 use Rattle.sat_formula.specs.Lit.{lit_value, IsBelow}
-use Rattle.sat_formula.specs.Formula.{Satisfies, EitherExtends, Grows as FormulaGrows}
+use Rattle.sat_formula.specs.Formula.{Satisfies, EitherExtends}
 use Rattle.sat_formula.proofs.Extension.{lit_value-append}
 use Rattle.tla_values.specs.Order.{same_value}
 use Rattle.tla_values.specs.Sets.{set_of, elements, member, subset}

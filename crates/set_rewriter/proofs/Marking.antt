@@ -1,25 +1,25 @@
 -- A literal for each edge, and the set that they give.
-use Rattle.std.proofs.Common.{◌≡◌, ℕ, ◌+◌, ◌<◌, ◌≤◌, Bool, true, false, not, List, [], ◌∷◌, ◌++◌, length, take, get_or, All, refl, ap, ◌∙◌, sym, subst, arith, below_more}
-use Rattle.std.specs.Prelude.{if◌then◌else◌, filter}
-use Rattle.std.proofs.lemmas.List.{get_or_append_left, get_or_push, get_or_default, length_push, take_all, length-take-le, get_or-take}
+use Rattle.std.proofs.Common.{◌≡◌, ℕ, ◌+◌, ◌<◌, Bool, false, not, List, [], ◌∷◌, ◌++◌, length, get_or, All, ap, ◌∙◌, sym, subst, arith, below_more}
+use Rattle.std.specs.Prelude.{filter}
+use Rattle.std.proofs.lemmas.List.{get_or_append_left, get_or_push, get_or_default, length_push}
 use Rattle.std.proofs.lemmas.List.Elements.{All-push, All-weaker}
 use Rattle.sat_formula.specs.declared.lit.Lit.{Lit}
 use Rattle.sat_formula.specs.declared.cnf.Cnf.{Cnf}
 use Rattle.sat_formula.specs.Lit.{lit_value, IsBelow}
 use Rattle.sat_formula.specs.Formula.{Satisfies, Grows as FormulaGrows, HasValue}
 use Rattle.sat_formula.proofs.Extension.{Satisfies-older}
-use Rattle.tla_values.specs.Sets.{set_of, elements, member, inter_of, minus}
+use Rattle.tla_values.specs.Sets.{set_of, elements, member}
 use Rattle.tla_values.specs.declared.value.Value.{Value}
 use Rattle.cell_arena.specs.declared.build.Build.{Build}
 use Rattle.cell_arena.specs.declared.kinds.CellId.{CellId}
 use Rattle.cell_arena.specs.declared.kinds.CellKind.{CellKind}
 use Rattle.cell_arena.specs.declared.kinds.CellKind.TheVariants.{Set}
-use Rattle.cell_arena.specs.Cells.{Cells, WellBuilt, kind_at}
-use Rattle.cell_arena.specs.Decode.{decode, present, kind_value}
+use Rattle.cell_arena.specs.Cells.{Cells, kind_at}
+use Rattle.cell_arena.specs.Decode.{decode, kind_value}
 use Rattle.tla_values.specs.declared.value.Value.TheVariants as value
 use Rattle.cell_arena.proofs.Decoding.{decode-kind}
 use Rattle.cell_arena.proofs.Growing.{Decodes-same}
-use Rattle.cell_merge.specs.Sorts.{Sort, OfSort, SetsOfOneType, MemberType, set_of as set_sort}
+use Rattle.cell_merge.specs.Sorts.{OfSort, SetsOfOneType, MemberType, set_of as set_sort}
 use Rattle.cell_merge.proofs.Edges.{negated-value, elements-cell, is-set, edges-sort}
 use Rattle.set_rewriter.specs.Edges.{MakesSet, edges_of, kept, KeepsBy}
 use Rattle.set_rewriter.specs.inner.Steps.{Marks, wanted_is}

@@ -1,8 +1,7 @@
 -- Numbers in a row, and the literals that say which of them lie between two others.
-use Rattle.std.proofs.Common.{◌≡◌, ℕ, zero, suc, ◌+◌, ◌^◌, ◌-◌, ◌<◌, ◌≤◌, Bool, true, false, cond, not, ◌&&◌, ◌||◌, IsTrue, List, [], ◌∷◌, ◌++◌, length, All, refl, ap, ◌∙◌, sym, subst, arith, ℤ, pos, negsuc, ◌+ℤ◌, ◌-ℤ◌, ◌≤ℤ◌, int_lt, nat_abs}
+use Rattle.std.proofs.Common.{◌≡◌, ℕ, zero, suc, ◌+◌, ◌^◌, ◌-◌, ◌<◌, ◌≤◌, Bool, true, false, cond, not, ◌&&◌, ◌||◌, IsTrue, List, [], ◌∷◌, ◌++◌, refl, ap, ◌∙◌, sym, subst, arith, ℤ, pos, negsuc, ◌+ℤ◌, ◌-ℤ◌, ◌≤ℤ◌, int_lt, nat_abs}
 use Rattle.std.specs.Prelude.{filter, int_le, nat_lt, if◌then◌else◌}
 use Rattle.std.specs.List.{list_any}
-use Rattle.std.specs.declared.cmp.Ordering.{Ordering}
 use Rattle.std.specs.declared.cmp.Ordering.TheVariants.{Less}
 use Rattle.std.proofs.lemmas.List.Elements.{filter-append, All-push, All-nil}
 use Rattle.std.proofs.lemmas.List.Folds.{list_any-append}
@@ -15,7 +14,7 @@ use Rattle.std.proofs.lemmas.Int.{ints}
 use Rattle.std.specs.Cmp.{int_cmp_is}
 use Rattle.std.proofs.lemmas.Bool.Decides.{nat_tests}
 use Rattle.tla_values.specs.Integers.{fits_width}
-use Rattle.tla_values.specs.declared.value.Value.{Value, out-Value}
+use Rattle.tla_values.specs.declared.value.Value.{Value}
 use Rattle.tla_values.specs.declared.value.Value.TheVariants as value
 use Rattle.tla_values.specs.declared.value.Value.TheVariants.{outs-Int}
 use Rattle.sat_formula.specs.declared.lit.Lit.{Lit}
@@ -34,7 +33,7 @@ use Rattle.cell_arena.specs.declared.build.Build.{Build}
 use Rattle.cell_arena.specs.Growth.{Grows, Decodes, Adds, Keeps}
 use Rattle.cell_arena.proofs.Growing.{Decodes-same, Satisfies-before, decode-before}
 use Rattle.cell_merge.specs.Sorts.{OfSort, number}
-use Rattle.cell_merge.specs.Edges.{any_edge, LeadTo, AreNamed}
+use Rattle.cell_merge.specs.Edges.{any_edge}
 use Rattle.cell_merge.proofs.Edges.{sort-there}
 use Rattle.cell_merge.proofs.SortLaws.{sort-word, OfSort-later}
 use Rattle.cell_merge.proofs.Unions.{AreNamed-later, any-push}

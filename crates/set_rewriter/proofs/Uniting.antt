@@ -1,5 +1,5 @@
 -- The members of several sets.
-use Rattle.std.proofs.Common.{◌≡◌, ℕ, ◌+◌, ◌<◌, Bool, true, false, ◌&&◌, ◌||◌, List, [], ◌∷◌, ◌++◌, length, All, refl, ap, ◌∙◌, sym, subst, arith}
+use Rattle.std.proofs.Common.{◌≡◌, Bool, ◌||◌, List, ◌++◌, ap, ◌∙◌, sym}
 use Rattle.std.specs.List.{list_any}
 use Rattle.std.proofs.lemmas.List.Folds.{list_any-append}
 use Rattle.sat_formula.specs.declared.lit.Lit.{Lit}
@@ -9,7 +9,6 @@ use Rattle.tla_values.specs.Sets.{set_of, elements, union_of}
 use Rattle.tla_values.specs.declared.value.Value.{Value}
 use Rattle.tla_values.proofs.Extensional.{union-set_of}
 use Rattle.cell_arena.specs.declared.kinds.CellId.{CellId}
-use Rattle.cell_arena.specs.declared.kinds.CellKind.{CellKind}
 use Rattle.cell_arena.specs.declared.kinds.CellKind.TheVariants.{Set}
 use Rattle.cell_arena.specs.Cells.{Cells}
 use Rattle.cell_arena.specs.Decode.{decode, present, kind_value}

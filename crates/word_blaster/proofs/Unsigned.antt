@@ -1,10 +1,10 @@
 -- Numbers without a sign.
-use Rattle.std.proofs.Common.{◌≡◌, ℕ, ◌+◌, ◌*◌, ◌/◌, ◌^◌, ◌<◌, ◌≤◌, Bool, true, false, ◌&&◌, List, [], ◌∷◌, ◌++◌, length, refl, sym, ◌∙◌, ap, arith, ℤ, pos, ◌-ℤ◌}
+use Rattle.std.proofs.Common.{◌≡◌, ℕ, ◌+◌, ◌*◌, ◌^◌, ◌<◌, ◌≤◌, Bool, true, false, ◌&&◌, List, [], ◌∷◌, ◌++◌, length, refl, ◌∙◌, ap, arith, pos, ◌-ℤ◌}
 use Rattle.std.proofs.Math.Pow.{pow_mono}
 use Rattle.std.proofs.lemmas.Int.{ints}
-use Rattle.sat_formula.specs.Lit.{lit_value, differ}
+use Rattle.sat_formula.specs.Lit.{differ}
 use Rattle.word_blaster.specs.Word.{bit, number, taken, signed}
-use Rattle.word_blaster.proofs.Bits.{number-push, number_lt, bit-le}
+use Rattle.word_blaster.proofs.Bits.{number-push}
 use Rattle.word_blaster.proofs.Signs.{signed-is, taken-push}
 
 pub room : (n k : ℕ) → n < 2 ^ 64 → 64 ≤ k → n < 2 ^ k

@@ -1,6 +1,5 @@
 use Rattle.std.proofs.Common.{sym, ap, ◌∙◌}
 use Rattle.cell_arena.specs.Decode.{decode, kind_value}
-use Rattle.cell_arena.specs.declared.kinds.CellKind.TheVariants.{Set}
 use Rattle.cell_merge.proofs.Edges.{edges-sort}
 use Rattle.cell_merge.proofs.Layering.{picked}
 use Rattle.cell_merge.proofs.picking.pick.Goals as goal

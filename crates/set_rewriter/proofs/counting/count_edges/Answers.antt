@@ -1,4 +1,4 @@
-use Rattle.std.proofs.Common.{◌≤◌, ◌<◌, length, arith, refl}
+use Rattle.std.proofs.Common.{◌<◌, length, arith}
 use Rattle.sat_formula.proofs.Extension.{Grows-refl, Grows-trans}
 use Rattle.word_blaster.proofs.Words.{WordBelow-later}
 use Rattle.cell_merge.proofs.Edges.{negated-value}

@@ -1,4 +1,4 @@
-use Rattle.std.proofs.Common.{sym, ◌∙◌, ap}
+use Rattle.std.proofs.Common.{sym}
 use Rattle.sat_formula.proofs.Extension.{Satisfies-older, Grows-trans}
 use Rattle.tla_values.specs.Order.{same_value}
 use Rattle.cell_arena.specs.Decode.{decode}

@@ -1,5 +1,4 @@
-use Rattle.std.proofs.Common.{refl, sym, ap, subst, ◌∙◌, length, arith}
-use Rattle.sat_formula.specs.declared.lit.Lit.{Lit}
+use Rattle.std.proofs.Common.{refl, sym, ap, ◌∙◌}
 use Rattle.cell_arena.specs.declared.kinds.CellKind.{CellKind}
 use Rattle.cell_arena.specs.Decode.{decode}
 use Rattle.cell_arena.proofs.Growing.{Grows-trans, Grows-formula}
@@ -7,7 +6,7 @@ use Rattle.cell_merge.proofs.Edges.{edges-sort}
 use Rattle.cell_merge.proofs.Chosen.{lead-there}
 use Rattle.tla_values.specs.Sets.{set_of}
 use Rattle.set_rewriter.specs.Edges.{edges_of, kept}
-use Rattle.set_rewriter.proofs.Made.{made, set-found, edges-named}
+use Rattle.set_rewriter.proofs.Made.{made, set-found}
 use Rattle.set_rewriter.proofs.filters.filter.Goals as goal
 
 pub set-requires-clause-older : goal.set-requires-clause-older

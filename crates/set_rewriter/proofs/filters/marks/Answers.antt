@@ -1,5 +1,3 @@
-use Rattle.std.proofs.Common.{sym, ◌∙◌, ap, length}
-use Rattle.sat_formula.specs.declared.lit.Lit.{Lit}
 use Rattle.sat_formula.proofs.Extension.{Grows-trans}
 use Rattle.cell_merge.proofs.Names.{IsOver-later}
 use Rattle.set_rewriter.proofs.Marking.{marks-more, edge-type}

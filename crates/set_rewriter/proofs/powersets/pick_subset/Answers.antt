@@ -1,10 +1,6 @@
-use Rattle.std.proofs.Common.{refl, sym, ap, ◌∙◌, length}
-use Rattle.cell_arena.specs.declared.kinds.CellKind.{CellKind}
+use Rattle.std.proofs.Common.{refl, sym, ap, ◌∙◌}
 use Rattle.cell_arena.specs.Decode.{decode, kind_value}
 use Rattle.cell_arena.proofs.Growing.{Grows-trans, Grows-formula}
-use Rattle.cell_merge.proofs.Edges.{sort-there}
-use Rattle.cell_merge.specs.Sorts.{set_of as set_sort}
-use Rattle.set_rewriter.specs.Edges.{edges_of}
 use Rattle.set_rewriter.proofs.Freedom.{picks-subset}
 use Rattle.set_rewriter.proofs.powersets.pick_subset.Goals as goal
 

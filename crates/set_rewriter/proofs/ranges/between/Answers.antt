@@ -1,4 +1,3 @@
-use Rattle.std.proofs.Common.{refl}
 use Rattle.sat_formula.proofs.Extension.{Satisfies-older}
 use Rattle.cell_merge.proofs.Edges.{negated-value}
 use Rattle.set_rewriter.proofs.Numbers.{cell-word, two-words, word-later, lies-value}

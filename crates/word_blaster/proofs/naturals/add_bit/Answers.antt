@@ -1,4 +1,4 @@
-use Rattle.std.proofs.Common.{◌≡◌, ℕ, ◌+◌, ◌*◌, ◌^◌, ◌<◌, ◌≤◌, false, length, List, [], ◌∷◌, ◌++◌, take, ap, arith, sym, ◌∙◌, get_or, subst}
+use Rattle.std.proofs.Common.{◌≡◌, ℕ, ◌+◌, ◌*◌, ◌^◌, ◌≤◌, false, length, List, [], ◌∷◌, ◌++◌, take, ap, arith, sym, ◌∙◌, get_or, subst}
 use Rattle.std.proofs.lemmas.List.{length_push, take_all}
 use Rattle.sat_formula.specs.Lit.{lit_value}
 use Rattle.sat_formula.specs.declared.lit.Lit.{Lit}

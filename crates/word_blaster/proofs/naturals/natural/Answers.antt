@@ -1,10 +1,10 @@
-use Rattle.std.proofs.Common.{◌≡◌, ℕ, ◌+◌, ◌<◌, ◌≤◌, Bool, false, not, length, List, [], ◌∷◌, ◌++◌, ap, arith, sym, ◌∙◌, subst, pos, ℤ}
+use Rattle.std.proofs.Common.{◌≡◌, Bool, not, List, ap, arith, ◌∙◌, pos, ℤ}
 use Rattle.std.proofs.lemmas.List.{length_push}
 use Rattle.sat_formula.specs.Lit.{lit_value}
 use Rattle.sat_formula.specs.declared.lit.Lit.{Lit}
 use Rattle.sat_formula.specs.Formula.{Satisfies}
 use Rattle.sat_formula.proofs.Extension.{Satisfies-older}
-use Rattle.word_blaster.specs.Word.{number, values, signed, fits_width, WordBelow}
+use Rattle.word_blaster.specs.Word.{number, values, signed, fits_width}
 use Rattle.word_blaster.proofs.Words.{WordBelow-push, values-push, turned-value}
 use Rattle.word_blaster.proofs.Unsigned.{number-zero, signed-zero}
 use Rattle.word_blaster.proofs.naturals.natural.Goals as goal
