@@ -7,3 +7,4 @@ pub mod Freedom
 pub mod Numbers
 pub mod Sizes
 pub mod Powers
+pub mod MapLaws

@@ -60,3 +60,8 @@ pub record MakesOf (old new : Build) (x id : CellId) (given made : Sort → Sort
 pub record IsSetOfSets (b : Build) (id : CellId) : Type 0 where
   pub sort : Sort
   pub is : OfSort b.arena.kinds (set_sort (set_sort sort)) id
+
+-- at each edge that is there the other cell is the image of the value
+unfoldable pub MapsBy : List Bool → (CellId → Value) → List (Lit × CellId) → List CellId → (Value → Value) → Type 0
+MapsBy a of es xs g =
+    (i : ℕ) (e : Lit × CellId) (x : CellId) → i < length es → lit_value (slice_index_or es i e).0 a ≡ true → of (slice_index_or xs i x) ≡ g (of (slice_index_or es i e).1)

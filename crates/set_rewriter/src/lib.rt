@@ -9,6 +9,7 @@
 
 mod counting;
 mod filters;
+mod laws;
 mod members;
 mod powersets;
 mod ranges;
@@ -16,6 +17,7 @@ mod unions;
 
 pub use counting::cardinality;
 pub use filters::{filter, inter, minus};
+pub use laws::members_are_kept_and_mapped;
 pub use members::{member, subset};
 pub use powersets::{pick_subset, subsets};
 pub use ranges::range;
