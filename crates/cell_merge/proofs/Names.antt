@@ -80,7 +80,7 @@ all-at p (k ∷ ks) (suc i) d lt h = all-at p ks i d (omega arith) (rest (p k) h
     rest false e = absurd (cc)
 
 -- the code of a text is an index
-code-in : (c : Cells) (f : Cnf) (a : List Bool) (id : CellId) (w : List Lit) → InRange c f → Satisfies a f → id.index < length c.kinds → kind_at c.kinds id ≡ Text w
+pub code-in : (c : Cells) (f : Cnf) (a : List Bool) (id : CellId) (w : List Lit) → InRange c f → Satisfies a f → id.index < length c.kinds → kind_at c.kinds id ≡ Text w
     → IsTrue (is_index (length c.texts) (word_value w a))
 unfolding InRange
 code-in c f a id w h s lt e =

@@ -1,1 +1,5 @@
 pub mod Sorts
+pub mod Edges
+pub mod Choices
+pub mod Picks
+pub mod inner

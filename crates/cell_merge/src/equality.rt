@@ -8,12 +8,14 @@ ghost use Rattle.std.specs.Prelude.{IfOk, ◌≡◌};
 ghost use Rattle.tla_values.specs.Order.{same_value};
 ghost use Rattle.tla_values.specs.Sets.{elements, member, subset};
 
+use crate::likeness::alike;
 use cell_arena::{Arena, Build, CellId, CellKind};
 use sat_formula::{Formula, Lit};
 use std::alloc::AllocError;
 use word_blaster::equal;
 
-/// A literal that is true exactly where the two cells have one value.
+/// A literal that is true exactly where the two cells have one value. It is `top` where they are
+/// alike.
 #[cycle(same)]
 #[tactic(auto, using(sat_formula::proofs::Extension::gates, crate::proofs::Names::over))]
 pub fn same_in(
@@ -27,6 +29,10 @@ pub fn same_in(
     ensures value { IfOk result (λ l. HasValue formula.new l (λ a. same_value (decode arena.now a x) (decode arena.now a y))) }
     ensures grows { Grows formula.old formula.new }
 {
+    if alike(arena, x, y) {
+        let top = formula.top();
+        return Ok(top);
+    }
     match arena.kind(x) {
         CellKind::Bit(l) => {
             if let CellKind::Bit(m) = arena.kind(y) {

@@ -5,6 +5,14 @@
 //! (Konnov, Kukovec and Tran, "TLA+ Model Checking Made Symbolic", OOPSLA 2019.)
 #![tactic(auto)]
 
+mod choice;
 mod equality;
+mod likeness;
+mod merging;
+mod picking;
 
+pub use choice::{choose_cell, known};
 pub use equality::{member_in, same, same_in, subset_in};
+pub use likeness::alike;
+pub use merging::{Join, merge_edges};
+pub use picking::pick;

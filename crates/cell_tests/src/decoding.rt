@@ -157,8 +157,8 @@ fn kind_value(
     }
 }
 
-/// The text of the value of the newest cell.
-pub fn shown(alloc: Global, b: &Build, a: &[bool]) -> Result<Vec<u8>, AllocError> {
+/// The text of the value of a cell.
+pub fn shown_at(alloc: Global, b: &Build, a: &[bool], id: CellId) -> Result<Vec<u8>, AllocError> {
     let mut values = Vec::new(alloc);
     for index in 0..b.arena.len() {
         let kind = b.arena.kind(CellId { index });
@@ -166,8 +166,15 @@ pub fn shown(alloc: Global, b: &Build, a: &[bool]) -> Result<Vec<u8>, AllocError
         values.push(value)?;
     }
     let mut out = Vec::new(alloc);
-    if let Some(last) = values.as_slice().last() {
-        show(alloc, last, &mut out)?;
+    if let Some(value) = values.as_slice().get(id.index) {
+        show(alloc, value, &mut out)?;
     }
     Ok(out)
+}
+
+/// The text of the value of the newest cell.
+pub fn shown(alloc: Global, b: &Build, a: &[bool]) -> Result<Vec<u8>, AllocError> {
+    let count = b.arena.len();
+    let index = if count > 0 { count - 1 } else { 0 };
+    shown_at(alloc, b, a, CellId { index })
 }

@@ -14,7 +14,7 @@ use tla_values::List;
 use word_blaster::literal;
 
 // Whether the clause has a true literal, or one of a later variable.
-fn is_met(lits: &[Lit], a: &[bool]) -> bool {
+pub fn is_met(lits: &[Lit], a: &[bool]) -> bool {
     for l in lits {
         match a.get(l.var) {
             Some(b) => {
@@ -28,7 +28,7 @@ fn is_met(lits: &[Lit], a: &[bool]) -> bool {
     false
 }
 
-fn are_met(f: &Formula, a: &[bool]) -> bool {
+pub fn are_met(f: &Formula, a: &[bool]) -> bool {
     for c in f.clauses().clauses() {
         if !is_met(c.lits(), a) {
             return false;
@@ -38,7 +38,7 @@ fn are_met(f: &Formula, a: &[bool]) -> bool {
 }
 
 // The assignment with values of the further variables that the gates fix.
-fn extended(alloc: Global, f: &Formula, a: &[bool]) -> Result<Vec<bool>, AllocError> {
+pub fn extended(alloc: Global, f: &Formula, a: &[bool]) -> Result<Vec<bool>, AllocError> {
     let mut values = Vec::from_slice(alloc, a)?;
     for _i in a.len()..f.vars() {
         values.push(true)?;
@@ -51,7 +51,7 @@ fn extended(alloc: Global, f: &Formula, a: &[bool]) -> Result<Vec<bool>, AllocEr
 }
 
 #[tactic(auto, using(cell_arena::proofs::Growing::growing, cell_merge::proofs::SortLaws::sorts))]
-fn int(alloc: Global, b: &mut Build, n: i128) -> Result<CellId, AllocError>
+pub fn int(alloc: Global, b: &mut Build, n: i128) -> Result<CellId, AllocError>
     ensures sort { IfOk result (OfSort b.new.arena.kinds number) }
     ensures grows { Grows b.old b.new }
 {

@@ -4,8 +4,14 @@
 #[cfg(test)]
 mod arena;
 #[cfg(test)]
+mod cases;
+#[cfg(test)]
 mod constants;
 #[cfg(test)]
 mod decoding;
 #[cfg(test)]
 mod equality;
+#[cfg(test)]
+mod picks;
+#[cfg(test)]
+mod sets;

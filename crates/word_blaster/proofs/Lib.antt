@@ -6,3 +6,4 @@ pub mod Numerals
 pub mod Multiples
 pub mod Divisions
 pub mod FloorLaw
+pub mod Unsigned

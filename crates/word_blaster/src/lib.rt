@@ -13,13 +13,17 @@
 
 mod adders;
 mod bitwise;
+mod choices;
 mod comparisons;
 mod literals;
+mod naturals;
 mod products;
 mod quotients;
 
 pub use adders::{add, neg, sub};
+pub use choices::choose_word;
 pub use comparisons::{equal, less};
 pub use literals::literal;
+pub use naturals::{add_bit, natural};
 pub use products::mul;
 pub use quotients::{div_floor, div_rem_floor, rem_floor};

@@ -1,14 +1,19 @@
-use Rattle.std.proofs.Common.{sym, ◌∙◌, arith, not, ◌&&◌, ◌||◌}
+use Rattle.std.proofs.Common.{◌≡◌, true, sym, ◌∙◌, ap, arith, not, ◌&&◌, ◌||◌}
 use Rattle.std.proofs.lemmas.List.Folds.{list_any_more, list_all_more}
 use Rattle.sat_formula.specs.Lit.{lit_value}
 use Rattle.sat_formula.proofs.Extension.{Satisfies-older, Grows-trans}
 use Rattle.tla_values.specs.Order.{same_value}
+use Rattle.tla_values.specs.declared.value.Value.{Value}
+use Rattle.tla_values.proofs.Extensional.{same_itself}
 use Rattle.tla_values.specs.Sets.{member, elements}
 use Rattle.cell_arena.specs.Decode.{decode}
 use Rattle.cell_merge.proofs.Edges.{negated-value, member-all, subset-all, left-there, right-there, one-bit, one-word, one-text, one-set, one-other, sets-back, same-sets-typed, same-bits, same-words}
 use Rattle.cell_merge.proofs.Names.{IsOver-later, same-names, words-alike, texts-alike}
 use Rattle.cell_merge.proofs.equality.+same.Goals as goal
 use Rattle.cell_merge.proofs.equality.+same.Goals.{same_in-in-Bit+in_default-kind, same_in-in-Word+in_default-kind-2, same_in-in-Text+in_default-kind-3, same_in-in_default}
+
+same-alike : {v : Value} {w : Value} → v ≡ w → same_value v w ≡ true
+same-alike {v = v} e = ap (same_value v) (sym e) ∙ same_itself v
 
 pub member_in-loop-l-preserved : goal.member_in-loop-l-preserved
 member_in-loop-l-preserved t c =
@@ -52,6 +57,18 @@ pub subset_in-returns-after-loop-l-clause-value : goal.subset_in-returns-after-l
 subset_in-returns-after-loop-l-clause-value t c = record {
   below = c.loop-l.invariant.value.below;
   value = λ a s. c.loop-l.invariant.value.value a s ∙ subset-all c.args.arena.now a c.args.x c.args.y _ c.in-Set.edges _ c.loop-l.l-index (c.kind.ensures.decodes a) c.in-Set.is c.as_slice-l-items.ensures (omega arith);
+}
+
+pub same_in-alike-requires-clause-x_there : goal.same_in-alike-requires-clause-x_there
+same_in-alike-requires-clause-x_there t c = left-there _ _ _ c.requires.types
+
+pub same_in-alike-requires-clause-y_there : goal.same_in-alike-requires-clause-y_there
+same_in-alike-requires-clause-y_there t c = right-there _ _ _ c.requires.types
+
+pub same_in-returns-then-alike-clause-value : goal.same_in-returns-then-alike-clause-value
+same_in-returns-then-alike-clause-value t c = record {
+  below = c.top-top.ensures.below;
+  value = λ a s. c.top-top.ensures.forced a s ∙ sym (same-alike (c.alike.ensures c.if-alike.true a));
 }
 
 pub same_in-kind-requires : goal.same_in-kind-requires

@@ -1,0 +1,87 @@
+//! Cells that are made in one way.
+
+ghost use Rattle.cell_arena.specs.Decode.{decode};
+ghost use Rattle.std.specs.Prelude.{◌≡◌, ◌<◌, Bool, IsTrue, List, length};
+
+use cell_arena::{Arena, CellId, CellKind};
+use sat_formula::Lit;
+
+// Whether the literals are the same ones in one order.
+fn same_literals(v: &[Lit], w: &[Lit]) -> bool
+    ensures { IsTrue result → v.now ≡ w.now }
+{
+    if v.len() != w.len() {
+        return false;
+    }
+    for i in 0..v.len() {
+        if v[i] != w[i] {
+            return false;
+        }
+    }
+    true
+}
+
+/// Whether the two are one cell or are made in one way, as equal constants are: then they have one
+/// value under every assignment. It adds nothing to a formula. Functions, records, tuples and
+/// sequences are alike only where they are one cell.
+#[cycle(alike)]
+pub fn alike(arena: &Arena, x: CellId, y: CellId) -> bool
+    requires x_there { x.index < length arena.now.kinds }
+    requires y_there { y.index < length arena.now.kinds }
+    ensures { IsTrue result → (a : List Bool) → decode arena.now a x ≡ decode arena.now a y }
+{
+    if x == y {
+        return true;
+    }
+    match arena.kind(x) {
+        CellKind::Bit(l) => {
+            if let CellKind::Bit(m) = arena.kind(y) {
+                return *l == *m;
+            }
+        }
+        CellKind::Word(v) => {
+            if let CellKind::Word(w) = arena.kind(y) {
+                return same_literals(v.lits(), w.lits());
+            }
+        }
+        CellKind::Text(v) => {
+            if let CellKind::Text(w) = arena.kind(y) {
+                return same_literals(v.lits(), w.lits());
+            }
+        }
+        CellKind::Set(_) => return alike_sets(arena, x, y),
+        _ => {}
+    }
+    false
+}
+
+// Whether the two sets have the same literals to members that are alike, in one order.
+#[cycle(alike)]
+fn alike_sets(arena: &Arena, x: CellId, y: CellId) -> bool
+    requires x_there { x.index < length arena.now.kinds }
+    requires y_there { y.index < length arena.now.kinds }
+    ensures { IsTrue result → (a : List Bool) → decode arena.now a x ≡ decode arena.now a y }
+{
+    let CellKind::Set(left) = arena.kind(x) else {
+        return false;
+    };
+    let CellKind::Set(right) = arena.kind(y) else {
+        return false;
+    };
+    let es = left.as_slice();
+    let fs = right.as_slice();
+    if es.len() != fs.len() {
+        return false;
+    }
+    for i in 0..es.len() {
+        let (l, e) = es[i];
+        let (m, f) = fs[i];
+        if l != m {
+            return false;
+        }
+        if !alike(arena, e, f) {
+            return false;
+        }
+    }
+    true
+}
