@@ -1,0 +1,6 @@
+pub mod Basics
+pub mod Laws
+pub mod Origins
+pub mod Machine
+pub mod Complete
+pub mod Sound

@@ -1,0 +1,5 @@
+//! The tree of an expression: what its tokens spell. (Lamport, Specifying Systems, chapters 15 and 16.)
+#![tactic(auto)]
+
+mod moves;
+mod signs;
