@@ -6,7 +6,7 @@ use Rattle.std.proofs.lemmas.Bool.{lt-leb}
 -- @begin
 use Rattle.std.proofs.Common.{ℕ, Bool, true, false, not, max, List, Some, inl, inr, refl, sym, ap, arith, append_assoc, append-nil, ltb-false, ltb-true, le-ltb, lt-ltb, le-leb, ◌≡◌, ◌<◌, ◌≤◌, ◌⊎◌, ◌∷◌, ◌++◌, ◌&&◌, ◌||◌, ◌∙◌, []}
 use Rattle.tla_parser.proofs.Basics.{From-left, From-right, either, not_true, or_left, or_none, or_right}
-use Rattle.tla_parser.proofs.Laws.{delta-off, hungry_fresh, hungry_prefix, is_fail, lo_hi, op, op-goes_on, postfix_lo, postfix_prefix_lo, postfix_same, prefix_lo_hi, prefix_opens, same_is}
+use Rattle.tla_parser.proofs.Laws.{delta-off, hungry_fresh, hungry_prefix, lo_hi, op-goes_on, postfix_lo, postfix_prefix_lo, postfix_same, prefix_lo_hi, prefix_opens, same_is}
 use Rattle.tla_parser.proofs.Machine.{Frame, State, accepts, act, answer, at_bin, at_form, at_pre, behind, ended_module, enter, floor, fresh, have, heading, margin, module_of, parse_fn, parse_module, placed, pops, run, step, takes, want, whole}
 use Rattle.tla_parser.proofs.Origins.{last_parts, shut_parts}
 use Rattle.tla_parser.specs.Operators.{after, goes_infix, goes_postfix, hi, is_prefix, lo, prefix_lo, same}
@@ -17,6 +17,7 @@ use Rattle.tla_parser.specs.declared.moves.Next.{Next}
 use Rattle.tla_parser.specs.declared.moves.Next.TheVariants.{Fail, Last, Reads, Shut, Wants}
 use Rattle.tla_parser.specs.inner.Derivations.{Above, AboveParts, Ends, Fine, From, Good, GoodParts, IsModule, Leaves, Parts, Written, ahead, bin, class, closed, delta, exp, from, given, idle, inner, is_last, is_shut, of_module, point, pre, resumed, start, tailed, tok, tokens, tokens_of, top}
 use Rattle.tla_parser.specs.inner.Moves.{Point, begin, behind_op, filled, hungry, is_finished, off, reading}
+use Rattle.tla_parser.specs.inner.Recognition.{is_fail, op}
 -- @end
 
 -- the state behind w, whose right edge is still open
@@ -57,8 +58,8 @@ pop_bin t w a o s h = rw h refl
 pub pop_form : (t : Tok) (w : Written) (ps : Parts) (s : List Frame) → accepts ps w t (margin s) ≡ false → is_last (ahead ps) ≡ true → pops t (margin (at_form ps ∷ s)) false ≡ true → behind t w (at_form ps ∷ s) ≡ behind t (tailed ps w) s
 pop_form t w ps s a l p = rw (a, l, p) refl
 
-deeper : (n a b : ℕ) → n < b → n < max a b
-deeper n a b h = omega arith
+less_deeper : (n a b : ℕ) → n < b → n < max a b
+less_deeper n a b h = omega arith
 
 outer : (n a b : ℕ) → n < a → n < max a b
 outer n a b h = omega arith
@@ -67,8 +68,8 @@ outer n a b h = omega arith
 pub forced : (t : Tok) (w : Written) (s : List Frame) → Good w → (column t) < margin s → step t (holding w s) ≡ behind t w s
 forced t (closed ps) s g h = refl
 forced t (tailed ps w) s g h =
-    forced t w (at_form ps ∷ s) g.2 (deeper (column t) (inner (ahead ps)) (margin s) h)
-    ∙ pop_form t w ps s (accepts_left ps w t (margin s) h) g.0 (pops_left t (margin (at_form ps ∷ s)) false (deeper (column t) (inner (ahead ps)) (margin s) h))
+    forced t w (at_form ps ∷ s) g.2 (less_deeper (column t) (inner (ahead ps)) (margin s) h)
+    ∙ pop_form t w ps s (accepts_left ps w t (margin s) h) g.0 (pops_left t (margin (at_form ps ∷ s)) false (less_deeper (column t) (inner (ahead ps)) (margin s) h))
 forced t (pre p w) s g h = forced t w (at_pre p ∷ s) g.1 h ∙ pop_pre t w p s (pops_left t (margin s) (ltb (hi (sign t)) (prefix_lo (sign p))) h)
 forced t (bin a o b) s g h = forced t b (at_bin a o ∷ s) g.3 h ∙ pop_bin t b a o s (pops_left t (margin s) (ltb (hi (sign t)) (lo (sign o)) || same (sign o) (sign t)) h)
 
@@ -81,7 +82,7 @@ pops_passes t m b (inl h) = pops_left t m b h
 pops_passes t m b (inr h) = pops_form t m b h
 
 passes_deeper : (t : Tok) (a b : ℕ) → Passes t b → Passes t (max a b)
-passes_deeper t a b (inl h) = inl (deeper (column t) a b h)
+passes_deeper t a b (inl h) = inl (less_deeper (column t) a b h)
 passes_deeper t a b (inr h) = inr h
 
 pub left : (t : Tok) (w : Written) (s : List Frame) → Good w → Leaves w t → Passes t (margin s) → step t (holding w s) ≡ behind t w s

@@ -5,7 +5,7 @@ use Rattle.tla_lexer.specs.declared.token.Token.{Token as Tok}
 -- @begin
 use Rattle.std.proofs.Common.{ℕ, Bool, true, false, not, List, inl, inr, refl, sym, ap, subst, arith, eqb-true, ◌≡◌, ◌<◌, ◌≤◌, ◌⊎◌, ◌∷◌, ◌&&◌, ◌==◌, ◌∙◌, []}
 use Rattle.tla_parser.proofs.Basics.{and_both, either, not_true}
-use Rattle.tla_parser.specs.Operators.{After, after, goes_infix, goes_nothing, goes_postfix, hi, is_associative, is_bullet, is_prefix, lo, number_of, prefix_hi, prefix_lo, same, same_sign}
+use Rattle.tla_parser.specs.Operators.{after, goes_infix, goes_postfix, hi, is_associative, is_bullet, is_prefix, lo, number_of, prefix_hi, prefix_lo, same, same_sign}
 use Rattle.tla_parser.specs.Signs.{column, sign}
 use Rattle.tla_parser.specs.declared.moves.Class.{Class}
 use Rattle.tla_parser.specs.declared.moves.Class.TheVariants.{BareName, FoldName, Joined, Member, Other, PathName}
@@ -18,6 +18,7 @@ use Rattle.tla_parser.specs.declared.signs.Sign.{Sign}
 use Rattle.tla_parser.specs.declared.signs.Sign.TheVariants.{AngleSub, Arrow, Assigns, AssumeWord, At, AtLeast, AtMost, Bang, BooleanWord, BracketSub, Caret, CaseWord, ChooseWord, Circle, Colon, Comma, ConstantWord, Dash, Dashes, Defines, Diamond, Difference, Differs, DomainWord, Dot, Dots, DoubleArrow, Element, ElseWord, EnabledWord, EndSign, Equals, Equivalence, ExceptWord, ExistsSign, ExtendsWord, FairWord, FalseWord, FoldWord, ForallSign, Greater, IfWord, InWord, Included, InstanceWord, Intersection, LambdaWord, LeadsTo, LeftAngle, LeftBrace, LeftBracket, LeftParen, Less, LetWord, LocalWord, MapsTo, ModuleWord, NotElement, Number, OtherWord, Overrides, Pairs, Percent, Plus, ProofWord, Quotation, Quotient, RecursiveWord, Replaces, RightAngle, RightBrace, RightBracket, RightParen, Square, Star, Stray, StringWord, SubsetWord, ThenWord, TheoremWord, Tick, Tilde, Times, TrueWord, UnchangedWord, Underscore, UnionSign, UnionWord, VariableWord, Vee, Wedge, WithWord, Word}
 use Rattle.tla_parser.specs.inner.Derivations.{delta, look, mark_column}
 use Rattle.tla_parser.specs.inner.Moves.{Point, Row, begin, behind_op, bracket_rows, filled, fold_rows, found, goes_on, heads, hungry, in_units, insteads, item_rows, move, next_bullet, of_name, off, opens, postfixes, reading, rows, unit_rows}
+use Rattle.tla_parser.specs.inner.Recognition.{is_fail, op}
 -- @end
 
 all_signs : List Sign
@@ -70,12 +71,6 @@ pub same_is : (a b : Sign) → same a b ≡ true → a ≡ b
 unfolding same
 same_is a b h = same_sign-is a b (and_both (is_associative a) (same_sign a b) h).1
 
--- a token behind an operand is an operator
-abbrev pub op : After → Bool
-op goes_infix = true
-op goes_postfix = true
-op goes_nothing = false
-
 top_range : (k : Sign) → after k ≡ goes_postfix → hi k ≡ 16
 unfolding after hi
 top_range Tick h = refl
@@ -123,7 +118,7 @@ abbrev plain : List Row → Bool
 plain [] = true
 plain (row ∷ others) = not (op (after row.sign)) && plain others
 
-negated : (x : Bool) → not x ≡ true → x ≡ false
+pub negated : (x : Bool) → not x ≡ true → x ≡ false
 negated true q = cc
 negated false q = refl
 
@@ -155,13 +150,6 @@ op-goes_on (Bullets s n) c t h m = no_bullet s n t (omega arith)
 op-goes_on _ c t h m = plain_found (sign t) (rows _ c) (plain_rows _ c) h
 
 -- ---- no token both begins an operand and stands in the place of one
-
-abbrev pub is_fail : Next → Bool
-is_fail Fail = true
-is_fail (Reads m) = false
-is_fail (Wants m) = false
-is_fail (Last m) = false
-is_fail (Shut f) = false
 
 pub is_failed : (n : Next) → is_fail n ≡ true → n ≡ Fail
 is_failed Fail h = refl

@@ -4,3 +4,4 @@ pub mod Origins
 pub mod Machine
 pub mod Complete
 pub mod Sound
+pub mod Image

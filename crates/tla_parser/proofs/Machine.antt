@@ -4,13 +4,13 @@ use Rattle.std.proofs.Math.Dec.{ltb, leb}
 -- @imports
 -- @begin
 use Rattle.std.proofs.Common.{ℕ, suc, Bool, false, cond, not, max, List, Option, Some, None, ◌∷◌, ◌&&◌, ◌||◌, []}
-use Rattle.tla_parser.proofs.Laws.{is_fail, op}
 use Rattle.tla_parser.specs.Operators.{After, after, goes_infix, goes_nothing, goes_postfix, hi, is_prefix, lo, prefix_hi, prefix_lo, same}
 use Rattle.tla_parser.specs.Signs.{column, sign}
 use Rattle.tla_parser.specs.declared.moves.Next.{Next}
 use Rattle.tla_parser.specs.declared.moves.Next.TheVariants.{Fail, Last, Reads, Shut, Wants}
 use Rattle.tla_parser.specs.inner.Derivations.{Parts, Written, ahead, bin, class, closed, delta, exp, from, given, idle, inner, is_last, pre, start, tailed, tok, top}
 use Rattle.tla_parser.specs.inner.Moves.{is_finished}
+use Rattle.tla_parser.specs.inner.Recognition.{is_fail, op}
 -- @end
 
 pub data Frame : Type 0 where

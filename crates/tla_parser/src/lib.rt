@@ -2,4 +2,6 @@
 #![tactic(auto)]
 
 mod moves;
+mod open;
+mod ranges;
 mod signs;

@@ -2,17 +2,22 @@
 use Rattle.tla_lexer.specs.declared.token.Token.{Token as Tok}
 -- @imports
 -- @begin
-use Rattle.std.specs.Prelude.{ℕ, suc, Bool, true, false, List, ◌≡◌, ◌+◌, ◌<◌, ◌≤◌, ◌⊎◌, ◌∷◌, ◌++◌, []}
-use Rattle.tla_parser.specs.Operators.{after, goes_infix, goes_postfix, hi, is_prefix, lo, prefix_hi, prefix_lo, same}
+use Rattle.std.specs.Prelude.{ℕ, suc, Bool, true, false, cond, max, List, ◌≡◌, ◌+◌, ◌<◌, ◌≤◌, ◌⊎◌, ◌∷◌, ◌++◌, []}
+use Rattle.tla_parser.specs.Operators.{after, goes_infix, goes_postfix, hi, is_prefix, lo, prefix_hi, prefix_lo, same, same_sign}
 use Rattle.tla_parser.specs.Signs.{column, sign}
 use Rattle.tla_parser.specs.declared.moves.Class.{Class}
-use Rattle.tla_parser.specs.declared.moves.Class.TheVariants.{Other}
+use Rattle.tla_parser.specs.declared.moves.Class.TheVariants.{BareName, FoldName, Joined, Member, Other, PathName}
+use Rattle.tla_parser.specs.declared.moves.Construct.{Construct}
+use Rattle.tla_parser.specs.declared.moves.Construct.TheVariants.{Instanced, Junction, Parenthesis}
 use Rattle.tla_parser.specs.declared.moves.Mark.{Mark}
 use Rattle.tla_parser.specs.declared.moves.Mark.TheVariants.{AtTop, Bullets, Finished}
 use Rattle.tla_parser.specs.declared.moves.Next.{Next}
 use Rattle.tla_parser.specs.declared.moves.Next.TheVariants.{Fail, Last, Reads, Shut, Wants}
 use Rattle.tla_parser.specs.declared.moves.Seen.{Seen}
-use Rattle.tla_parser.specs.inner.Moves.{Point, begin, behind_op, class_infix, class_of, filled, hungry, move, off, reading}
+use Rattle.tla_parser.specs.declared.open.Code.{Code}
+use Rattle.tla_parser.specs.declared.open.Code.TheVariants.{Close, Infix, Part, Prefix}
+use Rattle.tla_parser.specs.declared.signs.Sign.{Sign}
+use Rattle.tla_parser.specs.inner.Moves.{Point, begin, behind_op, class_infix, class_of, ends_as, filled, hungry, move, off, reading}
 -- @end
 
 mutual
@@ -193,3 +198,62 @@ pub record IsModule (ps : Parts) : Type 0 where
   pub good : GoodParts ps
   pub begins : of_module ps ≡ true
   pub ends : ahead ps ≡ Reads Finished
+
+-- ---- what is read, each construct behind its parts
+
+-- the form that the parts make, at its end or with an operand as its last
+abbrev pub form_of : Next → Construct
+form_of (Shut f) = f
+form_of (Last m) = ends_as m
+form_of (Reads m) = Junction
+form_of (Wants m) = Junction
+form_of Fail = Junction
+
+-- a chain of this operator goes on with it
+abbrev pub continues : Class → Sign → Bool
+continues (Joined s) t = same_sign s t
+continues Other t = false
+continues BareName t = false
+continues FoldName t = false
+continues PathName t = false
+continues Member t = false
+
+abbrev pub parts : Parts → ℕ
+parts start = 0
+parts top = 0
+parts (from w) = 1
+parts (tok ps t) = parts ps + 1
+parts (exp ps w) = parts ps + 1
+
+abbrev mutual
+  pub post : Written → List Code
+  post (closed ps) = posts ps ++ (Close (form_of (ahead ps)) (parts ps) ∷ [])
+  post (tailed ps w) = (posts ps ++ post w) ++ (Close (form_of (ahead ps)) (parts ps + 1) ∷ [])
+  post (pre p w) = post w ++ (Prefix p ∷ [])
+  post (bin a t b) = (post a ++ post b) ++ (Infix t (continues (class a) (sign t)) ∷ [])
+  pub posts : Parts → List Code
+  posts start = []
+  posts top = []
+  posts (from w) = post w
+  posts (tok ps t) = posts ps ++ (Part t ∷ [])
+  posts (exp ps w) = posts ps ++ post w
+
+-- ---- levels: a leaf is one level, and parentheses make none
+
+unfoldable pub form_levels : Construct → ℕ → ℕ
+form_levels Parenthesis n = n
+form_levels Instanced n = n
+form_levels _ n = n + 1
+
+abbrev mutual
+  pub levels : Written → ℕ
+  levels (closed ps) = form_levels (form_of (ahead ps)) (deepest ps)
+  levels (tailed ps w) = max (deepest ps) (levels w) + 1
+  levels (pre p w) = levels w + 1
+  levels (bin a t b) = cond (continues (class a) (sign t)) (max (levels a) (levels b + 1)) (max (levels a) (levels b) + 1)
+  pub deepest : Parts → ℕ
+  deepest start = 0
+  deepest top = 0
+  deepest (from w) = levels w
+  deepest (tok ps t) = deepest ps
+  deepest (exp ps w) = max (deepest ps) (levels w)
