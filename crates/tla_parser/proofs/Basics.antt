@@ -4,6 +4,7 @@ use Rattle.tla_lexer.specs.declared.token.Token.{Token as Tok}
 -- @begin
 use Rattle.std.proofs.Common.{ℕ, Bool, true, false, List, inl, inr, refl, arith, ◌≡◌, ◌≤◌, ◌⊎◌, ◌∷◌, ◌++◌, ◌&&◌, ◌||◌, []}
 use Rattle.tla_parser.specs.inner.Derivations.{From}
+
 -- @end
 
 pub From-left : (n : ℕ) (xs ys : List Tok) → From n (xs ++ ys) → From n xs
@@ -49,4 +50,3 @@ and_both false b h = cc
 pub not_true : (b : Bool) → (b ≡ true → ⊥) → b ≡ false
 not_true true h = absurd (h refl)
 not_true false h = refl
-

@@ -9,15 +9,17 @@ use Rattle.tla_parser.proofs.Basics.{From-left, From-right, either, not_true, or
 use Rattle.tla_parser.proofs.Laws.{delta-off, hungry_fresh, hungry_prefix, lo_hi, op-goes_on, postfix_lo, postfix_prefix_lo, postfix_same, prefix_lo_hi, prefix_opens, same_is}
 use Rattle.tla_parser.proofs.Machine.{Frame, State, accepts, act, answer, at_bin, at_form, at_pre, behind, ended_module, enter, floor, fresh, have, heading, margin, module_of, parse_fn, parse_module, placed, pops, run, step, takes, want, whole}
 use Rattle.tla_parser.proofs.Origins.{last_parts, shut_parts}
-use Rattle.tla_parser.specs.Operators.{after, goes_infix, goes_postfix, hi, is_prefix, lo, prefix_lo, same}
+use Rattle.tla_parser.specs.Operators.{after, hi, is_prefix, lo, prefix_lo, same}
 use Rattle.tla_parser.specs.Signs.{column, sign}
 use Rattle.tla_parser.specs.declared.moves.Class.{Class}
 use Rattle.tla_parser.specs.declared.moves.Mark.TheVariants.{Finished}
 use Rattle.tla_parser.specs.declared.moves.Next.{Next}
 use Rattle.tla_parser.specs.declared.moves.Next.TheVariants.{Fail, Last, Reads, Shut, Wants}
+use Rattle.tla_parser.specs.declared.signs.Role.TheVariants.{InfixRole, PostfixRole}
 use Rattle.tla_parser.specs.inner.Derivations.{Above, AboveParts, Ends, Fine, From, Good, GoodParts, IsModule, Leaves, Parts, Written, ahead, bin, class, closed, delta, exp, from, given, idle, inner, is_last, is_shut, of_module, point, pre, resumed, start, tailed, tok, tokens, tokens_of, top}
 use Rattle.tla_parser.specs.inner.Moves.{Point, begin, behind_op, filled, hungry, is_finished, off, reading}
 use Rattle.tla_parser.specs.inner.Recognition.{is_fail, op}
+
 -- @end
 
 -- the state behind w, whose right edge is still open
@@ -88,8 +90,10 @@ passes_deeper t a b (inr h) = inr h
 pub left : (t : Tok) (w : Written) (s : List Frame) → Good w → Leaves w t → Passes t (margin s) → step t (holding w s) ≡ behind t w s
 left t (closed ps) s g l h = refl
 left t (tailed ps w) s g l h =
-    elim l.1 [ inl c ↦ forced t w (at_form ps ∷ s) g.2 (outer (column t) (inner (ahead ps)) (margin s) c)
-             | inr k ↦ left t w (at_form ps ∷ s) g.2 k (passes_deeper t (inner (ahead ps)) (margin s) h) ]
+    elim l.1 [
+      | inl c ↦ forced t w (at_form ps ∷ s) g.2 (outer (column t) (inner (ahead ps)) (margin s) c)
+      | inr k ↦ left t w (at_form ps ∷ s) g.2 k (passes_deeper t (inner (ahead ps)) (margin s) h)
+    ]
     ∙ pop_form t w ps s (accepts_fail ps w t (margin s) l.0) g.0 (pops_passes t (margin (at_form ps ∷ s)) false (passes_deeper t (inner (ahead ps)) (margin s) h))
 left t (pre p w) s g l h = left t w (at_pre p ∷ s) g.1 l h ∙ pop_pre t w p s (pops_passes t (margin s) (ltb (hi (sign t)) (prefix_lo (sign p))) h)
 left t (bin a o b) s g l h = left t b (at_bin a o ∷ s) g.3 l h ∙ pop_bin t b a o s (pops_passes t (margin s) (ltb (hi (sign t)) (lo (sign o)) || same (sign o) (sign t)) h)
@@ -112,7 +116,7 @@ inside t w s m = rw (le-ltb (column t) (margin s) m) refl
 
 -- no operator that is on top ends by t
 abbrev pub Below : List Frame → Tok → Type 0
-Below s t = (floor s ≤ lo (sign t)) ⊎ (after (sign t) ≡ goes_postfix)
+Below s t = (floor s ≤ lo (sign t)) ⊎ (after (sign t) ≡ PostfixRole)
 
 given-op : (n : Next) (c : Class) (t : Tok) → op (after (sign t)) ≡ true → inner n ≤ column t → delta (given n c) t ≡ Fail
 given-op (Wants m) c t o h = op-goes_on m c t o h
@@ -133,6 +137,7 @@ reaches t w (at_bin a u ∷ s) m o b = rw (pops_not t (margin s) (ltb (hi (sign 
     less : Below (at_bin a u ∷ s) t → lo (sign u) ≤ hi (sign t)
     less (inl h) = omega (arith, lo_hi (sign t), lo_hi (sign u))
     less (inr h) = postfix_lo (sign u) (sign t) h
+
     differs : Below (at_bin a u ∷ s) t → same (sign u) (sign t) ≡ false
     differs (inl h) = not_true (same (sign u) (sign t)) (λ e. let k : hi (sign u) ≡ hi (sign t) = ap hi (same_is (sign u) (sign t) e) in omega (arith, lo_hi (sign t)))
     differs (inr h) = postfix_same (sign u) (sign t) h
@@ -146,6 +151,7 @@ mutual
   Above-zero (tailed ps w) = AboveParts-zero ps
   Above-zero (pre p w) = tt
   Above-zero (bin a o b) = (omega arith, Above-zero a)
+
   pub AboveParts-zero : (ps : Parts) → AboveParts 0 ps
   AboveParts-zero start = tt
   AboveParts-zero top = tt
@@ -327,8 +333,10 @@ token (from w) t s g f h m =
 token (tok ps u) t s g f h m =
     resumed_step (ahead (tok ps u)) (tok ps u) t s refl refl h m
 token (exp ps w) t s g f h m =
-    elim f [ inl c ↦ forced t w (at_form ps ∷ s) g.1 (outer (column t) (inner (ahead ps)) (margin s) c)
-           | inr l ↦ left t w (at_form ps ∷ s) g.1 l (passes ps w t s h (either (op (after (sign t)))) (side (column t) (inner (ahead ps)))) ]
+    elim f [
+      | inl c ↦ forced t w (at_form ps ∷ s) g.1 (outer (column t) (inner (ahead ps)) (margin s) c)
+      | inr l ↦ left t w (at_form ps ∷ s) g.1 l (passes ps w t s h (either (op (after (sign t)))) (side (column t) (inner (ahead ps))))
+    ]
     ∙ accepts_true ps w t s h m
 
 pub From-max : (m n : ℕ) (ts : List Tok) → From m ts → From n ts → From (max m n) ts
@@ -338,7 +346,7 @@ From-max m n (t ∷ ts) h g = (omega (arith, h.0, g.0), From-max m n ts h.1 g.1)
 then_run : (rest : List Tok) (x y : State) → x ≡ y → run x rest ≡ run y rest
 then_run rest x y e = ap (λ (st : State). run st rest) e
 
-infixes : (t : Tok) (a : Written) (s : List Frame) → Good a → Ends a t → margin s ≤ (column t) → after (sign t) ≡ goes_infix → floor s ≤ lo (sign t) → step t (holding a s) ≡ want (at_bin a t ∷ s)
+infixes : (t : Tok) (a : Written) (s : List Frame) → Good a → Ends a t → margin s ≤ (column t) → after (sign t) ≡ InfixRole → floor s ≤ lo (sign t) → step t (holding a s) ≡ want (at_bin a t ∷ s)
 infixes t a s g e m c h = ended t a s g e ∙ reaches t a s m (rw c refl) (inl h) ∙ rw (c, le-leb (floor s) (lo (sign t)) h) refl
 
 prefixes : (p : Tok) (s : List Frame) → is_prefix (sign p) ≡ true → margin s ≤ (column p) → step p (want s) ≡ want (at_pre p ∷ s)
@@ -384,6 +392,7 @@ mutual
       ∙ complete x s (t ∷ (tokens y ++ rest)) g.0 a.1 fx
       ∙ then_run (tokens y ++ rest) (step t (holding x s)) (want (at_bin x t ∷ s)) (infixes t x s g.0 g.2 fy.0 g.1 a.0)
       ∙ complete y (at_bin x t ∷ s) rest g.3 g.4 fy.1
+
   pub complete_parts : (ps : Parts) (s : List Frame) (rest : List Tok) → GoodParts ps → Alive ps → AboveParts (floor s) ps → From (margin s) (tokens_of ps) → run (origin ps s) (tokens_of ps ++ rest) ≡ run (standing ps s) rest
   complete_parts start s rest g l a f = refl
   complete_parts top s rest g l a f = refl
@@ -428,12 +437,14 @@ module_again ps i = whole_module ps i.good i.begins i.ends (ended_finished (ahea
     alive (from w) h e = absurd (cc)
     alive (exp qs w) h e = absurd (cc)
     alive (tok qs t) h e = (h, rw e refl)
+
     begun : (qs : Parts) → of_module qs ≡ true → AboveParts 0 qs → origin qs [] ≡ heading top []
     begun start h a = cc
     begun top h a = refl
     begun (from w) h a = cc
     begun (tok qs t) h a = begun qs h a
     begun (exp qs w) h a = begun qs h a
+
     whole_module : (qs : Parts) → GoodParts qs → of_module qs ≡ true → ahead qs ≡ Reads Finished → (is_fail (ahead qs) ≡ false) × (ended_module (ahead qs) ≡ true) → parse_module (tokens_of qs) ≡ Some qs
     whole_module qs g b e k =
         let l : Alive qs × (standing qs [] ≡ heading qs []) = alive qs k.0 e in

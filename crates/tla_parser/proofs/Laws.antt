@@ -5,7 +5,7 @@ use Rattle.tla_lexer.specs.declared.token.Token.{Token as Tok}
 -- @begin
 use Rattle.std.proofs.Common.{ℕ, Bool, true, false, not, List, inl, inr, refl, sym, ap, subst, arith, eqb-true, ◌≡◌, ◌<◌, ◌≤◌, ◌⊎◌, ◌∷◌, ◌&&◌, ◌==◌, ◌∙◌, []}
 use Rattle.tla_parser.proofs.Basics.{and_both, either, not_true}
-use Rattle.tla_parser.specs.Operators.{after, goes_infix, goes_postfix, hi, is_associative, is_bullet, is_prefix, lo, number_of, prefix_hi, prefix_lo, same, same_sign}
+use Rattle.tla_parser.specs.Operators.{after, hi, is_associative, is_bullet, is_prefix, lo, number_of, prefix_hi, prefix_lo, same, same_sign}
 use Rattle.tla_parser.specs.Signs.{column, sign}
 use Rattle.tla_parser.specs.declared.moves.Class.{Class}
 use Rattle.tla_parser.specs.declared.moves.Class.TheVariants.{BareName, FoldName, Joined, Member, Other, PathName}
@@ -14,11 +14,13 @@ use Rattle.tla_parser.specs.declared.moves.Mark.TheVariants.{Bullets, InAssumpti
 use Rattle.tla_parser.specs.declared.moves.Next.{Next}
 use Rattle.tla_parser.specs.declared.moves.Next.TheVariants.{Fail, Last, Reads, Shut, Wants}
 use Rattle.tla_parser.specs.declared.moves.Seen.{Seen}
+use Rattle.tla_parser.specs.declared.signs.Role.TheVariants.{InfixRole, PostfixRole}
 use Rattle.tla_parser.specs.declared.signs.Sign.{Sign}
 use Rattle.tla_parser.specs.declared.signs.Sign.TheVariants.{AngleSub, Arrow, Assigns, AssumeWord, At, AtLeast, AtMost, Bang, BooleanWord, BracketSub, Caret, CaseWord, ChooseWord, Circle, Colon, Comma, ConstantWord, Dash, Dashes, Defines, Diamond, Difference, Differs, DomainWord, Dot, Dots, DoubleArrow, Element, ElseWord, EnabledWord, EndSign, Equals, Equivalence, ExceptWord, ExistsSign, ExtendsWord, FairWord, FalseWord, FoldWord, ForallSign, Greater, IfWord, InWord, Included, InstanceWord, Intersection, LambdaWord, LeadsTo, LeftAngle, LeftBrace, LeftBracket, LeftParen, Less, LetWord, LocalWord, MapsTo, ModuleWord, NotElement, Number, OtherWord, Overrides, Pairs, Percent, Plus, ProofWord, Quotation, Quotient, RecursiveWord, Replaces, RightAngle, RightBrace, RightBracket, RightParen, Square, Star, Stray, StringWord, SubsetWord, ThenWord, TheoremWord, Tick, Tilde, Times, TrueWord, UnchangedWord, Underscore, UnionSign, UnionWord, VariableWord, Vee, Wedge, WithWord, Word}
 use Rattle.tla_parser.specs.inner.Derivations.{delta, look, mark_column}
 use Rattle.tla_parser.specs.inner.Moves.{Point, Row, begin, behind_op, bracket_rows, filled, fold_rows, found, goes_on, heads, hungry, in_units, insteads, item_rows, move, next_bullet, of_name, off, opens, postfixes, reading, rows, unit_rows}
 use Rattle.tla_parser.specs.inner.Recognition.{is_fail, op}
+
 -- @end
 
 all_signs : List Sign
@@ -71,7 +73,7 @@ pub same_is : (a b : Sign) → same a b ≡ true → a ≡ b
 unfolding same
 same_is a b h = same_sign-is a b (and_both (is_associative a) (same_sign a b) h).1
 
-top_range : (k : Sign) → after k ≡ goes_postfix → hi k ≡ 16
+top_range : (k : Sign) → after k ≡ PostfixRole → hi k ≡ 16
 unfolding after hi
 top_range Tick h = refl
 top_range Dot h = refl
@@ -80,13 +82,13 @@ top_range LeftBracket h = refl
 top_range LeftParen h = refl
 top_range _ h = cc
 
-pub postfix_lo : (j k : Sign) → after k ≡ goes_postfix → lo j ≤ hi k
+pub postfix_lo : (j k : Sign) → after k ≡ PostfixRole → lo j ≤ hi k
 postfix_lo j k h = omega (arith, lo_most j, top_range k h)
 
-pub postfix_prefix_lo : (j k : Sign) → after k ≡ goes_postfix → prefix_lo j ≤ hi k
+pub postfix_prefix_lo : (j k : Sign) → after k ≡ PostfixRole → prefix_lo j ≤ hi k
 postfix_prefix_lo j k h = omega (arith, prefix_lo_most j, top_range k h)
 
-associative_infix : (a : Sign) → is_associative a ≡ true → after a ≡ goes_infix
+associative_infix : (a : Sign) → is_associative a ≡ true → after a ≡ InfixRole
 unfolding is_associative after
 associative_infix Wedge h = refl
 associative_infix Vee h = refl
@@ -100,12 +102,12 @@ associative_infix Star h = refl
 associative_infix Circle h = refl
 associative_infix _ h = cc
 
-pub postfix_same : (j k : Sign) → after k ≡ goes_postfix → same j k ≡ false
+pub postfix_same : (j k : Sign) → after k ≡ PostfixRole → same j k ≡ false
 unfolding same
 postfix_same j k h = not_true (same j k) (λ e.
     let r : j ≡ k = same_is j k e in
-    let i : after j ≡ goes_infix = associative_infix j (and_both (is_associative j) (same_sign j k) e).0 in
-    let q : after k ≡ goes_infix = ap after (sym r) ∙ i in
+    let i : after j ≡ InfixRole = associative_infix j (and_both (is_associative j) (same_sign j k) e).0 in
+    let q : after k ≡ InfixRole = ap after (sym r) ∙ i in
     cc)
 
 pub delta-off : (t : Tok) → delta off t ≡ Fail
@@ -131,7 +133,7 @@ plain_found s [] h o = refl
 plain_found s (r ∷ rs) h o =
     let b : (not (op (after r.sign)) ≡ true) × (plain rs ≡ true) = and_both (not (op (after r.sign))) (plain rs) h in
     rw (not_true (same_sign s r.sign) (λ e.
-      clash (op (after r.sign)) (ap (λ (x : Sign). op (after x)) (sym (same_sign-is s r.sign e)) ∙ o) (negated (op (after r.sign)) b.0))) (plain_found s rs b.1 o)
+    clash (op (after r.sign)) (ap (λ (x : Sign). op (after x)) (sym (same_sign-is s r.sign e)) ∙ o) (negated (op (after r.sign)) b.0))) (plain_found s rs b.1 o)
 
 plain_rows : (m : Mark) (c : Class) → plain (rows m c) ≡ true
 unfolding rows item_rows bracket_rows fold_rows unit_rows after
@@ -172,8 +174,9 @@ closing_found t s [] h = inr refl
 closing_found t s (r ∷ rs) h =
     let b : (is_fail (opens t r.sign) ≡ true) × (closing t rs ≡ true) = and_both (is_fail (opens t r.sign)) (closing t rs) h in
     elim (either (same_sign s r.sign)) [
-      inl e ↦ inl (ap (opens t) (same_sign-is s r.sign e) ∙ is_failed (opens t r.sign) b.0)
-    | inr e ↦ rw e (closing_found t s rs b.1) ]
+      | inl e ↦ inl (ap (opens t) (same_sign-is s r.sign e) ∙ is_failed (opens t r.sign) b.0)
+      | inr e ↦ rw e (closing_found t s rs b.1)
+    ]
 
 pub hungry_fresh : (m : Mark) (t : Tok) → (delta begin t ≡ Fail) ⊎ (delta (hungry m) t ≡ Fail)
 unfolding delta move
@@ -193,7 +196,7 @@ unprefixed_found s [] h o = refl
 unprefixed_found s (r ∷ rs) h o =
     let b : (not (is_prefix r.sign) ≡ true) × (unprefixed rs ≡ true) = and_both (not (is_prefix r.sign)) (unprefixed rs) h in
     rw (not_true (same_sign s r.sign) (λ e.
-      clash (is_prefix r.sign) (ap is_prefix (sym (same_sign-is s r.sign e)) ∙ o) (negated (is_prefix r.sign) b.0))) (unprefixed_found s rs b.1 o)
+    clash (is_prefix r.sign) (ap is_prefix (sym (same_sign-is s r.sign e)) ∙ o) (negated (is_prefix r.sign) b.0))) (unprefixed_found s rs b.1 o)
 
 pub hungry_prefix : (m : Mark) (t : Tok) → is_prefix (sign t) ≡ true → delta (hungry m) t ≡ Fail
 unfolding delta move

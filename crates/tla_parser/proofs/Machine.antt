@@ -4,13 +4,16 @@ use Rattle.std.proofs.Math.Dec.{ltb, leb}
 -- @imports
 -- @begin
 use Rattle.std.proofs.Common.{ℕ, suc, Bool, false, cond, not, max, List, Option, Some, None, ◌∷◌, ◌&&◌, ◌||◌, []}
-use Rattle.tla_parser.specs.Operators.{After, after, goes_infix, goes_nothing, goes_postfix, hi, is_prefix, lo, prefix_hi, prefix_lo, same}
+use Rattle.tla_parser.specs.Operators.{after, hi, is_prefix, lo, prefix_hi, prefix_lo, same}
 use Rattle.tla_parser.specs.Signs.{column, sign}
 use Rattle.tla_parser.specs.declared.moves.Next.{Next}
 use Rattle.tla_parser.specs.declared.moves.Next.TheVariants.{Fail, Last, Reads, Shut, Wants}
+use Rattle.tla_parser.specs.declared.signs.Role.{Role}
+use Rattle.tla_parser.specs.declared.signs.Role.TheVariants.{InfixRole, NoRole, PostfixRole}
 use Rattle.tla_parser.specs.inner.Derivations.{Parts, Written, ahead, bin, class, closed, delta, exp, from, given, idle, inner, is_last, pre, start, tailed, tok, top}
 use Rattle.tla_parser.specs.inner.Moves.{is_finished}
 use Rattle.tla_parser.specs.inner.Recognition.{is_fail, op}
+
 -- @end
 
 pub data Frame : Type 0 where
@@ -44,10 +47,10 @@ enter (Last m) ps s = want (at_form ps ∷ s)
 enter (Shut f) ps s = have (closed ps) s
 enter Fail ps s = stuck
 
-abbrev pub act : Tok → After → Written → List Frame → State
-act t goes_infix w s = cond (leb (floor s) (lo (sign t))) (want (at_bin w t ∷ s)) stuck
-act t goes_postfix w s = enter (ahead (tok (from w) t)) (tok (from w) t) s
-act t goes_nothing w s = stuck
+abbrev pub act : Tok → Role → Written → List Frame → State
+act t InfixRole w s = cond (leb (floor s) (lo (sign t))) (want (at_bin w t ∷ s)) stuck
+act t PostfixRole w s = enter (ahead (tok (from w) t)) (tok (from w) t) s
+act t NoRole w s = stuck
 
 abbrev pub placed : Tok → Written → List Frame → State
 placed t w s = cond (ltb (column t) (margin s)) stuck (act t (after (sign t)) w s)

@@ -10,6 +10,7 @@ use Rattle.tla_parser.specs.declared.moves.Next.{Next}
 use Rattle.tla_parser.specs.declared.moves.Next.TheVariants.{Fail, Last, Reads, Shut, Wants}
 use Rattle.tla_parser.specs.inner.Derivations.{Parts, ahead, class, delta, exp, from, given, is_last, is_shut, of_module, point, resumed, start, tok, top}
 use Rattle.tla_parser.specs.inner.Moves.{in_units}
+
 -- @end
 
 resumed_stays : (b : Bool) (n : Next) → stays_in b n ≡ true → stays_at b (resumed n) ≡ true
@@ -42,12 +43,14 @@ fails false = refl
 
 mutual
   unfolding in_units
+
   pub point_stays : (ps : Parts) → stays_at (of_module ps) (point ps) ≡ true
   point_stays start = refl
   point_stays top = refl
   point_stays (from w) = refl
   point_stays (tok ps t) = resumed_stays (of_module ps) (delta (point ps) t) (moves_stay (of_module ps) (point ps) t (point_stays ps))
   point_stays (exp ps w) = given_stays (of_module ps) (ahead ps) (class w) (ahead_stays ps)
+
   pub ahead_stays : (ps : Parts) → stays_in (of_module ps) (ahead ps) ≡ true
   ahead_stays start = refl
   ahead_stays top = refl

@@ -9,15 +9,18 @@ use Rattle.tla_parser.proofs.Complete.{again, module_again, side}
 use Rattle.tla_parser.proofs.Laws.{delta-off, is_failed, negated}
 use Rattle.tla_parser.proofs.Machine.{Frame, State, accepts, act, answer, at_bin, at_form, at_pre, behind, ended_module, enter, floor, fresh, have, heading, margin, module_of, parse_fn, parse_module, placed, pops, run, step, stuck, takes, want, wanted, whole}
 use Rattle.tla_parser.proofs.Origins.{finished_parts}
-use Rattle.tla_parser.specs.Operators.{After, after, goes_infix, goes_nothing, goes_postfix, hi, is_prefix, lo, prefix_lo, same}
+use Rattle.tla_parser.specs.Operators.{after, hi, is_prefix, lo, prefix_lo, same}
 use Rattle.tla_parser.specs.Signs.{column, sign}
 use Rattle.tla_parser.specs.declared.moves.Mark.{Mark}
 use Rattle.tla_parser.specs.declared.moves.Mark.TheVariants.{Finished}
 use Rattle.tla_parser.specs.declared.moves.Next.{Next}
 use Rattle.tla_parser.specs.declared.moves.Next.TheVariants.{Fail, Last, Reads, Shut, Wants}
+use Rattle.tla_parser.specs.declared.signs.Role.{Role}
+use Rattle.tla_parser.specs.declared.signs.Role.TheVariants.{InfixRole, NoRole, PostfixRole}
 use Rattle.tla_parser.specs.inner.Derivations.{Above, AboveParts, Ends, Fine, From, Good, GoodParts, IsModule, Leaves, Parts, Written, ahead, bin, class, delta, exp, from, given, idle, inner, is_last, pre, start, tailed, tok, tokens, tokens_of, top}
 use Rattle.tla_parser.specs.inner.Moves.{is_finished, off}
 use Rattle.tla_parser.specs.inner.Recognition.{is_fail, op}
+
 -- @end
 
 abbrev pub ftokens : Frame → List Tok
@@ -38,7 +41,7 @@ waits Fail = false
 
 abbrev pub OkFrame : Frame → ℕ → Type 0
 OkFrame (at_pre p) n = is_prefix (sign p) ≡ true
-OkFrame (at_bin a t) n = Good a × (after (sign t) ≡ goes_infix) × Ends a t × Above n a × (n ≤ lo (sign t))
+OkFrame (at_bin a t) n = Good a × (after (sign t) ≡ InfixRole) × Ends a t × Above n a × (n ≤ lo (sign t))
 OkFrame (at_form ps) n = GoodParts ps × AboveParts n ps
 
 abbrev pub OkStack : List Frame → Type 0
@@ -82,8 +85,9 @@ ends_plainly w m t c o (inr (l, inr e)) = e
 
 pops_cases : (t : Tok) (m : ℕ) (b : Bool) → pops t m b ≡ true → ((column t) < m) ⊎ ((op (after (sign t)) ≡ false) ⊎ (b ≡ true))
 pops_cases t m b h = elim (or_cases (ltb (column t) m) (not (op (after (sign t))) || b) h) [
-    inl e ↦ inl (ltb-true (column t) m e)
-  | inr e ↦ inr (elim (or_cases (not (op (after (sign t)))) b e) [ inl o ↦ inl (negated (op (after (sign t))) o) | inr x ↦ inr x ]) ]
+  | inl e ↦ inl (ltb-true (column t) m e)
+  | inr e ↦ inr (elim (or_cases (not (op (after (sign t)))) b e) [ inl o ↦ inl (negated (op (after (sign t))) o) | inr x ↦ inr x ])
+]
   where
     negated : (x : Bool) → not x ≡ true → x ≡ false
     negated true q = cc
@@ -129,20 +133,22 @@ one_more n xs t h m = From-append n xs (t ∷ []) h (m, tt)
 flat_more : (s : List Frame) (xs : List Tok) (t : Tok) (ts : List Tok) → flat s ++ xs ≡ ts → flat s ++ (xs ++ (t ∷ [])) ≡ ts ++ (t ∷ [])
 flat_more s xs t ts e = sym (append_assoc (flat s) xs (t ∷ [])) ∙ ap (λ (ys : List Tok). ys ++ (t ∷ [])) e
 
-act-ok : (t : Tok) (a : After) (w : Written) (s : List Frame) (ts : List Tok) → after (sign t) ≡ a → margin s ≤ (column t) → OkStack s → Fits w s → (op a ≡ true → Ends w t) → flat s ++ tokens w ≡ ts → Inv (act t a w s) (ts ++ (t ∷ []))
-act-ok t goes_infix w s ts r m k g d e =
+act-ok : (t : Tok) (a : Role) (w : Written) (s : List Frame) (ts : List Tok) → after (sign t) ≡ a → margin s ≤ (column t) → OkStack s → Fits w s → (op a ≡ true → Ends w t) → flat s ++ tokens w ≡ ts → Inv (act t a w s) (ts ++ (t ∷ []))
+act-ok t InfixRole w s ts r m k g d e =
     elim (either (leb (floor s) (lo (sign t)))) [
-      inl h ↦ rw h (((g.0, r, d refl, g.1, leb-true (floor s) (lo (sign t)) h), one_more (margin s) (tokens w) t g.2 m, k), flat_more s (tokens w) t ts e)
-    | inr h ↦ rw h tt ]
-act-ok t goes_postfix w s ts r m k g d e =
+      | inl h ↦ rw h (((g.0, r, d refl, g.1, leb-true (floor s) (lo (sign t)) h), one_more (margin s) (tokens w) t g.2 m, k), flat_more s (tokens w) t ts e)
+      | inr h ↦ rw h tt
+    ]
+act-ok t PostfixRole w s ts r m k g d e =
     enter-ok (ahead (tok (from w) t)) (tok (from w) t) s (ts ++ (t ∷ [])) refl k ((g.0, (r, d refl)), g.1, one_more (margin s) (tokens w) t g.2 m) (flat_more s (tokens w) t ts e)
-act-ok t goes_nothing w s ts r m k g d e = tt
+act-ok t NoRole w s ts r m k g d e = tt
 
 placed-ok : (t : Tok) (w : Written) (s : List Frame) (ts : List Tok) → OkStack s → Fits w s → Done w (margin s) t → flat s ++ tokens w ≡ ts → Inv (placed t w s) (ts ++ (t ∷ []))
 placed-ok t w s ts k g d e =
     elim (either (ltb (column t) (margin s))) [
-      inl h ↦ rw h tt
-    | inr h ↦ rw h (act-ok t (after (sign t)) w s ts refl (ltb-false (column t) (margin s) h) k g (λ o. ends_plainly w (margin s) t (ltb-false (column t) (margin s) h) o d) e) ]
+      | inl h ↦ rw h tt
+      | inr h ↦ rw h (act-ok t (after (sign t)) w s ts refl (ltb-false (column t) (margin s) h) k g (λ o. ends_plainly w (margin s) t (ltb-false (column t) (margin s) h) o d) e)
+    ]
 
 max_left : (a b : ℕ) → a ≤ max a b
 max_left a b = omega arith
@@ -154,37 +160,43 @@ behind-ok : (t : Tok) (w : Written) (s : List Frame) (ts : List Tok) → OkStack
 behind-ok t w [] ts k g d e = placed-ok t w [] ts k g d e
 behind-ok t w (at_pre p ∷ s) ts k g d e =
     elim (either (pops t (margin s) (ltb (hi (sign t)) (prefix_lo (sign p))))) [
-      inl h ↦ rw h (behind-ok t (pre p w) s ts k.2 ((k.0, g.0, g.1), tt, (k.1.0, g.2)) (done_pre p w (margin s) t d (pops_cases t (margin s) (ltb (hi (sign t)) (prefix_lo (sign p))) h)) (sym (append_assoc (flat s) (p ∷ []) (tokens w)) ∙ e))
-    | inr h ↦ rw h (placed-ok t w (at_pre p ∷ s) ts k g d e) ]
+      | inl h ↦ rw h (behind-ok t (pre p w) s ts k.2 ((k.0, g.0, g.1), tt, (k.1.0, g.2)) (done_pre p w (margin s) t d (pops_cases t (margin s) (ltb (hi (sign t)) (prefix_lo (sign p))) h)) (sym (append_assoc (flat s) (p ∷ []) (tokens w)) ∙ e))
+      | inr h ↦ rw h (placed-ok t w (at_pre p ∷ s) ts k g d e)
+    ]
 behind-ok t w (at_bin a u ∷ s) ts k g d e =
     elim (either (pops t (margin s) (ltb (hi (sign t)) (lo (sign u)) || same (sign u) (sign t)))) [
-      inl h ↦ rw h (behind-ok t (bin a u w) s ts k.2
-        ((k.0.0, k.0.1, k.0.2, g.0, g.1), (k.0.4, k.0.3), subst (From (margin s)) (append_assoc (tokens a) (u ∷ []) (tokens w)) (From-append (margin s) (tokens a ++ (u ∷ [])) (tokens w) k.1 g.2))
-        (done_bin a u w (margin s) t d (pops_cases t (margin s) (ltb (hi (sign t)) (lo (sign u)) || same (sign u) (sign t)) h))
-        (ap (λ (ys : List Tok). flat s ++ ys) (sym (append_assoc (tokens a) (u ∷ []) (tokens w))) ∙ sym (append_assoc (flat s) (tokens a ++ (u ∷ [])) (tokens w)) ∙ e))
-    | inr h ↦ rw h (placed-ok t w (at_bin a u ∷ s) ts k g d e) ]
+      | inl h ↦ rw h (behind-ok t (bin a u w) s ts k.2
+          ((k.0.0, k.0.1, k.0.2, g.0, g.1), (k.0.4, k.0.3), subst (From (margin s)) (append_assoc (tokens a) (u ∷ []) (tokens w)) (From-append (margin s) (tokens a ++ (u ∷ [])) (tokens w) k.1 g.2))
+          (done_bin a u w (margin s) t d (pops_cases t (margin s) (ltb (hi (sign t)) (lo (sign u)) || same (sign u) (sign t)) h))
+          (ap (λ (ys : List Tok). flat s ++ ys) (sym (append_assoc (tokens a) (u ∷ []) (tokens w))) ∙ sym (append_assoc (flat s) (tokens a ++ (u ∷ [])) (tokens w)) ∙ e))
+      | inr h ↦ rw h (placed-ok t w (at_bin a u ∷ s) ts k g d e)
+    ]
 behind-ok t w (at_form ps ∷ s) ts k g d e =
     let below : From (margin s) (tokens w) = From-less (margin s) (max (inner (ahead ps)) (margin s)) (tokens w) (max_right (inner (ahead ps)) (margin s)) g.2 in
     let within : From (inner (ahead ps)) (tokens w) = From-less (inner (ahead ps)) (max (inner (ahead ps)) (margin s)) (tokens w) (max_left (inner (ahead ps)) (margin s)) g.2 in
     let both : From (margin s) (tokens_of ps ++ tokens w) = From-append (margin s) (tokens_of ps) (tokens w) k.1 below in
     let joined : flat s ++ (tokens_of ps ++ tokens w) ≡ ts = sym (append_assoc (flat s) (tokens_of ps) (tokens w)) ∙ e in
     elim (either (accepts ps w t (margin s))) [
-      inl h ↦ rw h (let c : margin s ≤ (column t) = leb-true (margin s) (column t) (and_both (leb (margin s) (column t)) (not (is_fail (delta (given (ahead ps) (class w)) t))) h).0 in
-        enter-ok (delta (given (ahead ps) (class w)) t) (tok (exp ps w) t) s (ts ++ (t ∷ [])) refl k.2
+      | inl h ↦ rw h (let c : margin s ≤ (column t) = leb-true (margin s) (column t) (and_both (leb (margin s) (column t)) (not (is_fail (delta (given (ahead ps) (class w)) t))) h).0 in
+          enter-ok (delta (given (ahead ps) (class w)) t) (tok (exp ps w) t) s (ts ++ (t ∷ [])) refl k.2
           (((k.0.0, g.0, within), inner_passes (inner (ahead ps)) (margin s) w t c d), k.0.1, one_more (margin s) (tokens_of ps ++ tokens w) t both c)
           (flat_more s (tokens_of ps ++ tokens w) t ts joined))
-    | inr h ↦ rw h (elim (either (is_last (ahead ps) && pops t (margin (at_form ps ∷ s)) false)) [
-        inl q ↦ rw q (let b : (is_last (ahead ps) ≡ true) × (pops t (margin (at_form ps ∷ s)) false ≡ true) = and_both (is_last (ahead ps)) (pops t (margin (at_form ps ∷ s)) false) q in
-          behind-ok t (tailed ps w) s ts k.2 ((b.0, k.0.0, g.0, within), k.0.1, both) (done_form ps w (margin s) t d h b.1 (side (column t) (margin s))) joined)
-      | inr q ↦ rw q (placed-ok t w (at_form ps ∷ s) ts k g d e) ]) ]
+      | inr h ↦ rw h (elim (either (is_last (ahead ps) && pops t (margin (at_form ps ∷ s)) false)) [
+        | inl q ↦ rw q (let b : (is_last (ahead ps) ≡ true) × (pops t (margin (at_form ps ∷ s)) false ≡ true) = and_both (is_last (ahead ps)) (pops t (margin (at_form ps ∷ s)) false) q in
+            behind-ok t (tailed ps w) s ts k.2 ((b.0, k.0.0, g.0, within), k.0.1, both) (done_form ps w (margin s) t d h b.1 (side (column t) (margin s))) joined)
+        | inr q ↦ rw q (placed-ok t w (at_form ps ∷ s) ts k g d e)
+      ])
+    ]
 
 fresh-ok : (t : Tok) (s : List Frame) (ts : List Tok) → OkStack s → flat s ≡ ts → Inv (fresh t s) (ts ++ (t ∷ []))
 fresh-ok t s ts k e =
     elim (either (ltb (column t) (margin s))) [
-      inl h ↦ rw h tt
-    | inr h ↦ rw h (elim (either (is_prefix (sign t))) [
-        inl p ↦ rw p ((p, (ltb-false (column t) (margin s) h, tt), k), ap (λ (ys : List Tok). ys ++ (t ∷ [])) e)
-      | inr p ↦ rw p (enter-ok (ahead (tok start t)) (tok start t) s (ts ++ (t ∷ [])) refl k ((tt, tt), tt, (ltb-false (column t) (margin s) h, tt)) (ap (λ (ys : List Tok). ys ++ (t ∷ [])) e)) ]) ]
+      | inl h ↦ rw h tt
+      | inr h ↦ rw h (elim (either (is_prefix (sign t))) [
+        | inl p ↦ rw p ((p, (ltb-false (column t) (margin s) h, tt), k), ap (λ (ys : List Tok). ys ++ (t ∷ [])) e)
+        | inr p ↦ rw p (enter-ok (ahead (tok start t)) (tok start t) s (ts ++ (t ∷ [])) refl k ((tt, tt), tt, (ltb-false (column t) (margin s) h, tt)) (ap (λ (ys : List Tok). ys ++ (t ∷ [])) e))
+      ])
+    ]
 
 idle_waits : (n : Next) (t : Tok) → is_fail (delta (idle n) t) ≡ false → waits n ≡ true
 idle_waits (Wants m) t h = refl
@@ -219,19 +231,21 @@ wanted-ok t (at_pre p ∷ s) ts k e = fresh-ok t (at_pre p ∷ s) ts k e
 wanted-ok t (at_bin a o ∷ s) ts k e = fresh-ok t (at_bin a o ∷ s) ts k e
 wanted-ok t (at_form ps ∷ s) ts k e =
     elim (either (takes ps t (margin s))) [
-      inl h ↦ rw h (let b : (leb (margin s) (column t) ≡ true) × (not (is_fail (delta (idle (ahead ps)) t)) ≡ true) = and_both (leb (margin s) (column t)) (not (is_fail (delta (idle (ahead ps)) t))) h in
-        enter-ok (ahead (tok ps t)) (tok ps t) s (ts ++ (t ∷ [])) refl k.2
+      | inl h ↦ rw h (let b : (leb (margin s) (column t) ≡ true) × (not (is_fail (delta (idle (ahead ps)) t)) ≡ true) = and_both (leb (margin s) (column t)) (not (is_fail (delta (idle (ahead ps)) t))) h in
+          enter-ok (ahead (tok ps t)) (tok ps t) s (ts ++ (t ∷ [])) refl k.2
           ((k.0.0, fine_waits ps t (idle_waits (ahead ps) t (not_not (is_fail (delta (idle (ahead ps)) t)) b.1))), k.0.1, one_more (margin s) (tokens_of ps) t k.1 (leb-true (margin s) (column t) b.0))
           (flat_more s (tokens_of ps) t ts e))
-    | inr h ↦ rw h (fresh-ok t (at_form ps ∷ s) ts k e) ]
+      | inr h ↦ rw h (fresh-ok t (at_form ps ∷ s) ts k e)
+    ]
 
 step-ok : (t : Tok) (st : State) (ts : List Tok) → Inv st ts → Inv (step t st) (ts ++ (t ∷ []))
 step-ok t (want s) ts i = wanted-ok t s ts i.0 i.1
 step-ok t (have w s) ts i = behind-ok t w s ts i.0 i.1 (inr ((i.2 t).1, inr (i.2 t).0)) i.3
 step-ok t (heading ps s) ts i =
     elim (either (ltb (column t) (margin s))) [
-      inl h ↦ rw h tt
-    | inr h ↦ rw h (enter-ok (ahead (tok ps t)) (tok ps t) s (ts ++ (t ∷ [])) refl i.0 ((i.1.0, i.2 t), i.1.1, one_more (margin s) (tokens_of ps) t i.1.2 (ltb-false (column t) (margin s) h)) (flat_more s (tokens_of ps) t ts i.3)) ]
+      | inl h ↦ rw h tt
+      | inr h ↦ rw h (enter-ok (ahead (tok ps t)) (tok ps t) s (ts ++ (t ∷ [])) refl i.0 ((i.1.0, i.2 t), i.1.1, one_more (margin s) (tokens_of ps) t i.1.2 (ltb-false (column t) (margin s) h)) (flat_more s (tokens_of ps) t ts i.3))
+    ]
 step-ok t stuck ts i = tt
 
 run-ok : (st : State) (ts rest : List Tok) → Inv st ts → Inv (run st rest) (ts ++ rest)
@@ -256,9 +270,10 @@ whole-ok w (at_form ps ∷ s) v k g h =
     let within : From (inner (ahead ps)) (tokens w) = From-less (inner (ahead ps)) (max (inner (ahead ps)) (margin s)) (tokens w) (max_left (inner (ahead ps)) (margin s)) g.2 in
     let both : From (margin s) (tokens_of ps ++ tokens w) = From-append (margin s) (tokens_of ps) (tokens w) k.1 below in
     elim (either (is_last (ahead ps))) [
-      inl o ↦ (let r : Good v × (tokens v ≡ flat s ++ tokens (tailed ps w)) = whole-ok (tailed ps w) s v k.2 ((o, k.0.0, g.0, within), k.0.1, both) (rw o at h) in
-        (r.0, r.1 ∙ sym (append_assoc (flat s) (tokens_of ps) (tokens w))))
-    | inr o ↦ absurd (none_is v (rw o at h)) ]
+      | inl o ↦ (let r : Good v × (tokens v ≡ flat s ++ tokens (tailed ps w)) = whole-ok (tailed ps w) s v k.2 ((o, k.0.0, g.0, within), k.0.1, both) (rw o at h) in
+          (r.0, r.1 ∙ sym (append_assoc (flat s) (tokens_of ps) (tokens w))))
+      | inr o ↦ absurd (none_is v (rw o at h))
+    ]
   where
     none_is : (u : Written) → None ≡ Some u → ⊥
     none_is u e = cc
@@ -291,13 +306,15 @@ ended_is Fail h = cc
 module_ok : (st : State) (ts : List Tok) (ps : Parts) → Inv st ts → module_of st ≡ Some ps → IsModule ps × (tokens_of ps ≡ ts)
 module_ok (heading qs []) ts ps i h =
     elim (either (ended_module (ahead qs))) [
-      inl e ↦ (let q : qs ≡ ps = same_parts (rw e at h) in
-        subst (λ (x : Parts). IsModule x × (tokens_of x ≡ ts)) q
+      | inl e ↦ (let q : qs ≡ ps = same_parts (rw e at h) in
+          subst (λ (x : Parts). IsModule x × (tokens_of x ≡ ts)) q
           (record { good = i.1.0; begins = finished_parts qs (ended_is (ahead qs) e); ends = ended_is (ahead qs) e }, i.3))
-    | inr e ↦ absurd (none_is ps (rw e at h)) ]
+      | inr e ↦ absurd (none_is ps (rw e at h))
+    ]
   where
     none_is : (u : Parts) → None ≡ Some u → ⊥
     none_is u e = cc
+
     same_parts : {x y : Parts} → Some x ≡ Some y → x ≡ y
     same_parts e = cc
 module_ok (heading qs (f ∷ s)) ts ps i h = absurd (cc)

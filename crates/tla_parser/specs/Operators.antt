@@ -2,52 +2,50 @@
 -- @imports
 -- @begin
 use Rattle.std.specs.Prelude.{ℕ, Bool, true, false, ◌&&◌, ◌==◌}
+use Rattle.tla_parser.specs.declared.signs.Role.{Role}
+use Rattle.tla_parser.specs.declared.signs.Role.TheVariants.{InfixRole, NoRole, PostfixRole}
 use Rattle.tla_parser.specs.declared.signs.Sign.{Sign}
 use Rattle.tla_parser.specs.declared.signs.Sign.TheVariants.{AngleSub, Arrow, Assigns, AssumeWord, At, AtLeast, AtMost, Bang, BooleanWord, BracketSub, Caret, CaseWord, ChooseWord, Circle, Colon, Comma, ConstantWord, Dash, Dashes, Defines, Diamond, Difference, Differs, DomainWord, Dot, Dots, DoubleArrow, Element, ElseWord, EnabledWord, EndSign, Equals, Equivalence, ExceptWord, ExistsSign, ExtendsWord, FairWord, FalseWord, FoldWord, ForallSign, Greater, IfWord, InWord, Included, InstanceWord, Intersection, LambdaWord, LeadsTo, LeftAngle, LeftBrace, LeftBracket, LeftParen, Less, LetWord, LocalWord, MapsTo, ModuleWord, NotElement, Number, OtherWord, Overrides, Pairs, Percent, Plus, ProofWord, Quotation, Quotient, RecursiveWord, Replaces, RightAngle, RightBrace, RightBracket, RightParen, Square, Star, Stray, StringWord, SubsetWord, ThenWord, TheoremWord, Tick, Tilde, Times, TrueWord, UnchangedWord, Underscore, UnionSign, UnionWord, VariableWord, Vee, Wedge, WithWord, Word}
+
 -- @end
 
 -- what a token is behind an operand
-pub data After : Type 0 where
-  goes_infix : After
-  goes_postfix : After
-  goes_nothing : After
-
-unfoldable pub after : Sign → After
-after DoubleArrow = goes_infix
-after Equivalence = goes_infix
-after LeadsTo = goes_infix
-after Wedge = goes_infix
-after Vee = goes_infix
-after Equals = goes_infix
-after Differs = goes_infix
-after Less = goes_infix
-after Greater = goes_infix
-after AtMost = goes_infix
-after AtLeast = goes_infix
-after Element = goes_infix
-after NotElement = goes_infix
-after Included = goes_infix
-after Assigns = goes_infix
-after Overrides = goes_infix
-after Pairs = goes_infix
-after UnionSign = goes_infix
-after Intersection = goes_infix
-after Difference = goes_infix
-after Dots = goes_infix
-after Plus = goes_infix
-after Percent = goes_infix
-after Times = goes_infix
-after Dash = goes_infix
-after Star = goes_infix
-after Quotient = goes_infix
-after Circle = goes_infix
-after Caret = goes_infix
-after Tick = goes_postfix
-after Dot = goes_postfix
-after Bang = goes_postfix
-after LeftBracket = goes_postfix
-after LeftParen = goes_postfix
-after _ = goes_nothing
+unfoldable pub after : Sign → Role
+after DoubleArrow = InfixRole
+after Equivalence = InfixRole
+after LeadsTo = InfixRole
+after Wedge = InfixRole
+after Vee = InfixRole
+after Equals = InfixRole
+after Differs = InfixRole
+after Less = InfixRole
+after Greater = InfixRole
+after AtMost = InfixRole
+after AtLeast = InfixRole
+after Element = InfixRole
+after NotElement = InfixRole
+after Included = InfixRole
+after Assigns = InfixRole
+after Overrides = InfixRole
+after Pairs = InfixRole
+after UnionSign = InfixRole
+after Intersection = InfixRole
+after Difference = InfixRole
+after Dots = InfixRole
+after Plus = InfixRole
+after Percent = InfixRole
+after Times = InfixRole
+after Dash = InfixRole
+after Star = InfixRole
+after Quotient = InfixRole
+after Circle = InfixRole
+after Caret = InfixRole
+after Tick = PostfixRole
+after Dot = PostfixRole
+after Bang = PostfixRole
+after LeftBracket = PostfixRole
+after LeftParen = PostfixRole
+after _ = NoRole
 
 unfoldable pub is_prefix : Sign → Bool
 is_prefix Tilde = true

@@ -4,4 +4,5 @@
 mod moves;
 mod open;
 mod ranges;
+mod rules;
 mod signs;

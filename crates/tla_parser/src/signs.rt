@@ -134,6 +134,14 @@ pub enum Sign {
     Stray,
 }
 
+/// What a token is behind an operand.
+#[derive(Clone, Copy)]
+pub enum Role {
+    InfixRole,
+    PostfixRole,
+    NoRole,
+}
+
 impl Sign {
     // A number of its own for each sign.
     #[tactic(auto, unfolding(crate::specs::Operators::number_of))]

@@ -3,7 +3,7 @@ use Rattle.tla_lexer.specs.declared.token.Token.{Token as Tok}
 -- @imports
 -- @begin
 use Rattle.std.specs.Prelude.{ℕ, suc, Bool, true, false, cond, max, List, ◌≡◌, ◌+◌, ◌<◌, ◌≤◌, ◌⊎◌, ◌∷◌, ◌++◌, []}
-use Rattle.tla_parser.specs.Operators.{after, goes_infix, goes_postfix, hi, is_prefix, lo, prefix_hi, prefix_lo, same, same_sign}
+use Rattle.tla_parser.specs.Operators.{after, hi, is_prefix, lo, prefix_hi, prefix_lo, same, same_sign}
 use Rattle.tla_parser.specs.Signs.{column, sign}
 use Rattle.tla_parser.specs.declared.moves.Class.{Class}
 use Rattle.tla_parser.specs.declared.moves.Class.TheVariants.{BareName, FoldName, Joined, Member, Other, PathName}
@@ -16,8 +16,10 @@ use Rattle.tla_parser.specs.declared.moves.Next.TheVariants.{Fail, Last, Reads, 
 use Rattle.tla_parser.specs.declared.moves.Seen.{Seen}
 use Rattle.tla_parser.specs.declared.open.Code.{Code}
 use Rattle.tla_parser.specs.declared.open.Code.TheVariants.{Close, Infix, Part, Prefix}
+use Rattle.tla_parser.specs.declared.signs.Role.TheVariants.{InfixRole, PostfixRole}
 use Rattle.tla_parser.specs.declared.signs.Sign.{Sign}
 use Rattle.tla_parser.specs.inner.Moves.{Point, begin, behind_op, class_infix, class_of, ends_as, filled, hungry, move, off, reading}
+
 -- @end
 
 mutual
@@ -28,6 +30,7 @@ mutual
     tailed : Parts → Written → Written
     pre : Tok → Written → Written
     bin : Written → Tok → Written → Written
+
   pub data Parts : Type 0 where
     start : Parts
     -- a module begins
@@ -43,6 +46,7 @@ abbrev mutual
   tokens (tailed ps w) = tokens_of ps ++ tokens w
   tokens (pre p w) = p ∷ tokens w
   tokens (bin a t b) = tokens a ++ (t ∷ tokens b)
+
   pub tokens_of : Parts → List Tok
   tokens_of start = []
   tokens_of top = []
@@ -96,12 +100,14 @@ abbrev mutual
   class (tailed ps w) = Other
   class (pre p w) = Other
   class (bin a t b) = class_infix (class a) (sign t)
+
   pub point : Parts → Point
   point start = begin
   point top = reading AtTop
   point (from w) = behind_op (class w)
   point (tok ps t) = resumed (delta (point ps) t)
   point (exp ps w) = given (ahead ps) (class w)
+
   -- what comes behind the parts
   pub ahead : Parts → Next
   ahead start = Fail
@@ -157,6 +163,7 @@ abbrev mutual
   Above n (tailed ps w) = AboveParts n ps
   Above n (pre p w) = Unit {0}
   Above n (bin a o b) = (n ≤ lo (sign o)) × Above n a
+
   pub AboveParts : ℕ → Parts → Type 0
   AboveParts n start = Unit {0}
   AboveParts n top = Unit {0}
@@ -168,7 +175,7 @@ abbrev mutual
 abbrev pub Fine : Parts → Tok → Type 0
 Fine start t = Unit {0}
 Fine top t = Unit {0}
-Fine (from w) t = (after (sign t) ≡ goes_postfix) × Ends w t
+Fine (from w) t = (after (sign t) ≡ PostfixRole) × Ends w t
 Fine (tok ps u) t = Unit {0}
 Fine (exp ps w) t = (column t < inner (ahead ps)) ⊎ Leaves w t
 
@@ -177,7 +184,8 @@ abbrev mutual
   Good (closed ps) = (is_shut (ahead ps) ≡ true) × GoodParts ps
   Good (tailed ps w) = (is_last (ahead ps) ≡ true) × GoodParts ps × Good w × From (inner (ahead ps)) (tokens w)
   Good (pre p w) = (is_prefix (sign p) ≡ true) × Good w × Above (suc (prefix_hi (sign p))) w
-  Good (bin a t b) = Good a × (after (sign t) ≡ goes_infix) × Ends a t × Good b × Above (suc (hi (sign t))) b
+  Good (bin a t b) = Good a × (after (sign t) ≡ InfixRole) × Ends a t × Good b × Above (suc (hi (sign t))) b
+
   pub GoodParts : Parts → Type 0
   GoodParts start = Unit {0}
   GoodParts top = Unit {0}
@@ -231,6 +239,7 @@ abbrev mutual
   post (tailed ps w) = (posts ps ++ post w) ++ (Close (form_of (ahead ps)) (parts ps + 1) ∷ [])
   post (pre p w) = post w ++ (Prefix p ∷ [])
   post (bin a t b) = (post a ++ post b) ++ (Infix t (continues (class a) (sign t)) ∷ [])
+
   pub posts : Parts → List Code
   posts start = []
   posts top = []
@@ -251,6 +260,7 @@ abbrev mutual
   levels (tailed ps w) = max (deepest ps) (levels w) + 1
   levels (pre p w) = levels w + 1
   levels (bin a t b) = cond (continues (class a) (sign t)) (max (levels a) (levels b + 1)) (max (levels a) (levels b) + 1)
+
   pub deepest : Parts → ℕ
   deepest start = 0
   deepest top = 0

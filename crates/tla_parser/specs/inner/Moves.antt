@@ -15,6 +15,7 @@ use Rattle.tla_parser.specs.declared.moves.Next.TheVariants.{Fail, Last, Reads, 
 use Rattle.tla_parser.specs.declared.moves.Seen.{Seen}
 use Rattle.tla_parser.specs.declared.signs.Sign.{Sign}
 use Rattle.tla_parser.specs.declared.signs.Sign.TheVariants.{AngleSub, Arrow, AssumeWord, At, Bang, BooleanWord, BracketSub, CaseWord, ChooseWord, Colon, Comma, ConstantWord, Dashes, Defines, Dot, Element, ElseWord, EndSign, Equals, ExceptWord, ExistsSign, ExtendsWord, FairWord, FalseWord, FoldWord, ForallSign, IfWord, InWord, InstanceWord, LambdaWord, LeftAngle, LeftBrace, LeftBracket, LeftParen, LetWord, LocalWord, MapsTo, ModuleWord, Number, OtherWord, Quotation, RecursiveWord, Replaces, RightAngle, RightBrace, RightBracket, RightParen, Square, StringWord, ThenWord, TheoremWord, Tick, Times, TrueWord, Underscore, VariableWord, Vee, Wedge, WithWord, Word}
+
 -- @end
 
 -- what one sign leads to
@@ -292,12 +293,16 @@ class_of Instanced = PathName
 class_of _ = Other
 
 -- what an infix operator makes of a left operand
+abbrev pub member : Class → Class
+member BareName = Member
+member PathName = Other
+member FoldName = Other
+member Other = Other
+member Member = Other
+member (Joined s) = Other
+
 unfoldable pub class_infix : Class → Sign → Class
-class_infix c Element = of_member c
-  where
-    of_member : Class → Class
-    of_member BareName = Member
-    of_member _ = Other
+class_infix c Element = member c
 class_infix c Wedge = Joined Wedge
 class_infix c Vee = Joined Vee
 class_infix c Times = Joined Times

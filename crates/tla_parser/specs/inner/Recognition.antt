@@ -4,7 +4,7 @@ use Rattle.tla_lexer.specs.declared.token.Token.{Token as Tok}
 -- @imports
 -- @begin
 use Rattle.std.specs.Prelude.{ℕ, Bool, true, false, cond, not, max, min, List, ◌+◌, ◌∷◌, ◌++◌, ◌&&◌, ◌||◌, []}
-use Rattle.tla_parser.specs.Operators.{After, after, goes_infix, goes_nothing, goes_postfix, hi, is_prefix, lo, prefix_hi, prefix_lo, same}
+use Rattle.tla_parser.specs.Operators.{after, hi, is_prefix, lo, prefix_hi, prefix_lo, same}
 use Rattle.tla_parser.specs.Signs.{column, sign}
 use Rattle.tla_parser.specs.declared.moves.Class.{Class}
 use Rattle.tla_parser.specs.declared.moves.Class.TheVariants.{Other}
@@ -20,8 +20,11 @@ use Rattle.tla_parser.specs.declared.open.Mode.TheVariants.{Have, Read, Stuck, W
 use Rattle.tla_parser.specs.declared.open.Open.{Open}
 use Rattle.tla_parser.specs.declared.open.Open.TheVariants.{Before, Between, Within}
 use Rattle.tla_parser.specs.declared.open.Operand.{Operand}
+use Rattle.tla_parser.specs.declared.signs.Role.{Role}
+use Rattle.tla_parser.specs.declared.signs.Role.TheVariants.{InfixRole, NoRole, PostfixRole}
 use Rattle.tla_parser.specs.inner.Derivations.{class, continues, delta, form_of, given, idle, is_last, levels, mark_column}
 use Rattle.tla_parser.specs.inner.Moves.{Point, begin, behind_op, class_infix, class_of, off, reading}
+
 -- @end
 
 pub data Status : Type 0 where
@@ -37,10 +40,10 @@ is_fail (Last m) = false
 is_fail (Shut f) = false
 
 -- a token behind an operand is an operator
-abbrev pub op : After → Bool
-op goes_infix = true
-op goes_postfix = true
-op goes_nothing = false
+abbrev pub op : Role → Bool
+op InfixRole = true
+op PostfixRole = true
+op NoRole = false
 
 -- levels count up to 401
 abbrev pub deeper : ℕ → ℕ
@@ -106,10 +109,10 @@ least (Before p ∷ s) = prefix_hi (sign p) + 1
 least (Between a o ∷ s) = hi (sign o) + 1
 least (Within f ∷ s) = 0
 
-abbrev pub acted : Tok → After → Operand → List Open → List Code → ℕ → Status
-acted t goes_infix w s c m = cond (nat_le (least s) (lo (sign t))) (running Want (Between w t ∷ s) c m) lost
-acted t goes_postfix w s c m = entered (delta (behind_op w.class) t) 2 w.levels s (c ++ (Part t ∷ [])) m
-acted t goes_nothing w s c m = lost
+abbrev pub acted : Tok → Role → Operand → List Open → List Code → ℕ → Status
+acted t InfixRole w s c m = cond (nat_le (least s) (lo (sign t))) (running Want (Between w t ∷ s) c m) lost
+acted t PostfixRole w s c m = entered (delta (behind_op w.class) t) 2 w.levels s (c ++ (Part t ∷ [])) m
+acted t NoRole w s c m = lost
 
 abbrev pub placing : Tok → Operand → List Open → List Code → ℕ → Status
 placing t w s c m = cond (nat_lt (column t) m) lost (acted t (after (sign t)) w s c m)
@@ -154,14 +157,14 @@ landed t w (Before p ∷ s) c m = placing t w (Before p ∷ s) c m
 landed t w (Between a o ∷ s) c m = placing t w (Between a o ∷ s) c m
 landed t w (Within f ∷ s) c m =
     cond (accepting f w t)
-      (entered (delta (given f.next w.class) t) (f.count + 2) (max f.levels w.levels) s (c ++ (Part t ∷ [])) f.outer)
-      (placing t w (Within f ∷ s) c m)
+    (entered (delta (given f.next w.class) t) (f.count + 2) (max f.levels w.levels) s (c ++ (Part t ∷ [])) f.outer)
+    (placing t w (Within f ∷ s) c m)
 
 abbrev pub following : Tok → Operand → List Open → List Code → ℕ → Status
 following t w [] c m = landed t w [] c m
 following t w (f ∷ s) c m =
     cond (folds t w f m) (following t (folded f w) s (c ++ (folded_code f ∷ [])) (folded_margin f m))
-      (landed t w (f ∷ s) c m)
+    (landed t w (f ∷ s) c m)
 
 abbrev pub advanced : Tok → Mode → List Open → List Code → ℕ → Status
 advanced t Want s c m = wanting t s c m
