@@ -18,7 +18,7 @@ use Rattle.tla_parser.specs.declared.signs.Role.TheVariants.{InfixRole, PostfixR
 use Rattle.tla_parser.specs.declared.signs.Sign.{Sign}
 use Rattle.tla_parser.specs.declared.signs.Sign.TheVariants.{AngleSub, Arrow, Assigns, AssumeWord, At, AtLeast, AtMost, Bang, BooleanWord, BracketSub, Caret, CaseWord, ChooseWord, Circle, Colon, Comma, ConstantWord, Dash, Dashes, Defines, Diamond, Difference, Differs, DomainWord, Dot, Dots, DoubleArrow, Element, ElseWord, EnabledWord, EndSign, Equals, Equivalence, ExceptWord, ExistsSign, ExtendsWord, FairWord, FalseWord, FoldWord, ForallSign, Greater, IfWord, InWord, Included, InstanceWord, Intersection, LambdaWord, LeadsTo, LeftAngle, LeftBrace, LeftBracket, LeftParen, Less, LetWord, LocalWord, MapsTo, ModuleWord, NotElement, Number, OtherWord, Overrides, Pairs, Percent, Plus, ProofWord, Quotation, Quotient, RecursiveWord, Replaces, RightAngle, RightBrace, RightBracket, RightParen, Square, Star, Stray, StringWord, SubsetWord, ThenWord, TheoremWord, Tick, Tilde, Times, TrueWord, UnchangedWord, Underscore, UnionSign, UnionWord, VariableWord, Vee, Wedge, WithWord, Word}
 use Rattle.tla_parser.specs.inner.Derivations.{delta, look, mark_column}
-use Rattle.tla_parser.specs.inner.Moves.{Point, Row, begin, behind_op, bracket_rows, filled, fold_rows, found, goes_on, heads, hungry, in_units, insteads, item_rows, move, next_bullet, of_name, off, opens, postfixes, reading, rows, unit_rows}
+use Rattle.tla_parser.specs.inner.Moves.{Point, Row, begin, behind_op, bracket_rows, filled, fold_rows, found, goes_on, heads, hungry, in_units, insteads, item_rows, moved, next_bullet, of_name, off, opens, postfixes, reading, rows, unit_rows}
 use Rattle.tla_parser.specs.inner.Recognition.{is_fail, op}
 
 -- @end
@@ -111,7 +111,7 @@ postfix_same j k h = not_true (same j k) (λ e.
     cc)
 
 pub delta-off : (t : Tok) → delta off t ≡ Fail
-unfolding delta move
+unfolding delta moved
 delta-off t = refl
 
 -- ---- no form but a list goes on with an operator
@@ -147,7 +147,7 @@ no_bullet s n t h = rw (not_true (is_bullet s && (same_sign s (sign t) && (n == 
     omega arith)) refl
 
 pub op-goes_on : (m : Mark) (c : Class) (t : Tok) → op (after (sign t)) ≡ true → mark_column m ≤ column t → delta (filled m c) t ≡ Fail
-unfolding delta move goes_on mark_column
+unfolding delta moved goes_on mark_column
 op-goes_on (Bullets s n) c t h m = no_bullet s n t (omega arith)
 op-goes_on _ c t h m = plain_found (sign t) (rows _ c) (plain_rows _ c) h
 
@@ -179,7 +179,7 @@ closing_found t s (r ∷ rs) h =
     ]
 
 pub hungry_fresh : (m : Mark) (t : Tok) → (delta begin t ≡ Fail) ⊎ (delta (hungry m) t ≡ Fail)
-unfolding delta move
+unfolding delta moved
 hungry_fresh m t = closing_found (look t) (sign t) (insteads m) (closing_insteads m (look t))
 
 abbrev unprefixed : List Row → Bool
@@ -199,7 +199,7 @@ unprefixed_found s (r ∷ rs) h o =
     clash (is_prefix r.sign) (ap is_prefix (sym (same_sign-is s r.sign e)) ∙ o) (negated (is_prefix r.sign) b.0))) (unprefixed_found s rs b.1 o)
 
 pub hungry_prefix : (m : Mark) (t : Tok) → is_prefix (sign t) ≡ true → delta (hungry m) t ≡ Fail
-unfolding delta move
+unfolding delta moved
 hungry_prefix m t h = unprefixed_found (sign t) (insteads m) (unprefixed_insteads m) h
 
 prefix_shut : (t : Seen) (k : Sign) → is_prefix k ≡ true → opens t k ≡ Fail
@@ -216,7 +216,7 @@ prefix_shut t Dash h = refl
 prefix_shut t _ h = cc
 
 pub prefix_opens : (t : Tok) → is_prefix (sign t) ≡ true → delta begin t ≡ Fail
-unfolding delta move
+unfolding delta moved
 prefix_opens t h = prefix_shut (look t) (sign t) h
 
 -- ---- a module's forms stay among themselves, and no other comes to them
@@ -332,7 +332,7 @@ stays_at false (filled m c) = not (in_units m)
 stays_at false off = true
 
 pub moves_stay : (b : Bool) (p : Point) (t : Tok) → stays_at b p ≡ true → stays_in b (delta p t) ≡ true
-unfolding delta move
+unfolding delta moved
 moves_stay true begin t h = cc
 moves_stay true (behind_op c) t h = cc
 moves_stay true (reading m) t h = subst (λ (b : Bool). stays_in b (delta (reading m) t) ≡ true) h (kept_found (in_units m) (sign t) (heads m) (kept_heads m))

@@ -1,8 +1,11 @@
 //! The tree of an expression: what its tokens spell. (Lamport, Specifying Systems, chapters 15 and 16.)
 #![tactic(auto)]
 
+mod copies;
+mod looks;
 mod moves;
 mod open;
 mod ranges;
+mod recognizer;
 mod rules;
 mod signs;

@@ -18,7 +18,7 @@ use Rattle.tla_parser.specs.declared.open.Code.{Code}
 use Rattle.tla_parser.specs.declared.open.Code.TheVariants.{Close, Infix, Part, Prefix}
 use Rattle.tla_parser.specs.declared.signs.Role.TheVariants.{InfixRole, PostfixRole}
 use Rattle.tla_parser.specs.declared.signs.Sign.{Sign}
-use Rattle.tla_parser.specs.inner.Moves.{Point, begin, behind_op, class_infix, class_of, ends_as, filled, hungry, move, off, reading}
+use Rattle.tla_parser.specs.inner.Moves.{Point, begin, behind_op, class_infix, class_of, ends_as, filled, hungry, moved, off, reading}
 
 -- @end
 
@@ -63,7 +63,7 @@ abbrev pub look : Tok → Seen
 look t = record { sign = sign t; column = column t }
 
 unfoldable pub delta : Point → Tok → Next
-delta p t = move p (look t)
+delta p t = moved p (look t)
 
 abbrev pub resumed : Next → Point
 resumed (Reads m) = reading m

@@ -267,13 +267,13 @@ pub data Point : Type 0 where
   filled : Mark → Class → Point
   off : Point
 
-unfoldable pub move : Point → Seen → Next
-move begin t = opens t t.sign
-move (behind_op c) t = found t.sign (postfixes c)
-move (reading m) t = found t.sign (heads m)
-move (hungry m) t = found t.sign (insteads m)
-move (filled m c) t = goes_on m c t
-move off t = Fail
+unfoldable pub moved : Point → Seen → Next
+moved begin t = opens t t.sign
+moved (behind_op c) t = found t.sign (postfixes c)
+moved (reading m) t = found t.sign (heads m)
+moved (hungry m) t = found t.sign (insteads m)
+moved (filled m c) t = goes_on m c t
+moved off t = Fail
 
 -- the form that ends in an operand here
 unfoldable pub ends_as : Mark → Construct

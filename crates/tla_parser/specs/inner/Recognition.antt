@@ -32,6 +32,12 @@ pub data Status : Type 0 where
   -- the mode, what is open with the innermost first, what was read, and the least column
   running : Mode → List Open → List Code → ℕ → Status
 
+abbrev pub status : Mode → List Open → List Code → ℕ → Status
+status Want s c m = running Want s c m
+status (Have w) s c m = running (Have w) s c m
+status Read s c m = running Read s c m
+status Stuck s c m = lost
+
 abbrev pub is_fail : Next → Bool
 is_fail Fail = true
 is_fail (Reads m) = false
