@@ -66,7 +66,7 @@ pub(crate) fn is_prefix(sign: Sign) -> bool
 
 /// The least precedence of an infix or postfix operator.
 #[tactic(auto, unfolding(crate::specs::Operators::lo))]
-pub(crate) fn lo(sign: Sign) -> u16
+pub(crate) fn lo(sign: Sign) -> u8
     ensures { result ≡ lo sign }
 {
     match sign {
@@ -98,7 +98,7 @@ pub(crate) fn lo(sign: Sign) -> u16
 
 /// The greatest precedence of an infix or postfix operator.
 #[tactic(auto, unfolding(crate::specs::Operators::hi))]
-pub(crate) fn hi(sign: Sign) -> u16
+pub(crate) fn hi(sign: Sign) -> u8
     ensures { result ≡ hi sign }
 {
     match sign {
@@ -132,7 +132,7 @@ pub(crate) fn hi(sign: Sign) -> u16
 
 /// The least precedence of a prefix operator.
 #[tactic(auto, unfolding(crate::specs::Operators::prefix_lo))]
-pub(crate) fn prefix_lo(sign: Sign) -> u16
+pub(crate) fn prefix_lo(sign: Sign) -> u8
     ensures { result ≡ prefix_lo sign }
 {
     match sign {
@@ -146,7 +146,7 @@ pub(crate) fn prefix_lo(sign: Sign) -> u16
 
 /// The greatest precedence of a prefix operator.
 #[tactic(auto, unfolding(crate::specs::Operators::prefix_hi))]
-pub(crate) fn prefix_hi(sign: Sign) -> u16
+pub(crate) fn prefix_hi(sign: Sign) -> u8
     ensures { result ≡ prefix_hi sign }
 {
     match sign {

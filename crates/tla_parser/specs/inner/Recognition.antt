@@ -1,9 +1,10 @@
 -- The reading of tokens with a stack, which gives what was read, each construct behind its parts.
 use Rattle.std.specs.Prelude.{nat_lt, nat_le}
 use Rattle.tla_lexer.specs.declared.token.Token.{Token as Tok}
+use Rattle.tla_parser.specs.declared.recognizer.Recognizer.{Recognizer}
 -- @imports
 -- @begin
-use Rattle.std.specs.Prelude.{ℕ, Bool, true, false, cond, not, max, min, List, ◌+◌, ◌∷◌, ◌++◌, ◌&&◌, ◌||◌, []}
+use Rattle.std.specs.Prelude.{ℕ, Bool, true, false, cond, not, max, min, List, Option, Some, None, length, reverse, ◌≡◌, ◌+◌, ◌<◌, ◌∷◌, ◌++◌, ◌&&◌, ◌||◌, []}
 use Rattle.tla_parser.specs.Operators.{after, hi, is_prefix, lo, prefix_hi, prefix_lo, same}
 use Rattle.tla_parser.specs.Signs.{column, sign}
 use Rattle.tla_parser.specs.declared.moves.Class.{Class}
@@ -37,6 +38,9 @@ status Want s c m = running Want s c m
 status (Have w) s c m = running (Have w) s c m
 status Read s c m = running Read s c m
 status Stuck s c m = lost
+
+abbrev pub stood : Mode → Recognizer → Status
+stood mode r = status mode (reverse r.stack.items) r.code.items r.margin
 
 abbrev pub is_fail : Next → Bool
 is_fail Fail = true
@@ -115,6 +119,10 @@ least (Before p ∷ s) = prefix_hi (sign p) + 1
 least (Between a o ∷ s) = hi (sign o) + 1
 least (Within f ∷ s) = 0
 
+abbrev pub least_of : Option Open → ℕ
+least_of None = 0
+least_of (Some f) = least (f ∷ [])
+
 abbrev pub acted : Tok → Role → Operand → List Open → List Code → ℕ → Status
 acted t InfixRole w s c m = cond (nat_le (least s) (lo (sign t))) (running Want (Between w t ∷ s) c m) lost
 acted t PostfixRole w s c m = entered (delta (behind_op w.class) t) 2 w.levels s (c ++ (Part t ∷ [])) m
@@ -185,3 +193,11 @@ advance t (running mode s c m) = advanced t mode s c m
 abbrev pub advances : Status → List Tok → Status
 advances st [] = st
 advances st (t ∷ ts) = advances (advance t st) ts
+
+abbrev pub followed : Tok → Operand → Recognizer → Status
+followed t w r = following t w (reverse r.stack.items) r.code.items r.margin
+
+-- What is innermost was folded, or nothing there is ended by t.
+abbrev pub IsFolded : Option Operand → Tok → Operand → Recognizer → Recognizer → Type 0
+IsFolded None t w old new = followed t w old ≡ landed t w (reverse new.stack.items) new.code.items new.margin
+IsFolded (Some v) t w old new = (followed t w old ≡ followed t v new) × (length new.stack.items < length old.stack.items)
