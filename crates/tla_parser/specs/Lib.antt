@@ -1,3 +1,4 @@
 pub mod Operators
 pub mod Signs
+pub mod Trees
 pub mod inner

@@ -2,6 +2,7 @@
 #![tactic(auto)]
 
 mod copies;
+mod items;
 mod looks;
 mod moves;
 mod open;
