@@ -27,6 +27,7 @@ use Rattle.tla_parser.specs.declared.signs.Sign.{Sign}
 use Rattle.tla_parser.specs.declared.signs.Sign.TheVariants.{AngleSub, Assigns, AtLeast, AtMost, BracketSub, Circle, Dash, Diamond, Difference, Differs, DomainWord, Dot, Dots, DoubleArrow, Element, EnabledWord, Equals, Equivalence, ExistsSign, FairWord, ForallSign, Greater, InWord, Included, Intersection, LeadsTo, LeftAngle, LeftBracket, LeftParen, Less, LetWord, NotElement, Overrides, Pairs, Percent, Plus, Quotient, RightBracket, Square, Star, Stray, SubsetWord, Tilde, Times, UnchangedWord, UnionSign, UnionWord, Vee, Wedge}
 use Rattle.tla_parser.specs.inner.Moves.{heads}
 use Rattle.tla_parser.specs.inner.Recognition.{op}
+
 -- @end
 
 abbrev pub node : Place → Op → List (List ℕ) → List Expr → Expr
@@ -130,7 +131,7 @@ with_name (Some x) d = record d { names = d.names ++ (x ∷ []); pending = d.pen
 abbrev pub with_subscript : Sign → Place → Digest → Digest
 with_subscript s p d =
     cond d.opens_subscript (record d { subscript = s; subscript_place = p; opens_subscript = before_subscript s })
-      (record d { opens_subscript = before_subscript s })
+    (record d { opens_subscript = before_subscript s })
 
 abbrev pub with_first : Sign → Place → Digest → Digest
 with_first s p d = cond (is_stray d.first) (record d { first = s; place = p }) d
@@ -352,7 +353,7 @@ update_token _ t u = named_index (name_of t.kind) u
 abbrev pub update_value : Expr → Updates → Updates
 update_value e u =
     cond u.begun (record u { operands = u.operands ++ (e ∷ []); counts = u.counts ++ (u.steps ∷ []); steps = 0 })
-      (record u { operands = u.operands ++ (e ∷ []); begun = true })
+    (record u { operands = u.operands ++ (e ∷ []); begun = true })
 
 abbrev pub update_tree : Expr → Updates → Updates
 update_tree e u = cond u.inside (record u { index = u.index ++ (e ∷ []) }) (update_value e u)
@@ -376,7 +377,7 @@ abbrev pub head_name : Option (List ℕ) → Token → Head → Head
 head_name None t h = h
 head_name (Some x) t h =
     cond h.named (record h { names = h.names ++ (x ∷ []); pending = h.pending + 1 })
-      (record h { named = true; name = x; place = t.place; note = t.notes })
+    (record h { named = true; name = x; place = t.place; note = t.notes })
 
 unfoldable pub head_token : Sign → Token → Head → Head
 head_token LeftBracket t h = record h { function = true; function_place = t.place; inside = true }
@@ -413,7 +414,7 @@ local_body e l =
 abbrev pub local_tree : Expr → Locals → Locals
 local_tree e l =
     cond l.last (record l { bodies = l.bodies ++ (e ∷ []) })
-      (cond l.head.inside (record l { head = head_set e l.head }) (local_body e l))
+    (cond l.head.inside (record l { head = head_set e l.head }) (local_body e l))
 
 abbrev pub localized : Locals → Item → Locals
 localized l (Piece t) = local_token (sign t) t l

@@ -5,6 +5,7 @@ mod copies;
 mod items;
 mod looks;
 mod moves;
+mod nodes;
 mod open;
 mod ranges;
 mod recognizer;
