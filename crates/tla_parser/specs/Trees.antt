@@ -1,6 +1,6 @@
 -- Which tree each form stands for. Source: Specifying Systems, chapter 16 (what the operators mean) and section 15.1.
 use Rattle.std.specs.Prelude.{fold, codes, if◌then◌else◌}
-use Rattle.std.specs.List.{repeat}
+use Rattle.std.proofs.Math.ListN.{replicate}
 use Rattle.tla_lexer.specs.declared.token.Token.{Token}
 use Rattle.tla_lexer.specs.declared.token.TokenKind.{TokenKind}
 use Rattle.tla_lexer.specs.declared.token.TokenKind.TheVariants.{Dashes as DashRun, End, Number as Digits, Name, Reserved, Quoted, ProofStep, Symbol}
@@ -24,7 +24,7 @@ use Rattle.tla_parser.specs.Signs.{sign}
 use Rattle.tla_parser.specs.declared.moves.Construct.{Construct}
 use Rattle.tla_parser.specs.declared.moves.Construct.TheVariants.{Application, Booleans, Call, Cases, CasesOther, Choice, Conditional, Enumeration, Exception, Fairness, FalseLiteral, FieldAccess, Filter, FoldCall, FoldUse, Function, FunctionSet, Instanced, Junction, Local, Mapping, NameUse, NumberLiteral, OldValue, Parenthesis, Primed, Quantifier, RecordSet, RecordValue, SquareAction, Strings, TextLiteral, TrueLiteral, TupleValue}
 use Rattle.tla_parser.specs.declared.signs.Sign.{Sign}
-use Rattle.tla_parser.specs.declared.signs.Sign.TheVariants.{AngleSub, Assigns, AtLeast, AtMost, BracketSub, Circle, Dash, Diamond, Difference, Differs, DomainWord, Dot, Dots, DoubleArrow, Element, EnabledWord, Equals, Equivalence, ExistsSign, FairWord, ForallSign, Greater, InWord, Included, Intersection, LeadsTo, LeftAngle, LeftBracket, LeftParen, Less, LetWord, NotElement, Overrides, Pairs, Percent, Plus, Quotient, RightBracket, Square, Star, Stray, SubsetWord, Tilde, Times, UnchangedWord, UnionSign, UnionWord, Vee, Wedge}
+use Rattle.tla_parser.specs.declared.signs.Sign.TheVariants.{AngleSub, Assigns, AtLeast, AtMost, BracketSub, Circle, Colon, Dash, Diamond, Difference, Differs, DomainWord, Dot, Dots, DoubleArrow, Element, EnabledWord, Equals, Equivalence, ExistsSign, FairWord, ForallSign, Greater, InWord, Included, Intersection, LeadsTo, LeftAngle, LeftBracket, LeftParen, Less, LetWord, NotElement, Overrides, Pairs, Percent, Plus, Quotient, RightBracket, Square, Star, Stray, SubsetWord, Tilde, Times, UnchangedWord, UnionSign, UnionWord, Vee, Wedge}
 use Rattle.tla_parser.specs.inner.Moves.{heads}
 use Rattle.tla_parser.specs.inner.Recognition.{op}
 
@@ -97,7 +97,7 @@ abbrev pub nowhere : Place
 nowhere = record { file = 0; line = 0; col = 0 }
 
 unfoldable pub empty_digest : Bool → Digest
-empty_digest h = record { first = Stray; place = nowhere; names = []; operands = []; counts = []; pending = 0; bounded = false; subscript = Stray; subscript_place = nowhere; opens_subscript = false; heads = h }
+empty_digest h = record { first = Stray; place = nowhere; names = []; operands = []; pending = 0; bounded = false; subscript = Stray; subscript_place = nowhere; opens_subscript = false; heads = h }
 
 unfoldable pub is_stray : Sign → Bool
 is_stray Stray = true
@@ -106,6 +106,10 @@ is_stray _ = false
 unfoldable pub is_element : Sign → Bool
 is_element Element = true
 is_element _ = false
+
+unfoldable pub is_colon : Sign → Bool
+is_colon Colon = true
+is_colon _ = false
 
 unfoldable pub before_subscript : Sign → Bool
 before_subscript BracketSub = true
@@ -136,11 +140,16 @@ with_subscript s p d =
 abbrev pub with_first : Sign → Place → Digest → Digest
 with_first s p d = cond (is_stray d.first) (record d { first = s; place = p }) d
 
+-- names before `:` have no set
+abbrev pub with_colon : Sign → Digest → Digest
+with_colon s d = cond (is_colon s) (record d { pending = 0 }) d
+
 abbrev pub with_bound : Sign → Digest → Digest
 with_bound s d = cond (is_element s) (record d { bounded = true }) d
 
+-- an operand, which stands once for each name whose set it is
 abbrev pub with_operand : Expr → Digest → Digest
-with_operand e d = record d { operands = d.operands ++ (e ∷ []); counts = d.counts ++ (d.pending ∷ []); pending = 0 }
+with_operand e d = record d { operands = d.operands ++ replicate (max d.pending 1) e; pending = 0 }
 
 -- the name that is a use
 abbrev pub used_name : Op → Option (List ℕ)
@@ -169,18 +178,11 @@ with_tree e d = cond d.heads (with_head (out-Expr e).op (out-Expr e).args (recor
 
 abbrev pub taken_in : Digest → Item → Digest
 taken_in d (Piece t) =
-    with_name (name_of t.kind) (with_bound (sign t) (with_subscript (sign t) t.place (with_first (sign t) t.place d)))
+    with_name (name_of t.kind) (with_colon (sign t) (with_bound (sign t) (with_subscript (sign t) t.place (with_first (sign t) t.place d))))
 taken_in d (Tree e) = with_tree e d
 
 abbrev pub digest : Bool → List Item → Digest
 digest h items = fold taken_in (empty_digest h) items
-
--- ---- binders: a set that several names share stands once for each
-
-abbrev pub spread : List ℕ → List Expr → List Expr
-spread [] es = []
-spread (c ∷ cs) [] = []
-spread (c ∷ cs) (e ∷ es) = repeat (max c 1) (e ∷ []) ++ spread cs es
 
 -- ---- forms
 
@@ -255,16 +257,15 @@ binder_op Choice s b = Some (op.Outside Choose)
 binder_op Quantifier s b = Some (quantifier_op s b)
 binder_op _ s b = None
 
--- the sets come first, and then the body, which a mapping has at its front
-abbrev pub mapped_last : List ℕ → List Expr → List Expr
-mapped_last [] es = es
-mapped_last (c ∷ cs) [] = []
-mapped_last (c ∷ cs) (e ∷ es) = spread cs es ++ (e ∷ [])
+-- the first at the end
+abbrev pub rotated : List Expr → List Expr
+rotated [] = []
+rotated (e ∷ es) = es ++ (e ∷ [])
 
-unfoldable pub binder_args : Construct → Bool → List ℕ → List Expr → List Expr
-binder_args Mapping b cs es = mapped_last cs es
-binder_args Quantifier false cs es = es
-binder_args _ b cs es = spread cs es
+-- the sets come first, and then the body, which a mapping has at its front
+unfoldable pub binder_args : Construct → List Expr → List Expr
+binder_args Mapping es = rotated es
+binder_args _ es = es
 
 -- several indexes are a tuple
 abbrev pub index_of : Place → List Expr → Expr
@@ -318,7 +319,7 @@ abbrev pub other_tree : Construct → Digest → Expr
 other_tree c d = cond (is_fairness c) (fair_tree d (reverse d.operands)) (led c d d.operands)
 
 abbrev pub binder_tree : Construct → Option Op → Digest → Expr
-binder_tree c (Some o) d = node d.place o d.names (binder_args c d.bounded d.counts d.operands)
+binder_tree c (Some o) d = node d.place o d.names (binder_args c d.operands)
 binder_tree c None d = other_tree c d
 
 abbrev pub plain_tree : Construct → Option Op → Digest → Expr
@@ -371,7 +372,7 @@ except_tree items = update_node (fold updated no_updates items)
 -- ---- what stands before `==`
 
 unfoldable pub no_head : Head
-no_head = record { named = false; name = []; place = nowhere; note = []; names = []; function = false; function_place = nowhere; inside = false; sets = []; counts = []; pending = 0 }
+no_head = record { named = false; name = []; place = nowhere; note = []; names = []; function = false; function_place = nowhere; inside = false; sets = []; pending = 0 }
 
 abbrev pub head_name : Option (List ℕ) → Token → Head → Head
 head_name None t h = h
@@ -385,11 +386,11 @@ head_token RightBracket t h = record h { inside = false }
 head_token _ t h = head_name (name_of t.kind) t h
 
 abbrev pub head_set : Expr → Head → Head
-head_set e h = record h { sets = h.sets ++ (e ∷ []); counts = h.counts ++ (h.pending ∷ []); pending = 0 }
+head_set e h = record h { sets = h.sets ++ replicate (max h.pending 1) e; pending = 0 }
 
 -- `f[x \in S] == e` is `f == [x \in S |-> e]`
 abbrev pub head_body : Head → Expr → Expr
-head_body h e = cond h.function (node h.function_place op.Lambda h.names (spread h.counts h.sets ++ (e ∷ []))) e
+head_body h e = cond h.function (node h.function_place op.Lambda h.names (h.sets ++ (e ∷ []))) e
 
 abbrev pub head_params : Head → List (List ℕ)
 head_params h = cond h.function [] h.names

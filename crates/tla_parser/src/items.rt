@@ -11,15 +11,14 @@ pub enum Item {
     Tree(Expr),
 }
 
-/// What a form has: its first token, its names, its operands, and how many names stand directly before each operand.
+/// What a form has: its first token, its names and its operands, each set once for each name that it is the set of.
 #[derive(Drop)]
 pub struct Digest {
     pub first: Sign,
     pub place: Place,
     pub names: List<Text>,
     pub operands: List<Expr>,
-    pub counts: List<usize>,
-    /// How many names stand behind the last operand.
+    /// How many names wait for their set.
     pub pending: usize,
     /// Whether an `\in` stands among the tokens.
     pub bounded: bool,
@@ -77,7 +76,8 @@ pub struct Head {
     pub function_place: Place,
     /// Whether the brackets of a function are open.
     pub inside: bool,
+    /// A set for each of the names.
     pub sets: List<Expr>,
-    pub counts: List<usize>,
+    /// How many names wait for their set.
     pub pending: usize,
 }

@@ -1,7 +1,9 @@
 //! The tree of an expression: what its tokens spell. (Lamport, Specifying Systems, chapters 15 and 16.)
 #![tactic(auto)]
 
+mod binders;
 mod copies;
+mod digests;
 mod items;
 mod looks;
 mod moves;

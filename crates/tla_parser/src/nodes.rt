@@ -1,8 +1,7 @@
 // Nodes of trees, and what operators make of their operands.
 ghost use Rattle.std.specs.Prelude.{◌≡◌, ◌++◌, ◌∷◌, [], IfOk, max, MatchOption, OnOk};
-ghost use Rattle.std.specs.List.{repeat};
 ghost use Rattle.tla_meaning.specs.declared.expr.Expr.{out-Expr};
-ghost use Rattle.tla_parser.specs.Trees.{first_tree, grown, index_of, infix_node, infix_op, leaf, name_of, node, prefix_node, prefix_op, spread};
+ghost use Rattle.tla_parser.specs.Trees.{first_tree, grown, index_of, infix_node, infix_op, leaf, name_of, node, prefix_node, prefix_op, rotated};
 
 use crate::looks::look;
 use crate::signs::Sign;
@@ -183,4 +182,14 @@ pub(crate) fn first_and_rest(items: List<Expr>) -> Option<(Expr, List<Expr>)>
     }
     let first = items.remove(0);
     Some((first, List::from_vec(items)))
+}
+
+/// The first item at the end.
+pub(crate) fn rotated(alloc: Global, items: List<Expr>) -> Result<List<Expr>, AllocError>
+    ensures { IfOk result (λ es. es ≡ rotated items) }
+{
+    match first_and_rest(items) {
+        None => Ok(List::new(alloc)),
+        Some((first, rest)) => added(rest, first),
+    }
 }

@@ -1,0 +1,156 @@
+// What a form has, part by part.
+ghost use Rattle.std.specs.Prelude.{◌≡◌, fold, IfOk, OnOk};
+ghost use Rattle.tla_meaning.specs.declared.expr.Expr.{out-Expr};
+ghost use Rattle.tla_parser.specs.Signs.{sign};
+ghost use Rattle.tla_parser.specs.Trees.{before_subscript, digest, empty_digest, is_colon, is_element, is_stray, taken_in, with_bound, with_colon, with_first, with_head, with_member, with_name, name_of, with_operand, with_subscript, with_tree, used_name};
+
+use crate::binders::{Copies, repeated};
+use crate::items::{Digest, Item};
+use crate::looks::look;
+use crate::nodes::{NOWHERE, added};
+use crate::signs::Sign;
+use std::alloc::{AllocError, Global};
+use tla_lexer::{Token, TokenKind};
+use tla_meaning::{Expr, Op, Place};
+use tla_values::{List, Text, copy_text};
+
+#[tactic(auto, unfolding(crate::specs::Trees::is_stray))]
+fn is_stray(sign: Sign) -> bool
+    ensures { result ≡ is_stray sign }
+{
+    match sign {
+        Sign::Stray => true,
+        _ => false,
+    }
+}
+
+#[tactic(auto, unfolding(crate::specs::Trees::is_element))]
+fn is_element(sign: Sign) -> bool
+    ensures { result ≡ is_element sign }
+{
+    match sign {
+        Sign::Element => true,
+        _ => false,
+    }
+}
+
+#[tactic(auto, unfolding(crate::specs::Trees::is_colon))]
+fn is_colon(sign: Sign) -> bool
+    ensures { result ≡ is_colon sign }
+{
+    match sign {
+        Sign::Colon => true,
+        _ => false,
+    }
+}
+
+#[tactic(auto, unfolding(crate::specs::Trees::before_subscript))]
+fn before_subscript(sign: Sign) -> bool
+    ensures { result ≡ before_subscript sign }
+{
+    match sign {
+        Sign::BracketSub | Sign::AngleSub | Sign::FairWord => true,
+        _ => false,
+    }
+}
+
+/// The name that a token is.
+pub(crate) fn name_of(kind: TokenKind) -> Option<Text>
+    ensures { result ≡ name_of kind }
+{
+    match kind {
+        TokenKind::Name(name) => Some(name),
+        _ => None,
+    }
+}
+
+#[tactic(auto, unfolding(crate::specs::Trees::empty_digest))]
+fn empty_digest(alloc: Global, heads: bool) -> Digest
+    ensures { result ≡ empty_digest heads }
+{
+    Digest {
+        first: Sign::Stray,
+        place: NOWHERE,
+        names: List::new(alloc),
+        operands: List::new(alloc),
+        pending: 0,
+        bounded: false,
+        subscript: Sign::Stray,
+        subscript_place: NOWHERE,
+        opens_subscript: false,
+        heads,
+    }
+}
+
+fn with_first(digest: Digest, sign: Sign, place: Place) -> Digest
+    ensures { result ≡ with_first sign place digest }
+{
+    let mut digest = digest;
+    if is_stray(digest.first) {
+        digest.first = sign;
+        digest.place = place;
+    }
+    digest
+}
+
+fn with_subscript(digest: Digest, sign: Sign, place: Place) -> Digest
+    ensures { result ≡ with_subscript sign place digest }
+{
+    let mut digest = digest;
+    if digest.opens_subscript {
+        digest.subscript = sign;
+        digest.subscript_place = place;
+    }
+    digest.opens_subscript = before_subscript(sign);
+    digest
+}
+
+fn with_bound(digest: Digest, sign: Sign) -> Digest
+    ensures { result ≡ with_bound sign digest }
+{
+    let mut digest = digest;
+    if is_element(sign) {
+        digest.bounded = true;
+    }
+    digest
+}
+
+fn with_colon(digest: Digest, sign: Sign) -> Digest
+    ensures { result ≡ with_colon sign digest }
+{
+    let mut digest = digest;
+    if is_colon(sign) {
+        digest.pending = 0;
+    }
+    digest
+}
+
+fn with_name(digest: Digest, name: Option<Text>) -> Result<Digest, AllocError>
+    ensures { IfOk result (λ d. d ≡ with_name name digest) }
+{
+    let mut digest = digest;
+    match name {
+        None => Ok(digest),
+        Some(name) => {
+            digest.pending = digest.pending.checked_add(1).ok_or(AllocError)?;
+            digest.names = added(digest.names, name)?;
+            Ok(digest)
+        }
+    }
+}
+
+fn with_operand(
+    copies: &mut Copies,
+    alloc: Global,
+    digest: Digest,
+    operand: Expr,
+) -> Result<Digest, AllocError>
+    ensures { IfOk result (λ d. d ≡ with_operand operand digest) }
+{
+    let mut digest = digest;
+    let mut operands = digest.operands.into_vec();
+    repeated(alloc, copies, digest.pending, operand, &mut operands)?;
+    digest.operands = List::from_vec(operands);
+    digest.pending = 0;
+    Ok(digest)
+}
