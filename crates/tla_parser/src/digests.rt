@@ -1,8 +1,8 @@
 // What a form has, part by part.
-ghost use Rattle.std.specs.Prelude.{◌≡◌, fold, IfOk, OnOk};
+ghost use Rattle.std.specs.Prelude.{◌≡◌, fold, reverse, IfOk};
 ghost use Rattle.tla_meaning.specs.declared.expr.Expr.{out-Expr};
-ghost use Rattle.tla_parser.specs.Signs.{sign};
-ghost use Rattle.tla_parser.specs.Trees.{before_subscript, digest, empty_digest, is_colon, is_element, is_stray, taken_in, with_bound, with_colon, with_first, with_head, with_member, with_name, name_of, with_operand, with_subscript, with_tree, used_name};
+ghost use Rattle.tla_parser.specs.declared.items.Item.TheVariants.{Piece};
+ghost use Rattle.tla_parser.specs.Trees.{before_subscript, digest, empty_digest, is_colon, is_element, is_stray, taken_in, with_bound, with_colon, with_first, with_head, with_members, with_name, name_of, with_operand, with_subscript, with_tree, used_name};
 
 use crate::binders::{Copies, repeated};
 use crate::items::{Digest, Item};
@@ -153,4 +153,126 @@ fn with_operand(
     digest.operands = List::from_vec(operands);
     digest.pending = 0;
     Ok(digest)
+}
+
+// The name that a use is of.
+fn used_name(e: Expr) -> Option<Text>
+    ensures { result ≡ used_name (out-Expr e).op }
+{
+    let Expr {
+        place: _,
+        op,
+        args: _,
+        binds: _,
+    } = e;
+    match op {
+        Op::Use(name) => Some(name),
+        _ => None,
+    }
+}
+
+// Takes in `x \in S`, of which the form binds x.
+fn with_members(
+    copies: &mut Copies,
+    alloc: Global,
+    digest: Digest,
+    args: List<Expr>,
+) -> Result<Digest, AllocError>
+    ensures { IfOk result (λ d. d ≡ with_members (reverse args) digest) }
+{
+    let mut args = args.into_vec();
+    match (args.pop(), args.pop()) {
+        (Some(set), Some(name)) => match used_name(name) {
+            Some(name) => {
+                let digest = with_name(digest, Some(name))?;
+                with_operand(copies, alloc, digest, set)
+            }
+            None => Ok(digest),
+        },
+        _ => Ok(digest),
+    }
+}
+
+// Takes in the first operand of a form that binds it.
+fn with_head(
+    copies: &mut Copies,
+    alloc: Global,
+    digest: Digest,
+    e: Expr,
+) -> Result<Digest, AllocError>
+    ensures { IfOk result (λ d. d ≡ with_head (out-Expr e).op (out-Expr e).args digest) }
+{
+    let Expr {
+        place: _,
+        op,
+        args,
+        binds: _,
+    } = e;
+    match op {
+        Op::Use(name) => with_name(digest, Some(name)),
+        Op::In => with_members(copies, alloc, digest, args),
+        _ => Ok(digest),
+    }
+}
+
+fn with_tree(
+    copies: &mut Copies,
+    alloc: Global,
+    digest: Digest,
+    e: Expr,
+) -> Result<Digest, AllocError>
+    ensures { IfOk result (λ d. d ≡ with_tree e digest) }
+{
+    let mut digest = digest;
+    if digest.heads {
+        digest.heads = false;
+        return with_head(copies, alloc, digest, e);
+    }
+    with_operand(copies, alloc, digest, e)
+}
+
+fn with_token(digest: Digest, token: Token) -> Result<Digest, AllocError>
+    ensures { IfOk result (λ d. d ≡ taken_in digest (Piece token)) }
+{
+    let sign = look(&token).sign;
+    let Token {
+        kind,
+        place,
+        notes: _,
+    } = token;
+    let digest = with_first(digest, sign, place);
+    let digest = with_subscript(digest, sign, place);
+    let digest = with_bound(digest, sign);
+    let digest = with_colon(digest, sign);
+    with_name(digest, name_of(kind))
+}
+
+fn taken_in(
+    copies: &mut Copies,
+    alloc: Global,
+    digest: Digest,
+    item: Item,
+) -> Result<Digest, AllocError>
+    ensures { IfOk result (λ d. d ≡ taken_in digest item) }
+{
+    match item {
+        Item::Piece(token) => with_token(digest, token),
+        Item::Tree(e) => with_tree(copies, alloc, digest, e),
+    }
+}
+
+/// What the form of these parts has.
+pub(crate) fn digest(
+    copies: &mut Copies,
+    alloc: Global,
+    heads: bool,
+    items: Vec<Item>,
+) -> Result<Digest, AllocError>
+    ensures { IfOk result (λ d. d ≡ digest heads items.items) }
+{
+    let mut found = empty_digest(alloc, heads);
+    for item in items {
+        found = taken_in(copies, alloc, found, item)?;
+    }
+    Ok(found)
 }
