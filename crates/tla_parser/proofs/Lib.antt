@@ -5,3 +5,4 @@ pub mod Machine
 pub mod Complete
 pub mod Sound
 pub mod Image
+pub mod Built

@@ -10,7 +10,6 @@ use Rattle.tla_parser.specs.declared.moves.Next.{Next}
 use Rattle.tla_parser.specs.declared.moves.Next.TheVariants.{Fail, Last, Reads, Shut, Wants}
 use Rattle.tla_parser.specs.inner.Derivations.{Parts, ahead, class, delta, exp, from, given, is_last, is_shut, of_module, point, resumed, start, tok, top}
 use Rattle.tla_parser.specs.inner.Moves.{in_units}
-
 -- @end
 
 resumed_stays : (b : Bool) (n : Next) → stays_in b n ≡ true → stays_at b (resumed n) ≡ true
@@ -58,28 +57,28 @@ mutual
   ahead_stays (tok ps t) = moves_stay (of_module ps) (point ps) t (point_stays ps)
   ahead_stays (exp ps w) = fails (of_module ps)
 
-shut_form : (b : Bool) (n : Next) → stays_in b n ≡ true → is_shut n ≡ true → b ≡ false
-shut_form true (Shut f) h k = cc
-shut_form true (Reads m) h k = cc
-shut_form true (Wants m) h k = cc
-shut_form true (Last m) h k = cc
-shut_form true Fail h k = cc
-shut_form false n h k = refl
+shuts_it : (b : Bool) (n : Next) → stays_in b n ≡ true → is_shut n ≡ true → b ≡ false
+shuts_it true (Shut f) h k = cc
+shuts_it true (Reads m) h k = cc
+shuts_it true (Wants m) h k = cc
+shuts_it true (Last m) h k = cc
+shuts_it true Fail h k = cc
+shuts_it false n h k = refl
 
-last_form : (b : Bool) (n : Next) → stays_in b n ≡ true → is_last n ≡ true → b ≡ false
-last_form true (Last f) h k = cc
-last_form true (Reads m) h k = cc
-last_form true (Wants m) h k = cc
-last_form true (Shut m) h k = cc
-last_form true Fail h k = cc
-last_form false n h k = refl
+lasts_it : (b : Bool) (n : Next) → stays_in b n ≡ true → is_last n ≡ true → b ≡ false
+lasts_it true (Last f) h k = cc
+lasts_it true (Reads m) h k = cc
+lasts_it true (Wants m) h k = cc
+lasts_it true (Shut m) h k = cc
+lasts_it true Fail h k = cc
+lasts_it false n h k = refl
 
 -- parts that make an expression are no module's
 pub shut_parts : (ps : Parts) → is_shut (ahead ps) ≡ true → of_module ps ≡ false
-shut_parts ps h = shut_form (of_module ps) (ahead ps) (ahead_stays ps) h
+shut_parts ps h = shuts_it (of_module ps) (ahead ps) (ahead_stays ps) h
 
 pub last_parts : (ps : Parts) → is_last (ahead ps) ≡ true → of_module ps ≡ false
-last_parts ps h = last_form (of_module ps) (ahead ps) (ahead_stays ps) h
+last_parts ps h = lasts_it (of_module ps) (ahead ps) (ahead_stays ps) h
 
 finished_form : (b : Bool) → stays_in b (Reads Finished) ≡ true → b ≡ true
 unfolding in_units

@@ -1,4 +1,5 @@
 pub mod Operators
 pub mod Signs
 pub mod Trees
+pub mod Spelling
 pub mod inner

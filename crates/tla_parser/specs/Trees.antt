@@ -26,8 +26,6 @@ use Rattle.tla_parser.specs.declared.moves.Construct.TheVariants.{Application, B
 use Rattle.tla_parser.specs.declared.signs.Sign.{Sign}
 use Rattle.tla_parser.specs.declared.signs.Sign.TheVariants.{AngleSub, Assigns, AtLeast, AtMost, BracketSub, Circle, Colon, Dash, Diamond, Difference, Differs, DomainWord, Dot, Dots, DoubleArrow, Element, EnabledWord, Equals, Equivalence, ExistsSign, FairWord, ForallSign, Greater, InWord, Included, Intersection, LeadsTo, LeftAngle, LeftBracket, LeftParen, Less, LetWord, NotElement, Overrides, Pairs, Percent, Plus, Quotient, RightBracket, Square, Star, Stray, SubsetWord, Tilde, Times, UnchangedWord, UnionSign, UnionWord, Vee, Wedge}
 use Rattle.tla_parser.specs.inner.Moves.{heads}
-use Rattle.tla_parser.specs.inner.Recognition.{op}
-
 -- @end
 
 abbrev pub node : Place → Op → List (List ℕ) → List Expr → Expr
@@ -182,7 +180,7 @@ taken_in d (Piece t) =
 taken_in d (Tree e) = with_tree e d
 
 abbrev pub digest : Bool → List Item → Digest
-digest h items = fold taken_in (empty_digest h) items
+digest h its = fold taken_in (empty_digest h) its
 
 -- ---- forms
 
@@ -225,24 +223,43 @@ first_name [] = []
 first_name (x ∷ xs) = x
 
 -- forms whose tree has their operands as they are written
-unfoldable pub plain_op : Construct → Sign → List (List ℕ) → Option Op
-plain_op TrueLiteral s names = Some (op.Bool true)
-plain_op FalseLiteral s names = Some (op.Bool false)
-plain_op Booleans s names = Some op.BooleanSet
-plain_op Strings s names = Some op.StringSet
-plain_op OldValue s names = Some (op.Bound (codes "@"))
-plain_op Enumeration s names = Some op.SetEnum
-plain_op FunctionSet s names = Some op.FunSet
-plain_op TupleValue s names = Some op.Tuple
-plain_op Conditional s names = Some op.If
-plain_op Cases s names = Some (op.Case false)
-plain_op CasesOther s names = Some (op.Case true)
-plain_op Primed s names = Some op.Prime
-plain_op Junction s names = Some (junction_op s)
-plain_op RecordValue s names = Some (op.Record names)
-plain_op RecordSet s names = Some (op.RecSet names)
-plain_op FieldAccess s names = Some (op.Field (first_name names))
-plain_op _ s names = None
+unfoldable pub is_plain : Construct → Bool
+is_plain TrueLiteral = true
+is_plain FalseLiteral = true
+is_plain Booleans = true
+is_plain Strings = true
+is_plain OldValue = true
+is_plain Enumeration = true
+is_plain FunctionSet = true
+is_plain TupleValue = true
+is_plain Conditional = true
+is_plain Cases = true
+is_plain CasesOther = true
+is_plain Primed = true
+is_plain Junction = true
+is_plain RecordValue = true
+is_plain RecordSet = true
+is_plain FieldAccess = true
+is_plain _ = false
+
+unfoldable pub plain_op : Construct → Sign → List (List ℕ) → Op
+plain_op TrueLiteral s names = op.Bool true
+plain_op FalseLiteral s names = op.Bool false
+plain_op Booleans s names = op.BooleanSet
+plain_op Strings s names = op.StringSet
+plain_op OldValue s names = op.Bound (codes "@")
+plain_op Enumeration s names = op.SetEnum
+plain_op FunctionSet s names = op.FunSet
+plain_op TupleValue s names = op.Tuple
+plain_op Conditional s names = op.If
+plain_op Cases s names = op.Case false
+plain_op CasesOther s names = op.Case true
+plain_op Primed s names = op.Prime
+plain_op Junction s names = junction_op s
+plain_op RecordValue s names = op.Record names
+plain_op RecordSet s names = op.RecSet names
+plain_op FieldAccess s names = op.Field (first_name names)
+plain_op _ s names = op.Tuple
 
 unfoldable pub quantifier_op : Sign → Bool → Op
 quantifier_op ForallSign true = op.Forall
@@ -309,7 +326,7 @@ fair_tree d (a ∷ es) =
 
 abbrev pub led : Construct → Digest → List Expr → Expr
 led c d [] = leaf d.place op.Tuple
-led c d (e ∷ es) = led_tree c d e es
+led c d (e ∷ es) = led_tree c (record d { operands = [] }) e es
 
 unfoldable pub is_fairness : Construct → Bool
 is_fairness Fairness = true
@@ -322,12 +339,9 @@ abbrev pub binder_tree : Construct → Option Op → Digest → Expr
 binder_tree c (Some o) d = node d.place o d.names (binder_args c d.operands)
 binder_tree c None d = other_tree c d
 
-abbrev pub plain_tree : Construct → Option Op → Digest → Expr
-plain_tree c (Some o) d = node d.place o [] d.operands
-plain_tree c None d = binder_tree c (binder_op c d.first d.bounded) d
-
 abbrev pub digested : Construct → Digest → Expr
-digested c d = plain_tree c (plain_op c d.first d.names) d
+digested c d =
+    cond (is_plain c) (node d.place (plain_op c d.first d.names) [] d.operands) (binder_tree c (binder_op c d.first d.bounded) d)
 
 -- ---- EXCEPT
 
@@ -367,7 +381,7 @@ abbrev pub update_node : Updates → Expr
 update_node u = node u.place (op.Except u.counts) (codes "@" ∷ []) u.operands
 
 abbrev pub except_tree : List Item → Expr
-except_tree items = update_node (fold updated no_updates items)
+except_tree its = update_node (fold updated no_updates its)
 
 -- ---- what stands before `==`
 
@@ -425,7 +439,7 @@ abbrev pub local_node : Locals → Expr
 local_node l = node l.place (op.Let l.lets) l.binds l.bodies
 
 abbrev pub let_tree : List Item → Expr
-let_tree items = local_node (fold localized no_locals items)
+let_tree its = local_node (fold localized no_locals its)
 
 -- ---- the tree of a form
 
@@ -438,7 +452,7 @@ is_local Local = true
 is_local _ = false
 
 abbrev pub build : Construct → List Item → Expr
-build c items =
-    cond (is_leaf c) (leaf_tree items)
-    (cond (is_exception c) (except_tree items)
-    (cond (is_local c) (let_tree items) (digested c (digest (binds_head c) items))))
+build c its =
+    cond (is_leaf c) (leaf_tree its)
+    (cond (is_exception c) (except_tree its)
+    (cond (is_local c) (let_tree its) (digested c (digest (binds_head c) its))))

@@ -1,3 +1,4 @@
 pub mod Moves
 pub mod Derivations
 pub mod Recognition
+pub mod Building

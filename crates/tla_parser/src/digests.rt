@@ -2,7 +2,7 @@
 ghost use Rattle.std.specs.Prelude.{◌≡◌, fold, reverse, IfOk};
 ghost use Rattle.tla_meaning.specs.declared.expr.Expr.{out-Expr};
 ghost use Rattle.tla_parser.specs.declared.items.Item.TheVariants.{Piece};
-ghost use Rattle.tla_parser.specs.Trees.{before_subscript, digest, empty_digest, is_colon, is_element, is_stray, taken_in, with_bound, with_colon, with_first, with_head, with_members, with_name, name_of, with_operand, with_subscript, with_tree, used_name};
+ghost use Rattle.tla_parser.specs.Trees.{before_subscript, digest, empty_digest, is_colon, is_element, is_stray, taken_in, with_bound, with_colon, with_first, with_head, with_member, with_members, with_name, name_of, with_operand, with_subscript, with_tree, used_name};
 
 use crate::binders::{Copies, repeated};
 use crate::items::{Digest, Item};
@@ -172,6 +172,24 @@ fn used_name(e: Expr) -> Option<Text>
 }
 
 // Takes in `x \in S`, of which the form binds x.
+fn with_member(
+    copies: &mut Copies,
+    alloc: Global,
+    digest: Digest,
+    name: Option<Text>,
+    set: Expr,
+) -> Result<Digest, AllocError>
+    ensures { IfOk result (λ d. d ≡ with_member name set digest) }
+{
+    match name {
+        Some(name) => {
+            let digest = with_name(digest, Some(name))?;
+            with_operand(copies, alloc, digest, set)
+        }
+        None => Ok(digest),
+    }
+}
+
 fn with_members(
     copies: &mut Copies,
     alloc: Global,
@@ -181,16 +199,13 @@ fn with_members(
     ensures { IfOk result (λ d. d ≡ with_members (reverse args) digest) }
 {
     let mut args = args.into_vec();
-    match (args.pop(), args.pop()) {
-        (Some(set), Some(name)) => match used_name(name) {
-            Some(name) => {
-                let digest = with_name(digest, Some(name))?;
-                with_operand(copies, alloc, digest, set)
-            }
-            None => Ok(digest),
-        },
-        _ => Ok(digest),
-    }
+    let Some(set) = args.pop() else {
+        return Ok(digest);
+    };
+    let Some(name) = args.pop() else {
+        return Ok(digest);
+    };
+    with_member(copies, alloc, digest, used_name(name), set)
 }
 
 // Takes in the first operand of a form that binds it.

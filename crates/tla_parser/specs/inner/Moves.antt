@@ -3,7 +3,7 @@
 -- @begin
 use Rattle.std.specs.Prelude.{ℕ, Bool, true, false, cond, List, ◌∷◌, ◌&&◌, ◌==◌, []}
 use Rattle.tla_parser.specs.Operators.{is_bullet, same_sign}
-use Rattle.tla_parser.specs.Signs.{column, sign}
+use Rattle.tla_parser.specs.Signs.{sign}
 use Rattle.tla_parser.specs.declared.moves.Class.{Class}
 use Rattle.tla_parser.specs.declared.moves.Class.TheVariants.{BareName, FoldName, Joined, Member, Other, PathName}
 use Rattle.tla_parser.specs.declared.moves.Construct.{Construct}
@@ -15,7 +15,6 @@ use Rattle.tla_parser.specs.declared.moves.Next.TheVariants.{Fail, Last, Reads, 
 use Rattle.tla_parser.specs.declared.moves.Seen.{Seen}
 use Rattle.tla_parser.specs.declared.signs.Sign.{Sign}
 use Rattle.tla_parser.specs.declared.signs.Sign.TheVariants.{AngleSub, Arrow, AssumeWord, At, Bang, BooleanWord, BracketSub, CaseWord, ChooseWord, Colon, Comma, ConstantWord, Dashes, Defines, Dot, Element, ElseWord, EndSign, Equals, ExceptWord, ExistsSign, ExtendsWord, FairWord, FalseWord, FoldWord, ForallSign, IfWord, InWord, InstanceWord, LambdaWord, LeftAngle, LeftBrace, LeftBracket, LeftParen, LetWord, LocalWord, MapsTo, ModuleWord, Number, OtherWord, Quotation, RecursiveWord, Replaces, RightAngle, RightBrace, RightBracket, RightParen, Square, StringWord, ThenWord, TheoremWord, Tick, Times, TrueWord, Underscore, VariableWord, Vee, Wedge, WithWord, Word}
-
 -- @end
 
 -- what one sign leads to
