@@ -7,7 +7,7 @@ use Rattle.tla_parser.specs.declared.items.Item.{Item}
 use Rattle.tla_parser.specs.declared.items.Item.TheVariants.{Piece, Tree}
 -- @imports
 -- @begin
-use Rattle.std.proofs.Common.{ℕ, List, Option, Some, length, reverse, refl, sym, ap, arith, le-leb, ◌≡◌, ◌+◌, ◌∷◌, ◌++◌, ◌∙◌, []}
+use Rattle.std.proofs.Common.{ℕ, List, Option, Some, length, reverse, refl, sym, ap, arith, le-leb, ◌≡◌, ◌+◌, ◌-◌, ◌≤◌, ◌∷◌, ◌++◌, ◌∙◌, []}
 use Rattle.tla_parser.specs.Signs.{sign}
 use Rattle.tla_parser.specs.Spelling.{items, tree}
 use Rattle.tla_parser.specs.Trees.{build}
@@ -16,6 +16,7 @@ use Rattle.tla_parser.specs.declared.open.Code.{Code}
 use Rattle.tla_parser.specs.declared.open.Code.TheVariants.{Close, Infix, Part, Prefix}
 use Rattle.tla_parser.specs.inner.Building.{made, made_on, shut_form}
 use Rattle.tla_parser.specs.inner.Derivations.{Parts, Written, ahead, bin, class, closed, continues, exp, form_of, from, parts, post, posts, pre, start, tailed, tok, top}
+
 -- @end
 
 made_append : (xs ys : List Code) (o : Option (List Item)) → made (xs ++ ys) o ≡ made ys (made xs o)
@@ -65,14 +66,15 @@ mutual
       ∙ close_made (form_of (ahead ps)) (parts ps) s (items ps) (counted ps)
   post_made (tailed ps w) s =
       made_then (posts ps ++ post w) (Close (form_of (ahead ps)) (parts ps + 1) ∷ []) s (Tree (tree w) ∷ (reverse (items ps) ++ s))
-        (made_then (posts ps) (post w) s (reverse (items ps) ++ s) (posts_made ps s) ∙ post_made w (reverse (items ps) ++ s))
+      (made_then (posts ps) (post w) s (reverse (items ps) ++ s) (posts_made ps s) ∙ post_made w (reverse (items ps) ++ s))
       ∙ ap (λ (r : List Item). made (Close (form_of (ahead ps)) (parts ps + 1) ∷ []) (Some r)) (one_more_made (items ps) (Tree (tree w)) s)
       ∙ close_made (form_of (ahead ps)) (parts ps + 1) s (items ps ++ (Tree (tree w) ∷ []))
-          (length-append (items ps) (Tree (tree w) ∷ []) ∙ ap (λ (n : ℕ). n + 1) (counted ps))
+      (length-append (items ps) (Tree (tree w) ∷ []) ∙ ap (λ (n : ℕ). n + 1) (counted ps))
   post_made (pre p w) s = made_then (post w) (Prefix p ∷ []) s (Tree (tree w) ∷ s) (post_made w s)
   post_made (bin a t b) s =
       made_then (post a ++ post b) (Infix t (continues (class a) (sign t)) ∷ []) s (Tree (tree b) ∷ (Tree (tree a) ∷ s))
-        (made_then (post a) (post b) s (Tree (tree a) ∷ s) (post_made a s) ∙ post_made b (Tree (tree a) ∷ s))
+      (made_then (post a) (post b) s (Tree (tree a) ∷ s) (post_made a s) ∙ post_made b (Tree (tree a) ∷ s))
+
   pub posts_made : (ps : Parts) (s : List Item) → made (posts ps) (Some s) ≡ Some (reverse (items ps) ++ s)
   posts_made start s = refl
   posts_made top s = refl
@@ -84,3 +86,18 @@ mutual
       made_then (posts ps) (post w) s (reverse (items ps) ++ s) (posts_made ps s)
       ∙ post_made w (reverse (items ps) ++ s)
       ∙ ap (λ (r : List Item). Some r) (one_more_made (items ps) (Tree (tree w)) s)
+
+pub made_next : (xs : List Code) (x : Code) (o : Option (List Item)) → made (xs ++ (x ∷ [])) o ≡ made_on x (made xs o)
+made_next xs x o = made_append xs (x ∷ []) o
+
+-- the parts at the end of a list make a form
+pub shut_end : (c : Construct) (n : ℕ) (s : List Item) → n ≤ length s → shut_form c n (reverse s) ≡ Some (Tree (build c (drop (length s - n) s)) ∷ reverse (take (length s - n) s))
+shut_end c n s h =
+    ap (shut_form c n) (ap reverse (sym (take-append-drop (length s - n) s)) ∙ reverse-append (take (length s - n) s) (drop (length s - n) s))
+    ∙ shut_split c n (reverse (take (length s - n) s)) (drop (length s - n) s) (length-drop (length s - n) s ∙ omega arith)
+
+pub shut_made : (c : Construct) (n k : ℕ) (s new rest back : List Item) (e : Expr) → n ≤ length s → k ≡ length s - n → back ≡ drop k s → rest ≡ take k s → e ≡ build c back → new ≡ rest ++ (Tree e ∷ []) → shut_form c n (reverse s) ≡ Some (reverse new)
+shut_made c n k s new rest back e h i b r q w =
+    shut_end c n s h
+    ∙ ap (λ (m : ℕ). Some (Tree (build c (drop m s)) ∷ reverse (take m s))) (sym i)
+    ∙ rw (← b, ← r, ← q) (ap (λ (xs : List Item). Some xs) (sym (reverse-append rest (Tree e ∷ [])) ∙ ap reverse (sym w)))

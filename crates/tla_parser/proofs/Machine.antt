@@ -13,6 +13,7 @@ use Rattle.tla_parser.specs.declared.signs.Role.TheVariants.{InfixRole, NoRole, 
 use Rattle.tla_parser.specs.inner.Derivations.{Parts, Written, ahead, bin, class, closed, delta, exp, from, given, idle, inner, is_last, pre, start, tailed, tok, top}
 use Rattle.tla_parser.specs.inner.Moves.{is_finished}
 use Rattle.tla_parser.specs.inner.Recognition.{is_fail, op}
+
 -- @end
 
 pub data Frame : Type 0 where

@@ -2,4 +2,5 @@ pub mod Operators
 pub mod Signs
 pub mod Trees
 pub mod Spelling
+pub mod Modules
 pub mod inner

@@ -2,6 +2,7 @@
 #![tactic(auto)]
 
 mod binders;
+mod builder;
 mod copies;
 mod digests;
 mod items;
@@ -15,4 +16,5 @@ mod recognizer;
 mod rules;
 mod signs;
 mod trees;
+mod units;
 mod updates;
