@@ -17,7 +17,7 @@ use Rattle.tla_parser.specs.declared.units.Section.{Section}
 use Rattle.tla_parser.specs.declared.units.Section.TheVariants.{Outside, Naming, Extending, Declaring, Assuming, Stating, Defining, Instancing, Recurring}
 -- @imports
 -- @begin
-use Rattle.std.specs.Prelude.{ℕ, Bool, true, false, cond, not, List, Option, Some, None, ◌+◌, ◌∷◌, ◌++◌, ◌&&◌, []}
+use Rattle.std.specs.Prelude.{ℕ, Bool, true, false, cond, not, List, Option, Some, None, reverse, ◌+◌, ◌∷◌, ◌++◌, ◌&&◌, []}
 use Rattle.tla_parser.specs.Signs.{sign}
 use Rattle.tla_parser.specs.Trees.{head_body, head_params, head_set, head_token, name_of, no_head, nowhere}
 use Rattle.tla_parser.specs.declared.signs.Sign.{Sign}
@@ -65,7 +65,7 @@ is_outside _ = false
 abbrev pub flushed : Units → Units
 flushed u =
     cond (is_outside u.section) u
-    (record no_units { name = u.name; extends = u.extends; units = u.units ++ unit_of u.section u })
+    (record no_units { name = u.name; extends = u.extends; units = u.units ++ unit_of u.section (record u { name = []; extends = []; units = [] }) })
 
 abbrev pub opened_section : Section → Token → Units → Units
 opened_section s t u = record (flushed u) { section = s; expects = true; note = t.notes; place = t.place }
@@ -132,10 +132,12 @@ instance_token t u =
     (record (flushed u) { section = Instancing; expects = true; place = t.place })
 
 -- one more parameter of the last
+abbrev pub blank_first : List (List ℕ × ℕ) → List (List ℕ × ℕ)
+blank_first [] = []
+blank_first (r ∷ rs) = (r.0, r.1 + 1) ∷ rs
+
 abbrev pub with_blank : List (List ℕ × ℕ) → List (List ℕ × ℕ)
-with_blank [] = []
-with_blank (r ∷ []) = (r.0, r.1 + 1) ∷ []
-with_blank (r ∷ q ∷ rs) = r ∷ with_blank (q ∷ rs)
+with_blank rs = reverse (blank_first (reverse rs))
 
 -- ---- tokens and expressions
 

@@ -5,7 +5,8 @@ use std::alloc::{AllocError, Global};
 use tla_lexer::{Token, TokenKind};
 use tla_values::copy_text;
 
-fn copy_kind(alloc: Global, kind: &TokenKind) -> Result<TokenKind, AllocError>
+/// An equal kind.
+pub(crate) fn copy_kind(alloc: Global, kind: &TokenKind) -> Result<TokenKind, AllocError>
     ensures { IfOk result (λ k. k ≡ kind.now) }
 {
     match kind {

@@ -8,7 +8,7 @@ use crate::binders::{Copies, repeated};
 use crate::digests::name_of;
 use crate::items::{Head, Item, Locals};
 use crate::looks::look;
-use crate::nodes::{NOWHERE, added, node};
+use crate::nodes::{NOWHERE, added, joined, node};
 use crate::signs::Sign;
 use std::alloc::{AllocError, Global};
 use tla_lexer::Token;
@@ -156,17 +156,6 @@ fn local_token(locals: Locals, token: Token) -> Result<Locals, AllocError>
             Ok(locals)
         }
     }
-}
-
-// The names of the list, and those behind them.
-fn joined(first: List<Text>, second: List<Text>) -> Result<List<Text>, AllocError>
-    ensures { IfOk result (λ l. l ≡ first ++ second) }
-{
-    let mut names = first;
-    for name in second.into_vec() {
-        names = added(names, name)?;
-    }
-    Ok(names)
 }
 
 fn local_body(alloc: Global, locals: Locals, e: Expr) -> Result<Locals, AllocError>

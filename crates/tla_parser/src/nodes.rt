@@ -193,3 +193,16 @@ pub(crate) fn rotated(alloc: Global, items: List<Expr>) -> Result<List<Expr>, Al
         Some((first, rest)) => added(rest, first),
     }
 }
+
+/// The items of the first list, and then those of the second.
+pub(crate) fn joined<T>(first: List<T>, second: List<T>) -> Result<List<T>, AllocError>
+where
+    T: Drop,
+    ensures { IfOk result (λ l. l ≡ first ++ second) }
+{
+    let mut items = first;
+    for item in second.into_vec() {
+        items = added(items, item)?;
+    }
+    Ok(items)
+}
