@@ -6,3 +6,4 @@ pub mod Complete
 pub mod Sound
 pub mod Image
 pub mod Built
+pub mod Top

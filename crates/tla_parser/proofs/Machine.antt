@@ -11,9 +11,7 @@ use Rattle.tla_parser.specs.declared.moves.Next.TheVariants.{Fail, Last, Reads, 
 use Rattle.tla_parser.specs.declared.signs.Role.{Role}
 use Rattle.tla_parser.specs.declared.signs.Role.TheVariants.{InfixRole, NoRole, PostfixRole}
 use Rattle.tla_parser.specs.inner.Derivations.{Parts, Written, ahead, bin, class, closed, delta, exp, from, given, idle, inner, is_last, pre, start, tailed, tok, top}
-use Rattle.tla_parser.specs.inner.Moves.{is_finished}
-use Rattle.tla_parser.specs.inner.Recognition.{is_fail, op}
-
+use Rattle.tla_parser.specs.inner.Recognition.{ended_module, is_fail, op}
 -- @end
 
 pub data Frame : Type 0 where
@@ -99,13 +97,6 @@ whole w [] = Some w
 whole w (at_pre p ∷ s) = whole (pre p w) s
 whole w (at_bin a o ∷ s) = whole (bin a o w) s
 whole w (at_form ps ∷ s) = cond (is_last (ahead ps)) (whole (tailed ps w) s) None
-
-abbrev pub ended_module : Next → Bool
-ended_module (Reads m) = is_finished m
-ended_module (Wants m) = false
-ended_module (Last m) = false
-ended_module (Shut f) = false
-ended_module Fail = false
 
 abbrev pub answer : State → Option Written
 answer (have w s) = whole w s

@@ -6,8 +6,8 @@ use Rattle.std.proofs.Math.Dec.{ltb, leb}
 use Rattle.std.proofs.Common.{ℕ, Bool, true, false, not, max, List, Some, None, inl, inr, refl, sym, ap, subst, arith, append_assoc, append-nil, ltb-false, ltb-true, le-leb, leb-true, ◌≡◌, ◌<◌, ◌≤◌, ◌⊎◌, ◌∷◌, ◌++◌, ◌&&◌, ◌||◌, ◌∙◌, []}
 use Rattle.tla_parser.proofs.Basics.{From-append, From-less, and_both, either, or_cases}
 use Rattle.tla_parser.proofs.Complete.{again, module_again, side}
-use Rattle.tla_parser.proofs.Laws.{delta-off, is_failed, negated}
-use Rattle.tla_parser.proofs.Machine.{Frame, State, accepts, act, answer, at_bin, at_form, at_pre, behind, ended_module, enter, floor, fresh, have, heading, margin, module_of, parse_fn, parse_module, placed, pops, run, step, stuck, takes, want, wanted, whole}
+use Rattle.tla_parser.proofs.Laws.{clash, delta-off, is_failed, negated}
+use Rattle.tla_parser.proofs.Machine.{Frame, State, accepts, act, answer, at_bin, at_form, at_pre, behind, enter, floor, fresh, have, heading, margin, module_of, parse_fn, parse_module, placed, pops, run, step, stuck, takes, want, wanted, whole}
 use Rattle.tla_parser.proofs.Origins.{finished_parts}
 use Rattle.tla_parser.specs.Operators.{after, hi, is_prefix, lo, prefix_lo, same}
 use Rattle.tla_parser.specs.Signs.{column, sign}
@@ -19,8 +19,7 @@ use Rattle.tla_parser.specs.declared.signs.Role.{Role}
 use Rattle.tla_parser.specs.declared.signs.Role.TheVariants.{InfixRole, NoRole, PostfixRole}
 use Rattle.tla_parser.specs.inner.Derivations.{Above, AboveParts, Ends, Fine, From, Good, GoodParts, IsModule, Leaves, Parts, Written, ahead, bin, class, delta, exp, from, given, idle, inner, is_last, pre, start, tailed, tok, tokens, tokens_of, top}
 use Rattle.tla_parser.specs.inner.Moves.{is_finished, off}
-use Rattle.tla_parser.specs.inner.Recognition.{is_fail, op}
-
+use Rattle.tla_parser.specs.inner.Recognition.{ended_module, is_fail, op}
 -- @end
 
 abbrev pub ftokens : Frame → List Tok

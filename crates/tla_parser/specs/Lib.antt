@@ -3,4 +3,5 @@ pub mod Signs
 pub mod Trees
 pub mod Spelling
 pub mod Modules
+pub mod Grammar
 pub mod inner

@@ -365,15 +365,20 @@ fn named_token(alloc: Global, name: Text, token: Token, read: Units) -> Result<U
     begun_definition(alloc, token, read)
 }
 
-fn word_token(alloc: Global, token: Token, read: Units) -> Result<Units, AllocError>
-    ensures { IfOk result (λ u. u ≡ word_token (name_of token.kind) token read) }
+fn word_token(alloc: Global, name: Option<Text>, token: Token, read: Units) -> Result<Units, AllocError>
+    ensures { IfOk result (λ u. u ≡ word_token name token read) }
 {
-    let kind = copy_kind(alloc, &token.kind)?;
-    let name = name_of(kind);
     match name {
         Some(name) => named_token(alloc, name, token, read),
         None => Ok(read),
     }
+}
+
+fn word(alloc: Global, token: Token, read: Units) -> Result<Units, AllocError>
+    ensures { IfOk result (λ u. u ≡ word_token (name_of token.kind) token read) }
+{
+    let kind = copy_kind(alloc, &token.kind)?;
+    word_token(alloc, name_of(kind), token, read)
 }
 
 fn bracket_token(sign: Sign, token: Token, read: Units) -> Result<Units, AllocError>
@@ -437,7 +442,7 @@ fn unit_token(alloc: Global, token: Token, read: Units) -> Result<Units, AllocEr
         Sign::InstanceWord => instance_token(alloc, token, read),
         Sign::Defines => Ok(without_operand(read)),
         Sign::LeftBracket | Sign::RightBracket => bracket_token(sign, token, read),
-        Sign::Word => word_token(alloc, token, read),
+        Sign::Word => word(alloc, token, read),
         Sign::ModuleWord => Ok(in_section(Section::Naming, read)),
         Sign::ExtendsWord => Ok(expecting(in_section(Section::Extending, read))),
         Sign::Comma | Sign::WithWord => Ok(expecting(read)),

@@ -11,6 +11,7 @@ use Rattle.tla_parser.specs.declared.moves.Class.{Class}
 use Rattle.tla_parser.specs.declared.moves.Class.TheVariants.{Other}
 use Rattle.tla_parser.specs.declared.moves.Construct.{Construct}
 use Rattle.tla_parser.specs.declared.moves.Construct.TheVariants.{Instanced, Parenthesis}
+use Rattle.tla_parser.specs.declared.moves.Mark.TheVariants.{AtTop}
 use Rattle.tla_parser.specs.declared.moves.Next.{Next}
 use Rattle.tla_parser.specs.declared.moves.Next.TheVariants.{Fail, Last, Reads, Shut, Wants}
 use Rattle.tla_parser.specs.declared.open.Code.{Code}
@@ -24,8 +25,7 @@ use Rattle.tla_parser.specs.declared.open.Operand.{Operand}
 use Rattle.tla_parser.specs.declared.signs.Role.{Role}
 use Rattle.tla_parser.specs.declared.signs.Role.TheVariants.{InfixRole, NoRole, PostfixRole}
 use Rattle.tla_parser.specs.inner.Derivations.{class, continues, delta, form_of, given, idle, is_last, levels, mark_column}
-use Rattle.tla_parser.specs.inner.Moves.{Point, begin, behind_op, class_infix, class_of, off, reading}
-
+use Rattle.tla_parser.specs.inner.Moves.{Point, begin, behind_op, class_infix, class_of, is_finished, off, reading}
 -- @end
 
 pub data Status : Type 0 where
@@ -201,3 +201,48 @@ followed t w r = following t w (reverse r.stack.items) r.code.items r.margin
 abbrev pub IsFolded : Option Operand → Tok → Operand → Recognizer → Recognizer → Type 0
 IsFolded None t w old new = followed t w old ≡ landed t w (reverse new.stack.items) new.code.items new.margin
 IsFolded (Some v) t w old new = (followed t w old ≡ followed t v new) × (length new.stack.items < length old.stack.items)
+
+-- ---- the whole
+
+-- where a module begins
+abbrev pub module_start : Status
+module_start = running Read (form (Reads AtTop) 0 0 0 ∷ []) [] 0
+
+abbrev pub ended_module : Next → Bool
+ended_module (Reads m) = is_finished m
+ended_module (Wants m) = false
+ended_module (Last m) = false
+ended_module (Shut f) = false
+ended_module Fail = false
+
+abbrev pub ended_form : Open → Bool
+ended_form (Within f) = ended_module f.next
+ended_form (Before p) = false
+ended_form (Between a o) = false
+
+abbrev pub ended_stack : List Open → Bool
+ended_stack [] = false
+ended_stack (f ∷ []) = ended_form f
+ended_stack (f ∷ g ∷ s) = false
+
+-- a whole module was read
+abbrev pub finished : Status → Bool
+finished lost = false
+finished (running Read s c m) = ended_stack s
+finished (running Want s c m) = false
+finished (running (Have w) s c m) = false
+finished (running Stuck s c m) = false
+
+abbrev pub code_read : Status → List Code
+code_read lost = []
+code_read (running mode s c m) = c
+
+abbrev pub form_levels_read : List Open → ℕ
+form_levels_read [] = 0
+form_levels_read (Within f ∷ s) = f.levels
+form_levels_read (Before p ∷ s) = 0
+form_levels_read (Between a o ∷ s) = 0
+
+abbrev pub levels_read : Status → ℕ
+levels_read lost = 0
+levels_read (running mode s c m) = form_levels_read s

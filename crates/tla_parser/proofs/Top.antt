@@ -1,0 +1,115 @@
+-- What is read of a module's tokens, and of other tokens.
+use Rattle.tla_lexer.specs.declared.token.Token.{Token as Tok}
+use Rattle.tla_meaning.specs.declared.modules.Module.{Module}
+use Rattle.tla_parser.specs.declared.items.Item.{Item}
+use Rattle.tla_parser.specs.declared.items.Item.TheVariants.{Piece, Tree}
+use Rattle.std.proofs.lemmas.List.{reverse-reverse}
+-- @imports
+-- @begin
+use Rattle.std.proofs.Common.{ℕ, Bool, true, false, List, Some, None, reverse, inl, inr, refl, sym, ap, arith, append-nil, ◌≡◌, ◌<◌, ◌≤◌, ◌∷◌, ◌++◌, ◌∙◌, []}
+use Rattle.tla_parser.proofs.Basics.{either}
+use Rattle.tla_parser.proofs.Built.{posts_made}
+use Rattle.tla_parser.proofs.Complete.{module_again}
+use Rattle.tla_parser.proofs.Image.{capped, image, image_form, image_run, images}
+use Rattle.tla_parser.proofs.Laws.{clash}
+use Rattle.tla_parser.proofs.Machine.{Frame, State, at_bin, at_form, at_pre, have, heading, module_of, parse_module, run, stuck, want}
+use Rattle.tla_parser.proofs.Sound.{module_found, one_module}
+use Rattle.tla_parser.specs.Grammar.{NothingSpells, SpelledWithin, Spells}
+use Rattle.tla_parser.specs.Modules.{module_tree}
+use Rattle.tla_parser.specs.Spelling.{items}
+use Rattle.tla_parser.specs.declared.moves.Mark.TheVariants.{AtTop}
+use Rattle.tla_parser.specs.declared.open.Code.{Code}
+use Rattle.tla_parser.specs.declared.open.Open.{Open}
+use Rattle.tla_parser.specs.inner.Building.{made, some_if}
+use Rattle.tla_parser.specs.inner.Derivations.{IsModule, Parts, ahead, deepest, posts, tokens_of, top}
+use Rattle.tla_parser.specs.inner.Recognition.{advances, code_read, ended_module, ended_stack, finished, levels_read, module_start}
+-- @end
+
+pub record IsRead (ts : List Tok) : Type 0 where
+  pub written : Parts
+  pub by_rules : IsModule written
+  pub tokens_so : tokens_of written ≡ ts
+  pub code_so : code_read (advances module_start ts) ≡ posts written
+  pub levels_so : levels_read (advances module_start ts) ≡ capped (deepest written)
+
+read_as : (ts : List Tok) → image (run (heading top []) ts) ≡ advances module_start ts
+read_as ts = image_run (heading top []) ts (AtTop, refl)
+
+two_open : (f : Frame) (s : List Frame) (o : Open) → ended_stack (o ∷ images (f ∷ s)) ≡ false
+two_open (at_pre p) s o = refl
+two_open (at_bin a t) s o = refl
+two_open (at_form ps) s o = refl
+
+state_read : (st : State) → finished (image st) ≡ true → (ps : Parts) × (module_of st ≡ Some ps) × (code_read (image st) ≡ posts ps) × (levels_read (image st) ≡ capped (deepest ps))
+state_read (heading qs []) h = (qs, rw h refl, refl, refl)
+state_read (heading qs (f ∷ s)) h = absurd (clash (ended_stack (image_form qs (f ∷ s) ∷ images (f ∷ s))) h (two_open f s (image_form qs (f ∷ s))))
+state_read (have w s) h = absurd (cc)
+state_read (want s) h = absurd (cc)
+state_read stuck h = absurd (cc)
+
+pub read_module : (ts : List Tok) → finished (advances module_start ts) ≡ true → IsRead ts
+read_module ts h =
+    let e : image (run (heading top []) ts) ≡ advances module_start ts = read_as ts in
+    let r : (ps : Parts) × (module_of (run (heading top []) ts) ≡ Some ps) × (code_read (image (run (heading top []) ts)) ≡ posts ps) × (levels_read (image (run (heading top []) ts)) ≡ capped (deepest ps)) = state_read (run (heading top []) ts) (ap finished e ∙ h) in
+    let f : IsModule r.0 × (tokens_of r.0 ≡ ts) = module_found ts r.0 r.1 in
+    record { written = r.0; by_rules = f.0; tokens_so = f.1; code_so = ap code_read (sym e) ∙ r.2; levels_so = ap levels_read (sym e) ∙ r.3 }
+
+finished_state : (st : State) (ps : Parts) → module_of st ≡ Some ps → finished (image st) ≡ true
+finished_state (heading qs []) ps h =
+    elim (either (ended_module (ahead qs))) [ inl e ↦ e | inr e ↦ absurd (none_is ps (rw e at h)) ]
+  where
+    none_is : (u : Parts) → None ≡ Some u → ⊥
+    none_is u e = cc
+finished_state (heading qs (f ∷ s)) ps h = absurd (cc)
+finished_state (have w s) ps h = absurd (cc)
+finished_state (want s) ps h = absurd (cc)
+finished_state stuck ps h = absurd (cc)
+
+pub module_reads : (ts : List Tok) (ps : Parts) → IsModule ps → tokens_of ps ≡ ts → finished (advances module_start ts) ≡ true
+module_reads ts ps i e =
+    ap finished (sym (read_as ts)) ∙ finished_state (run (heading top []) ts) ps (ap parse_module (sym e) ∙ module_again ps i)
+
+-- nothing spells what is not read as a whole
+pub unread : (ts : List Tok) → finished (advances module_start ts) ≡ false → NothingSpells ts
+unread ts h m s = clash (finished (advances module_start ts)) (module_reads ts s.written s.by_rules s.tokens_so) h
+
+-- what is read is spelled, and by nothing else
+pub read_spells : (ts : List Tok) (m : Module) (r : IsRead ts) → m ≡ module_tree (items r.written) → Spells m ts
+read_spells ts m r e = record { written = r.written; by_rules = r.by_rules; tokens_so = r.tokens_so; module_so = sym e }
+
+pub one_spelling : (ts : List Tok) (m n : Module) → Spells m ts → Spells n ts → m ≡ n
+one_spelling ts m n s r =
+    sym s.module_so ∙ ap (λ (ps : Parts). module_tree (items ps)) (one_module s.written r.written s.by_rules r.by_rules (s.tokens_so ∙ sym r.tokens_so)) ∙ r.module_so
+
+capped_past : (n : ℕ) → 400 < capped n → n ≤ 400 → ⊥
+capped_past n h k = omega arith
+
+-- a module with more levels is spelled within 400 by none
+pub too_deep : (ts : List Tok) → finished (advances module_start ts) ≡ true → 400 < levels_read (advances module_start ts) → ((m : Module) × Spells m ts) × (SpelledWithin 400 ts → ⊥)
+too_deep ts h k =
+    let r : IsRead ts = read_module ts h in
+    ((module_tree (items r.written), read_spells ts (module_tree (items r.written)) r refl), (λ (s : SpelledWithin 400 ts).
+      let e : s.written ≡ r.written = one_module s.written r.written s.by_rules r.by_rules (s.tokens_so ∙ sym r.tokens_so) in
+      let d : deepest s.written ≡ deepest r.written = ap deepest e in
+      capped_past (deepest r.written) (omega (arith, r.levels_so)) (omega (arith, d, s.levels_so))))
+
+capped_within : (n : ℕ) → capped n ≤ 400 → n ≤ 400
+capped_within n h = omega arith
+
+pub within_levels : (ts : List Tok) → finished (advances module_start ts) ≡ true → levels_read (advances module_start ts) ≤ 400 → SpelledWithin 400 ts
+within_levels ts h k =
+    let r : IsRead ts = read_module ts h in
+    record { written = r.written; by_rules = r.by_rules; tokens_so = r.tokens_so; levels_so = capped_within (deepest r.written) (omega (arith, r.levels_so)) }
+
+-- what was read makes the items of the module
+pub items_made : (ps : Parts) (codes : List Code) (b : Bool) (xs : List Item) → codes ≡ posts ps → made codes (Some []) ≡ some_if b (reverse xs) → xs ≡ items ps
+items_made ps codes b xs e h = by_flag b (sym (posts_made ps []) ∙ ap (λ (cs : List Code). made cs (Some [])) (sym e) ∙ h)
+  where
+    by_flag : (c : Bool) → Some (reverse (items ps) ++ []) ≡ some_if c (reverse xs) → xs ≡ items ps
+    by_flag true q =
+        let r : reverse xs ≡ reverse (items ps) = sym (some_items q) ∙ append-nil (reverse (items ps)) in
+        sym (reverse-reverse xs) ∙ ap reverse r ∙ reverse-reverse (items ps)
+      where
+        some_items : {x y : List Item} → Some x ≡ Some y → x ≡ y
+        some_items p = cc
+    by_flag false q = absurd (cc)
