@@ -19,10 +19,14 @@ use Rattle.tla_parser.specs.Modules.{module_tree}
 use Rattle.tla_parser.specs.Spelling.{items}
 use Rattle.tla_parser.specs.declared.moves.Mark.TheVariants.{AtTop}
 use Rattle.tla_parser.specs.declared.open.Code.{Code}
+use Rattle.tla_parser.specs.declared.open.Mode.{Mode}
+use Rattle.tla_parser.specs.declared.open.Mode.TheVariants.{Have, Read, Stuck, Want}
 use Rattle.tla_parser.specs.declared.open.Open.{Open}
+use Rattle.tla_parser.specs.declared.open.Open.TheVariants.{Before, Between, Within}
 use Rattle.tla_parser.specs.inner.Building.{made, some_if}
 use Rattle.tla_parser.specs.inner.Derivations.{IsModule, Parts, ahead, deepest, posts, tokens_of, top}
-use Rattle.tla_parser.specs.inner.Recognition.{advances, code_read, ended_module, ended_stack, finished, levels_read, module_start}
+use Rattle.tla_parser.specs.inner.Recognition.{advances, code_read, ended_module, ended_stack, finished, levels_read, module_start, outcome_mode, status}
+
 -- @end
 
 pub record IsRead (ts : List Tok) : Type 0 where
@@ -87,11 +91,13 @@ capped_past n h k = omega arith
 -- a module with more levels is spelled within 400 by none
 pub too_deep : (ts : List Tok) → finished (advances module_start ts) ≡ true → 400 < levels_read (advances module_start ts) → ((m : Module) × Spells m ts) × (SpelledWithin 400 ts → ⊥)
 too_deep ts h k =
-    let r : IsRead ts = read_module ts h in
-    ((module_tree (items r.written), read_spells ts (module_tree (items r.written)) r refl), (λ (s : SpelledWithin 400 ts).
-      let e : s.written ≡ r.written = one_module s.written r.written s.by_rules r.by_rules (s.tokens_so ∙ sym r.tokens_so) in
-      let d : deepest s.written ≡ deepest r.written = ap deepest e in
-      capped_past (deepest r.written) (omega (arith, r.levels_so)) (omega (arith, d, s.levels_so))))
+    let r : IsRead ts = read_module ts h in (
+      (module_tree (items r.written), read_spells ts (module_tree (items r.written)) r refl),
+      (λ (s : SpelledWithin 400 ts).
+          let e : s.written ≡ r.written = one_module s.written r.written s.by_rules r.by_rules (s.tokens_so ∙ sym r.tokens_so) in
+          let d : deepest s.written ≡ deepest r.written = ap deepest e in
+          capped_past (deepest r.written) (omega (arith, r.levels_so)) (omega (arith, d, s.levels_so))),
+    )
 
 capped_within : (n : ℕ) → capped n ≤ 400 → n ≤ 400
 capped_within n h = omega arith
@@ -113,3 +119,56 @@ items_made ps codes b xs e h = by_flag b (sym (posts_made ps []) ∙ ap (λ (cs 
         some_items : {x y : List Item} → Some x ≡ Some y → x ≡ y
         some_items p = cc
     by_flag false q = absurd (cc)
+
+-- ---- by the outcome
+
+outcome_finished : (m : Mode) (s : List Open) (c : List Code) (k : ℕ) → outcome_mode m s ≡ None → finished (status m s c k) ≡ false
+outcome_finished Want s c k h = refl
+outcome_finished (Have w) s c k h = refl
+outcome_finished Stuck s c k h = refl
+outcome_finished Read [] c k h = refl
+outcome_finished Read (f ∷ g ∷ s) c k h = refl
+outcome_finished Read (Before p ∷ []) c k h = refl
+outcome_finished Read (Between a o ∷ []) c k h = refl
+outcome_finished Read (Within f ∷ []) c k h =
+    elim (either (ended_module f.next)) [ inl e ↦ absurd (some_none (rw e at h)) | inr e ↦ e ]
+  where
+    some_none : Some f.levels ≡ None → ⊥
+    some_none q = cc
+
+outcome_some : (m : Mode) (s : List Open) (c : List Code) (k n : ℕ) → outcome_mode m s ≡ Some n → (finished (status m s c k) ≡ true) × (levels_read (status m s c k) ≡ n) × (code_read (status m s c k) ≡ c)
+outcome_some Want s c k n h = absurd (cc)
+outcome_some (Have w) s c k n h = absurd (cc)
+outcome_some Stuck s c k n h = absurd (cc)
+outcome_some Read [] c k n h = absurd (cc)
+outcome_some Read (f ∷ g ∷ s) c k n h = absurd (cc)
+outcome_some Read (Before p ∷ []) c k n h = absurd (cc)
+outcome_some Read (Between a o ∷ []) c k n h = absurd (cc)
+outcome_some Read (Within f ∷ []) c k n h =
+    elim (either (ended_module f.next)) [ inl e ↦ (e, same_level (rw e at h), refl) | inr e ↦ absurd (none_some (rw e at h)) ]
+  where
+    none_some : None ≡ Some n → ⊥
+    none_some q = cc
+
+    same_level : Some f.levels ≡ Some n → f.levels ≡ n
+    same_level q = cc
+
+pub refused_so : (ts : List Tok) (m : Mode) (s : List Open) (c : List Code) (k : ℕ) → status m s c k ≡ advances module_start ts → outcome_mode m s ≡ None → NothingSpells ts
+refused_so ts m s c k e h = unread ts (ap finished (sym e) ∙ outcome_finished m s c k h)
+
+pub deep_so : (ts : List Tok) (m : Mode) (s : List Open) (c : List Code) (k n : ℕ) → status m s c k ≡ advances module_start ts → outcome_mode m s ≡ Some n → 400 < n → ((x : Module) × Spells x ts) × (SpelledWithin 400 ts → ⊥)
+deep_so ts m s c k n e h l =
+    let r : (finished (status m s c k) ≡ true) × (levels_read (status m s c k) ≡ n) × (code_read (status m s c k) ≡ c) = outcome_some m s c k n h in
+    too_deep ts (ap finished (sym e) ∙ r.0) (omega (arith, ap levels_read e, r.1))
+
+pub within_so : (ts : List Tok) (m : Mode) (s : List Open) (c : List Code) (k n : ℕ) → status m s c k ≡ advances module_start ts → outcome_mode m s ≡ Some n → n ≤ 400 → SpelledWithin 400 ts
+within_so ts m s c k n e h l =
+    let r : (finished (status m s c k) ≡ true) × (levels_read (status m s c k) ≡ n) × (code_read (status m s c k) ≡ c) = outcome_some m s c k n h in
+    within_levels ts (ap finished (sym e) ∙ r.0) (omega (arith, ap levels_read e, r.1))
+
+-- the module of what was read
+pub made_so : (ts : List Tok) (m : Mode) (s : List Open) (c : List Code) (k n : ℕ) (x : Module) → status m s c k ≡ advances module_start ts → outcome_mode m s ≡ Some n → ((ps : Parts) → c ≡ posts ps → x ≡ module_tree (items ps)) → Spells x ts
+made_so ts m s c k n x e h made_of =
+    let r : (finished (status m s c k) ≡ true) × (levels_read (status m s c k) ≡ n) × (code_read (status m s c k) ≡ c) = outcome_some m s c k n h in
+    let i : IsRead ts = read_module ts (ap finished (sym e) ∙ r.0) in
+    read_spells ts x i (made_of i.written (sym r.2 ∙ ap code_read e ∙ i.code_so))

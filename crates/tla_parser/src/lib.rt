@@ -1,16 +1,19 @@
-//! The tree of an expression: what its tokens spell. (Lamport, Specifying Systems, chapters 15 and 16.)
+//! The module that tokens spell. (Lamport, Specifying Systems, chapters 15 to 17.)
 #![tactic(auto)]
 
 mod binders;
 mod builder;
 mod copies;
 mod digests;
+mod fault;
 mod items;
 mod locals;
 mod looks;
 mod moves;
 mod nodes;
 mod open;
+mod parsing;
+mod places;
 mod ranges;
 mod recognizer;
 mod rules;
@@ -18,3 +21,6 @@ mod signs;
 mod trees;
 mod units;
 mod updates;
+
+pub use fault::{ParseFault, Syntax};
+pub use parsing::parse;

@@ -172,9 +172,9 @@ fn in_units(mark: Mark) -> bool
     }
 }
 
-// What a unit begins with, or the module's end.
+/// What a unit begins with, or the module's end.
 #[tactic(auto, unfolding(crate::specs::inner::Moves::unit_rows))]
-fn unit(sign: Sign) -> Next
+pub(crate) fn unit(sign: Sign) -> Next
     ensures { result ≡ found sign unit_rows }
 {
     on(

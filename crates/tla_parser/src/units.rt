@@ -365,7 +365,12 @@ fn named_token(alloc: Global, name: Text, token: Token, read: Units) -> Result<U
     begun_definition(alloc, token, read)
 }
 
-fn word_token(alloc: Global, name: Option<Text>, token: Token, read: Units) -> Result<Units, AllocError>
+fn word_token(
+    alloc: Global,
+    name: Option<Text>,
+    token: Token,
+    read: Units,
+) -> Result<Units, AllocError>
     ensures { IfOk result (λ u. u ≡ word_token name token read) }
 {
     match name {

@@ -26,6 +26,7 @@ use Rattle.tla_parser.specs.declared.signs.Role.{Role}
 use Rattle.tla_parser.specs.declared.signs.Role.TheVariants.{InfixRole, NoRole, PostfixRole}
 use Rattle.tla_parser.specs.inner.Derivations.{class, continues, delta, form_of, given, idle, is_last, levels, mark_column}
 use Rattle.tla_parser.specs.inner.Moves.{Point, begin, behind_op, class_infix, class_of, is_finished, off, reading}
+
 -- @end
 
 pub data Status : Type 0 where
@@ -246,3 +247,20 @@ form_levels_read (Between a o ∷ s) = 0
 abbrev pub levels_read : Status → ℕ
 levels_read lost = 0
 levels_read (running mode s c m) = form_levels_read s
+
+-- the levels of a whole module that was read
+abbrev pub outcome_form : Open → Option ℕ
+outcome_form (Within f) = cond (ended_module f.next) (Some f.levels) None
+outcome_form (Before p) = None
+outcome_form (Between a o) = None
+
+abbrev pub outcome_stack : List Open → Option ℕ
+outcome_stack [] = None
+outcome_stack (f ∷ []) = outcome_form f
+outcome_stack (f ∷ g ∷ s) = None
+
+abbrev pub outcome_mode : Mode → List Open → Option ℕ
+outcome_mode Read s = outcome_stack s
+outcome_mode Want s = None
+outcome_mode (Have w) s = None
+outcome_mode Stuck s = None
