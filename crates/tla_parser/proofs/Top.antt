@@ -4,6 +4,8 @@ use Rattle.tla_meaning.specs.declared.modules.Module.{Module}
 use Rattle.tla_parser.specs.declared.items.Item.{Item}
 use Rattle.tla_parser.specs.declared.items.Item.TheVariants.{Piece, Tree}
 use Rattle.std.proofs.lemmas.List.{reverse-reverse}
+use Rattle.tla_parser.specs.declared.fault.ParseFault.{ParseFault}
+use Rattle.tla_parser.specs.declared.fault.ParseFault.TheVariants.{BadGrammar, NotSupported, TooDeep, Memory}
 -- @imports
 -- @begin
 use Rattle.std.proofs.Common.{ℕ, Bool, true, false, List, Some, None, reverse, inl, inr, refl, sym, ap, arith, append-nil, ◌≡◌, ◌<◌, ◌≤◌, ◌∷◌, ◌++◌, ◌∙◌, []}
@@ -12,9 +14,9 @@ use Rattle.tla_parser.proofs.Built.{posts_made}
 use Rattle.tla_parser.proofs.Complete.{module_again}
 use Rattle.tla_parser.proofs.Image.{capped, image, image_form, image_run, images}
 use Rattle.tla_parser.proofs.Laws.{clash}
-use Rattle.tla_parser.proofs.Machine.{Frame, State, at_bin, at_form, at_pre, have, heading, module_of, parse_module, run, stuck, want}
+use Rattle.tla_parser.proofs.Machine.{Frame, State, at_bin, at_form, at_pre, have, heading, margin, module_of, parse_module, run, stuck, want}
 use Rattle.tla_parser.proofs.Sound.{module_found, one_module}
-use Rattle.tla_parser.specs.Grammar.{NothingSpells, SpelledWithin, Spells}
+use Rattle.tla_parser.specs.Grammar.{IsRefusal, NothingSpells, SpelledWithin, Spells}
 use Rattle.tla_parser.specs.Modules.{module_tree}
 use Rattle.tla_parser.specs.Spelling.{items}
 use Rattle.tla_parser.specs.declared.moves.Mark.TheVariants.{AtTop}
@@ -25,8 +27,7 @@ use Rattle.tla_parser.specs.declared.open.Open.{Open}
 use Rattle.tla_parser.specs.declared.open.Open.TheVariants.{Before, Between, Within}
 use Rattle.tla_parser.specs.inner.Building.{made, some_if}
 use Rattle.tla_parser.specs.inner.Derivations.{IsModule, Parts, ahead, deepest, posts, tokens_of, top}
-use Rattle.tla_parser.specs.inner.Recognition.{advances, code_read, ended_module, ended_stack, finished, levels_read, module_start, outcome_mode, status}
-
+use Rattle.tla_parser.specs.inner.Recognition.{advances, code_read, ended_module, ended_stack, finished, is_of_grammar, levels_read, module_start, outcome_mode, status}
 -- @end
 
 pub record IsRead (ts : List Tok) : Type 0 where
@@ -172,3 +173,29 @@ made_so ts m s c k n x e h made_of =
     let r : (finished (status m s c k) ≡ true) × (levels_read (status m s c k) ≡ n) × (code_read (status m s c k) ≡ c) = outcome_some m s c k n h in
     let i : IsRead ts = read_module ts (ap finished (sym e) ∙ r.0) in
     read_spells ts x i (made_of i.written (sym r.2 ∙ ap code_read e ∙ i.code_so))
+
+pub refusal_so : (e : ParseFault) (ts : List Tok) → is_of_grammar e ≡ true → NothingSpells ts → IsRefusal e ts
+refusal_so (BadGrammar p) ts h n = n
+refusal_so (NotSupported p s) ts h n = n
+refusal_so (TooDeep p) ts h n = absurd (cc)
+refusal_so (Memory e) ts h n = tt
+
+-- what the answer of the code says of the recognizer
+pub record Reached (ts : List Tok) : Type 0 where
+  pub mode : Mode
+  pub stack : List Open
+  pub code : List Code
+  pub margin : ℕ
+  pub so : status mode stack code margin ≡ advances module_start ts
+
+pub reached_none : (ts : List Tok) (r : Reached ts) (e : ParseFault) → is_of_grammar e ≡ true → outcome_mode r.mode r.stack ≡ None → IsRefusal e ts
+reached_none ts r e g h = refusal_so e ts g (refused_so ts r.mode r.stack r.code r.margin r.so h)
+
+pub reached_deep : (ts : List Tok) (r : Reached ts) (n : ℕ) → outcome_mode r.mode r.stack ≡ Some n → 400 < n → ((x : Module) × Spells x ts) × (SpelledWithin 400 ts → ⊥)
+reached_deep ts r n h l = deep_so ts r.mode r.stack r.code r.margin n r.so h l
+
+pub reached_within : (ts : List Tok) (r : Reached ts) (n : ℕ) → outcome_mode r.mode r.stack ≡ Some n → n ≤ 400 → SpelledWithin 400 ts
+reached_within ts r n h l = within_so ts r.mode r.stack r.code r.margin n r.so h l
+
+pub reached_module : (ts : List Tok) (r : Reached ts) (n : ℕ) (x : Module) → outcome_mode r.mode r.stack ≡ Some n → ((ps : Parts) → r.code ≡ posts ps → x ≡ module_tree (items ps)) → Spells x ts
+reached_module ts r n x h m = made_so ts r.mode r.stack r.code r.margin n x r.so h m

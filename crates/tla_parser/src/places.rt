@@ -1,4 +1,7 @@
 // Where units begin, and where reading sticks.
+ghost use Rattle.std.specs.Prelude.{◌≡◌, true};
+ghost use Rattle.tla_parser.specs.inner.Recognition.{is_of_grammar};
+
 use crate::fault::{ParseFault, Syntax};
 use crate::moves::{Mark, Next, Seen};
 use crate::open::{Mode, Open};
@@ -222,7 +225,9 @@ impl Places {
     }
 
     /// Why the tokens are refused.
-    pub(crate) fn refusal(&self) -> ParseFault {
+    pub(crate) fn refusal(&self) -> ParseFault
+        ensures { is_of_grammar result ≡ true }
+    {
         if let Some((place, form)) = self.refused {
             return ParseFault::NotSupported(place, form);
         }

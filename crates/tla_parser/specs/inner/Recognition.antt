@@ -2,6 +2,8 @@
 use Rattle.std.specs.Prelude.{nat_lt, nat_le}
 use Rattle.tla_lexer.specs.declared.token.Token.{Token as Tok}
 use Rattle.tla_parser.specs.declared.recognizer.Recognizer.{Recognizer}
+use Rattle.tla_parser.specs.declared.fault.ParseFault.{ParseFault}
+use Rattle.tla_parser.specs.declared.fault.ParseFault.TheVariants.{BadGrammar, NotSupported, TooDeep, Memory}
 -- @imports
 -- @begin
 use Rattle.std.specs.Prelude.{ℕ, Bool, true, false, cond, not, max, min, List, Option, Some, None, length, reverse, ◌≡◌, ◌+◌, ◌<◌, ◌∷◌, ◌++◌, ◌&&◌, ◌||◌, []}
@@ -26,7 +28,6 @@ use Rattle.tla_parser.specs.declared.signs.Role.{Role}
 use Rattle.tla_parser.specs.declared.signs.Role.TheVariants.{InfixRole, NoRole, PostfixRole}
 use Rattle.tla_parser.specs.inner.Derivations.{class, continues, delta, form_of, given, idle, is_last, levels, mark_column}
 use Rattle.tla_parser.specs.inner.Moves.{Point, begin, behind_op, class_infix, class_of, is_finished, off, reading}
-
 -- @end
 
 pub data Status : Type 0 where
@@ -264,3 +265,10 @@ outcome_mode Read s = outcome_stack s
 outcome_mode Want s = None
 outcome_mode (Have w) s = None
 outcome_mode Stuck s = None
+
+-- a refusal of the grammar's
+abbrev pub is_of_grammar : ParseFault → Bool
+is_of_grammar (BadGrammar p) = true
+is_of_grammar (NotSupported p s) = true
+is_of_grammar (TooDeep p) = false
+is_of_grammar (Memory e) = false
