@@ -53,7 +53,7 @@ fn read(
 ) -> Result<Mode, AllocError>
     ensures { IfOk result (λ next. stood next recognizer.new ≡ advance token.now (stood mode recognizer.old)) }
 {
-    places.before(recognizer.stack.as_slice());
+    places.before(recognizer.stack.as_slice(), mode);
     let next = recognizer.step(alloc, mode, token)?;
     places.behind(recognizer.stack.as_slice(), next, look(token), token.place);
     Ok(next)
@@ -72,7 +72,7 @@ fn read_all(
     for token in tokens {
         mode = read(alloc, recognizer, places, mode, token)?;
     }
-    places.before(recognizer.stack.as_slice());
+    places.before(recognizer.stack.as_slice(), mode);
     Ok(mode)
 }
 

@@ -19,7 +19,7 @@ pub(crate) struct Places {
     last: Place,
     // The sign of the token before.
     previous: Sign,
-    // Where the innermost form was before the token, and whether it is the module.
+    // Where the innermost form was before the token, where no operand was read, and whether it is the module.
     mark: Option<Mark>,
     alone: bool,
     // The unit with too many levels.
@@ -139,8 +139,11 @@ impl Places {
     }
 
     /// Looks at what is open before a token.
-    pub(crate) fn before(&mut self, stack: &[Open]) {
-        self.mark = top_mark(stack.last());
+    pub(crate) fn before(&mut self, stack: &[Open], mode: Mode) {
+        self.mark = match mode {
+            Mode::Have(_) => None,
+            _ => top_mark(stack.last()),
+        };
         self.alone = stack.len() == 1;
     }
 
