@@ -7,3 +7,4 @@ pub mod Sound
 pub mod Image
 pub mod Built
 pub mod Top
+pub mod FieldLemmas

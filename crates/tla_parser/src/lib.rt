@@ -6,6 +6,7 @@ mod builder;
 mod copies;
 mod digests;
 mod fault;
+mod fields;
 mod items;
 mod locals;
 mod looks;
