@@ -6,9 +6,10 @@ use Rattle.tla_parser.specs.declared.items.Item.TheVariants.{Piece, Tree}
 use Rattle.std.proofs.lemmas.List.{reverse-reverse}
 use Rattle.tla_parser.specs.declared.fault.ParseFault.{ParseFault}
 use Rattle.tla_parser.specs.declared.fault.ParseFault.TheVariants.{BadGrammar, NotSupported, TooDeep, Memory}
+use Rattle.std.proofs.Common.{Result, Ok, Err, IfOk, IfErr}
 -- @imports
 -- @begin
-use Rattle.std.proofs.Common.{ℕ, Bool, true, false, List, Some, None, reverse, inl, inr, refl, sym, ap, arith, append-nil, ◌≡◌, ◌<◌, ◌≤◌, ◌∷◌, ◌++◌, ◌∙◌, []}
+use Rattle.std.proofs.Common.{ℕ, Bool, true, false, List, Some, None, reverse, inl, inr, refl, sym, ap, subst, arith, append-nil, ◌≡◌, ◌<◌, ◌≤◌, ◌∷◌, ◌++◌, ◌∙◌, []}
 use Rattle.tla_parser.proofs.Basics.{either}
 use Rattle.tla_parser.proofs.Built.{posts_made}
 use Rattle.tla_parser.proofs.Complete.{module_again}
@@ -16,7 +17,8 @@ use Rattle.tla_parser.proofs.Image.{capped, image, image_form, image_run, images
 use Rattle.tla_parser.proofs.Laws.{clash}
 use Rattle.tla_parser.proofs.Machine.{Frame, State, at_bin, at_form, at_pre, have, heading, margin, module_of, parse_module, run, stuck, want}
 use Rattle.tla_parser.proofs.Sound.{module_found, one_module}
-use Rattle.tla_parser.specs.Grammar.{IsRefusal, NothingSpells, SpelledWithin, Spells}
+use Rattle.tla_parser.specs.Fields.{units_differ}
+use Rattle.tla_parser.specs.Grammar.{IsRefusal, IsWritten, NothingSpells, SpelledWithin, Spells}
 use Rattle.tla_parser.specs.Modules.{module_tree}
 use Rattle.tla_parser.specs.Spelling.{items}
 use Rattle.tla_parser.specs.declared.moves.Mark.TheVariants.{AtTop}
@@ -26,9 +28,9 @@ use Rattle.tla_parser.specs.declared.open.Mode.TheVariants.{Have, Read, Stuck, W
 use Rattle.tla_parser.specs.declared.open.Open.{Open}
 use Rattle.tla_parser.specs.declared.open.Open.TheVariants.{Before, Between, Within}
 use Rattle.tla_parser.specs.inner.Building.{made, some_if}
+use Rattle.tla_parser.specs.inner.Checked.{IsChecked}
 use Rattle.tla_parser.specs.inner.Derivations.{IsModule, Parts, ahead, deepest, posts, tokens_of, top}
 use Rattle.tla_parser.specs.inner.Recognition.{advances, code_read, ended_module, ended_stack, finished, is_of_grammar, levels_read, module_start, outcome_mode, status}
-
 -- @end
 
 pub record IsRead (ts : List Tok) : Type 0 where
@@ -80,8 +82,14 @@ pub unread : (ts : List Tok) → finished (advances module_start ts) ≡ false �
 unread ts h m s = clash (finished (advances module_start ts)) (module_reads ts s.written s.by_rules s.tokens_so) h
 
 -- what is read is spelled, and by nothing else
-pub read_spells : (ts : List Tok) (m : Module) (r : IsRead ts) → m ≡ module_tree (items r.written) → Spells m ts
-read_spells ts m r e = record { written = r.written; by_rules = r.by_rules; tokens_so = r.tokens_so; module_so = sym e }
+pub read_spells : (ts : List Tok) (m : Module) (r : IsRead ts) → m ≡ module_tree (items r.written) → units_differ m.units ≡ true → Spells m ts
+read_spells ts m r e d = record { written = r.written; by_rules = r.by_rules; tokens_so = r.tokens_so; module_so = sym e; fields_so = d }
+
+-- where a record of what is read names a field twice, nothing is spelled
+pub read_repeats : (ts : List Tok) (m : Module) (r : IsRead ts) → m ≡ module_tree (items r.written) → units_differ m.units ≡ false → NothingSpells ts
+read_repeats ts m r e d n s =
+    let q : n ≡ m = sym s.module_so ∙ ap (λ (ps : Parts). module_tree (items ps)) (one_module s.written r.written s.by_rules r.by_rules (s.tokens_so ∙ sym r.tokens_so)) ∙ sym e in
+    clash (units_differ m.units) (ap (λ (x : Module). units_differ x.units) (sym q) ∙ s.fields_so) d
 
 pub one_spelling : (ts : List Tok) (m n : Module) → Spells m ts → Spells n ts → m ≡ n
 one_spelling ts m n s r =
@@ -91,10 +99,10 @@ capped_past : (n : ℕ) → 400 < capped n → n ≤ 400 → ⊥
 capped_past n h k = omega arith
 
 -- a module with more levels is spelled within 400 by none
-pub too_deep : (ts : List Tok) → finished (advances module_start ts) ≡ true → 400 < levels_read (advances module_start ts) → ((m : Module) × Spells m ts) × (SpelledWithin 400 ts → ⊥)
+pub too_deep : (ts : List Tok) → finished (advances module_start ts) ≡ true → 400 < levels_read (advances module_start ts) → IsWritten ts × (SpelledWithin 400 ts → ⊥)
 too_deep ts h k =
     let r : IsRead ts = read_module ts h in (
-      (module_tree (items r.written), read_spells ts (module_tree (items r.written)) r refl),
+      record { written = r.written; by_rules = r.by_rules; tokens_so = r.tokens_so },
       (λ (s : SpelledWithin 400 ts).
           let e : s.written ≡ r.written = one_module s.written r.written s.by_rules r.by_rules (s.tokens_so ∙ sym r.tokens_so) in
           let d : deepest s.written ≡ deepest r.written = ap deepest e in
@@ -158,7 +166,7 @@ outcome_some Read (Within f ∷ []) c k n h =
 pub refused_so : (ts : List Tok) (m : Mode) (s : List Open) (c : List Code) (k : ℕ) → status m s c k ≡ advances module_start ts → outcome_mode m s ≡ None → NothingSpells ts
 refused_so ts m s c k e h = unread ts (ap finished (sym e) ∙ outcome_finished m s c k h)
 
-pub deep_so : (ts : List Tok) (m : Mode) (s : List Open) (c : List Code) (k n : ℕ) → status m s c k ≡ advances module_start ts → outcome_mode m s ≡ Some n → 400 < n → ((x : Module) × Spells x ts) × (SpelledWithin 400 ts → ⊥)
+pub deep_so : (ts : List Tok) (m : Mode) (s : List Open) (c : List Code) (k n : ℕ) → status m s c k ≡ advances module_start ts → outcome_mode m s ≡ Some n → 400 < n → IsWritten ts × (SpelledWithin 400 ts → ⊥)
 deep_so ts m s c k n e h l =
     let r : (finished (status m s c k) ≡ true) × (levels_read (status m s c k) ≡ n) × (code_read (status m s c k) ≡ c) = outcome_some m s c k n h in
     too_deep ts (ap finished (sym e) ∙ r.0) (omega (arith, ap levels_read e, r.1))
@@ -169,11 +177,12 @@ within_so ts m s c k n e h l =
     within_levels ts (ap finished (sym e) ∙ r.0) (omega (arith, ap levels_read e, r.1))
 
 -- the module of what was read
-pub made_so : (ts : List Tok) (m : Mode) (s : List Open) (c : List Code) (k n : ℕ) (x : Module) → status m s c k ≡ advances module_start ts → outcome_mode m s ≡ Some n → ((ps : Parts) → c ≡ posts ps → x ≡ module_tree (items ps)) → Spells x ts
+pub made_so : (ts : List Tok) (m : Mode) (s : List Open) (c : List Code) (k n : ℕ) (x : Module) → status m s c k ≡ advances module_start ts → outcome_mode m s ≡ Some n → ((ps : Parts) → c ≡ posts ps → x ≡ module_tree (items ps)) → (units_differ x.units ≡ true → Spells x ts) × (units_differ x.units ≡ false → NothingSpells ts)
 made_so ts m s c k n x e h made_of =
     let r : (finished (status m s c k) ≡ true) × (levels_read (status m s c k) ≡ n) × (code_read (status m s c k) ≡ c) = outcome_some m s c k n h in
     let i : IsRead ts = read_module ts (ap finished (sym e) ∙ r.0) in
-    read_spells ts x i (made_of i.written (sym r.2 ∙ ap code_read e ∙ i.code_so))
+    let q : x ≡ module_tree (items i.written) = made_of i.written (sym r.2 ∙ ap code_read e ∙ i.code_so) in
+    (read_spells ts x i q, read_repeats ts x i q)
 
 pub refusal_so : (e : ParseFault) (ts : List Tok) → is_of_grammar e ≡ true → NothingSpells ts → IsRefusal e ts
 refusal_so (BadGrammar p) ts h n = n
@@ -192,11 +201,38 @@ pub record Reached (ts : List Tok) : Type 0 where
 pub reached_none : (ts : List Tok) (r : Reached ts) (e : ParseFault) → is_of_grammar e ≡ true → outcome_mode r.mode r.stack ≡ None → IsRefusal e ts
 reached_none ts r e g h = refusal_so e ts g (refused_so ts r.mode r.stack r.code r.margin r.so h)
 
-pub reached_deep : (ts : List Tok) (r : Reached ts) (n : ℕ) → outcome_mode r.mode r.stack ≡ Some n → 400 < n → ((x : Module) × Spells x ts) × (SpelledWithin 400 ts → ⊥)
+pub reached_deep : (ts : List Tok) (r : Reached ts) (n : ℕ) → outcome_mode r.mode r.stack ≡ Some n → 400 < n → IsWritten ts × (SpelledWithin 400 ts → ⊥)
 reached_deep ts r n h l = deep_so ts r.mode r.stack r.code r.margin n r.so h l
 
 pub reached_within : (ts : List Tok) (r : Reached ts) (n : ℕ) → outcome_mode r.mode r.stack ≡ Some n → n ≤ 400 → SpelledWithin 400 ts
 reached_within ts r n h l = within_so ts r.mode r.stack r.code r.margin n r.so h l
 
-pub reached_module : (ts : List Tok) (r : Reached ts) (n : ℕ) (x : Module) → outcome_mode r.mode r.stack ≡ Some n → ((ps : Parts) → r.code ≡ posts ps → x ≡ module_tree (items ps)) → Spells x ts
+pub reached_module : (ts : List Tok) (r : Reached ts) (n : ℕ) (x : Module) → outcome_mode r.mode r.stack ≡ Some n → ((ps : Parts) → r.code ≡ posts ps → x ≡ module_tree (items ps)) → (units_differ x.units ≡ true → Spells x ts) × (units_differ x.units ≡ false → NothingSpells ts)
 reached_module ts r n x h m = made_so ts r.mode r.stack r.code r.margin n x r.so h m
+
+-- ---- the answer where a whole module was read
+
+pub record Answered (ts : List Tok) (x : Module) : Type 0 where
+  pub differs : units_differ x.units ≡ true → Spells x ts
+  pub repeats : units_differ x.units ≡ false → NothingSpells ts
+
+pub answer_spells : (ts : List Tok) (x : Module) (r : Result Module ParseFault) → Answered ts x → IsChecked x r → IfOk r (λ m. Spells m ts)
+answer_spells ts x (Ok m) a h = subst (λ (y : Module). Spells y ts) (sym h.0) (a.differs h.1)
+answer_spells ts x (Err e) a h = tt
+
+pub answer_one : (ts : List Tok) (x : Module) (r : Result Module ParseFault) → Answered ts x → IsChecked x r → (n : Module) → Spells n ts → IfOk r (λ m. m ≡ n)
+answer_one ts x (Ok m) a h n s = h.0 ∙ one_spelling ts x n (a.differs h.1) s
+answer_one ts x (Err e) a h n s = tt
+
+pub answer_levels : (ts : List Tok) (x : Module) (r : Result Module ParseFault) → SpelledWithin 400 ts → IfOk r (λ m. SpelledWithin 400 ts)
+answer_levels ts x (Ok m) h = h
+answer_levels ts x (Err e) h = tt
+
+pub answer_fault : (ts : List Tok) (x : Module) (r : Result Module ParseFault) → Answered ts x → IsChecked x r → IfErr r (λ e. IsRefusal e ts)
+answer_fault ts x (Ok m) a h = tt
+answer_fault ts x (Err e) a h = refusal_so e ts h.0 (a.repeats h.1)
+
+pub answered : (ts : List Tok) (r : Reached ts) (n : ℕ) (x : Module) → outcome_mode r.mode r.stack ≡ Some n → ((ps : Parts) → r.code ≡ posts ps → x ≡ module_tree (items ps)) → Answered ts x
+answered ts r n x h m =
+    let p : (units_differ x.units ≡ true → Spells x ts) × (units_differ x.units ≡ false → NothingSpells ts) = reached_module ts r n x h m in
+    record { differs = p.0; repeats = p.1 }

@@ -2,3 +2,4 @@ pub mod Moves
 pub mod Derivations
 pub mod Recognition
 pub mod Building
+pub mod Checked

@@ -1,7 +1,8 @@
 // The module of its tokens.
-ghost use Rattle.std.specs.Prelude.{◌≡◌, ◌<◌, ◌≤◌, length, reverse, IfOk, IfErr, OnOk};
+ghost use Rattle.std.specs.Prelude.{◌≡◌, ◌<◌, ◌≤◌, length, reverse, IfOk, IfErr};
 ghost use Rattle.tla_meaning.specs.declared.modules.Module.{Module as Tree};
 ghost use Rattle.tla_parser.specs.Grammar.{IsRefusal, NothingSpells, SpelledWithin, Spells};
+ghost use Rattle.tla_parser.specs.inner.Checked.{IsChecked};
 ghost use Rattle.tla_parser.specs.Modules.{module_tree};
 ghost use Rattle.tla_parser.specs.Spelling.{items};
 ghost use Rattle.tla_parser.specs.inner.Derivations.{Parts, posts};
@@ -11,6 +12,7 @@ ghost use Rattle.tla_parser.specs.inner.Recognition.{advance, advances, ended_mo
 use crate::binders::Copies;
 use crate::builder::Builder;
 use crate::fault::ParseFault;
+use crate::fields::repeating;
 use crate::looks::look;
 use crate::moves::{Mark, Next};
 use crate::open::{Code, Form, Mode, Open};
@@ -55,7 +57,8 @@ fn read(
 {
     places.before(recognizer.stack.as_slice(), mode);
     let next = recognizer.step(alloc, mode, token)?;
-    places.behind(recognizer.stack.as_slice(), next, look(token), token.place);
+    let seen = look(token);
+    places.behind(recognizer.stack.as_slice(), next, seen, token.place)?;
     Ok(next)
 }
 
@@ -137,6 +140,16 @@ fn made(alloc: Global, codes: Vec<Code>) -> Result<Module, AllocError>
     module_tree(&mut copies, alloc, items)
 }
 
+// The module, where no record of it names a field twice.
+fn checked(tree: Module, places: &Places) -> Result<Module, ParseFault>
+    ensures { IsChecked tree result }
+{
+    match repeating(tree.units.as_slice()) {
+        None => Ok(tree),
+        Some(index) => Err(ParseFault::BadGrammar(places.of_unit(index))),
+    }
+}
+
 /// The module that the tokens spell. (Lamport, Specifying Systems, chapters 15 and 17.)
 ///
 /// There is at least one token. A refusal names where the first unit begins that is not whole, the first token where no
@@ -151,7 +164,7 @@ pub fn parse(alloc: Global, tokens: &Tokens) -> Result<Module, ParseFault>
     ensures fault { IfErr result (λ e. IsRefusal e tokens.now) }
 {
     let source = tokens.as_slice();
-    let mut places = Places::new(source[0].place);
+    let mut places = Places::new(alloc, source[0].place);
     let mut recognizer = begun(alloc)?;
     let mode = read_all(alloc, &mut recognizer, &mut places, source)?;
     let Recognizer {
@@ -165,7 +178,8 @@ pub fn parse(alloc: Global, tokens: &Tokens) -> Result<Module, ParseFault>
             if levels > LEVELS {
                 return Err(ParseFault::TooDeep(places.deep()));
             }
-            Ok(made(alloc, code)?)
+            let module = made(alloc, code)?;
+            checked(module, &places)
         }
     }
 }

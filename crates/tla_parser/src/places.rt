@@ -8,6 +8,7 @@ use crate::open::{Mode, Open};
 use crate::ranges::{after, is_prefix};
 use crate::rules::unit;
 use crate::signs::{Role, Sign};
+use std::alloc::{AllocError, Global};
 use tla_meaning::Place;
 
 /// Where the units of a module begin, and where none is whole.
@@ -15,6 +16,8 @@ use tla_meaning::Place;
 pub(crate) struct Places {
     // Where the unit that is read begins: at first the first token.
     start: Place,
+    // Where each unit but dashes begins.
+    starts: Vec<Place>,
     // The last token.
     last: Place,
     // The sign of the token before.
@@ -124,9 +127,10 @@ fn is_parameter(mark: Option<Mark>) -> bool {
 }
 
 impl Places {
-    pub(crate) fn new(first: Place) -> Places {
+    pub(crate) fn new(alloc: Global, first: Place) -> Places {
         Places {
             start: first,
+            starts: Vec::new(alloc),
             last: first,
             previous: Sign::Stray,
             mark: None,
@@ -148,24 +152,35 @@ impl Places {
     }
 
     /// Looks at what is open behind the token.
-    pub(crate) fn behind(&mut self, stack: &[Open], mode: Mode, seen: Seen, place: Place) {
+    pub(crate) fn behind(
+        &mut self,
+        stack: &[Open],
+        mode: Mode,
+        seen: Seen,
+        place: Place,
+    ) -> Result<(), AllocError> {
         if let Mode::Stuck = mode {
             self.sticks(seen.sign, place);
         } else {
-            self.goes_on(stack, seen.sign, place);
+            self.goes_on(stack, seen.sign, place)?;
         }
         self.previous = seen.sign;
         self.last = place;
+        Ok(())
     }
 
-    fn goes_on(&mut self, stack: &[Open], sign: Sign, place: Place) {
+    fn goes_on(&mut self, stack: &[Open], sign: Sign, place: Place) -> Result<(), AllocError> {
         if self.deep.is_none() && is_deep(stack.first()) {
             self.deep = Some(self.start);
         }
         let continued = self.alone && goes_on_with(self.mark);
         if stack.len() == 1 && !continued && begins(sign, top_mark(stack.first())) {
             self.start = place;
+            if !sign.is(Sign::Dashes) {
+                self.starts.push(place)?;
+            }
         }
+        Ok(())
     }
 
     fn sticks(&mut self, sign: Sign, place: Place) {
@@ -238,6 +253,14 @@ impl Places {
             Some(place) => ParseFault::BadGrammar(place),
             None if is_header(self.mark) => ParseFault::BadGrammar(self.last),
             None => ParseFault::BadGrammar(self.start),
+        }
+    }
+
+    /// Where the unit of this index begins.
+    pub(crate) fn of_unit(&self, index: usize) -> Place {
+        match self.starts.as_slice().get(index) {
+            Some(place) => *place,
+            None => self.start,
         }
     }
 
