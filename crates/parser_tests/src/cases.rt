@@ -219,4 +219,9 @@ LET f(_) == a IN a  => operator parameter 3:7
 LAMBDA a, b : a  => grammar 2:1
 [a |-> 1, 2]  => grammar 2:1
 @@ a  => grammar 2:1
+[a |-> 1, a |-> 2]  => grammar 2:1
+[a : S, b : T, a : U]  => grammar 2:1
+{[b |-> [a |-> 1, a |-> 2]]}  => grammar 2:1
+LET ~ a == b IN a  => grammar 2:1
+LET a + b == a IN a  => operator definition by symbol 3:7
 "#;

@@ -8,4 +8,6 @@ mod cases;
 #[cfg(test)]
 mod modules;
 #[cfg(test)]
+mod outside;
+#[cfg(test)]
 mod showing;
