@@ -16,6 +16,7 @@ use Rattle.tla_parser.specs.declared.open.Code.{Code}
 use Rattle.tla_parser.specs.declared.open.Code.TheVariants.{Close, Infix, Part, Prefix}
 use Rattle.tla_parser.specs.inner.Building.{made, made_on, shut_form}
 use Rattle.tla_parser.specs.inner.Derivations.{Parts, Written, ahead, bin, class, closed, continues, exp, form_of, from, parts, post, posts, pre, start, tailed, tok, top}
+
 -- @end
 
 made_append : (xs ys : List Code) (o : Option (List Item)) → made (xs ++ ys) o ≡ made ys (made xs o)

@@ -19,6 +19,7 @@ use Rattle.tla_parser.specs.declared.signs.Role.TheVariants.{InfixRole, PostfixR
 use Rattle.tla_parser.specs.inner.Derivations.{Above, AboveParts, Ends, Fine, From, Good, GoodParts, IsModule, Leaves, Parts, Written, ahead, bin, class, closed, delta, exp, from, given, idle, inner, is_last, is_shut, of_module, point, pre, resumed, start, tailed, tok, tokens, tokens_of, top}
 use Rattle.tla_parser.specs.inner.Moves.{Point, begin, behind_op, filled, hungry, is_finished, off, reading}
 use Rattle.tla_parser.specs.inner.Recognition.{ended_module, is_fail, op}
+
 -- @end
 
 -- the state behind w, whose right edge is still open

@@ -27,6 +27,7 @@ use Rattle.tla_parser.specs.declared.signs.Role.TheVariants.{InfixRole, NoRole, 
 use Rattle.tla_parser.specs.inner.Derivations.{Parts, Written, ahead, bin, class, continues, deepest, delta, exp, form_levels, from, given, idle, is_last, levels, parts, post, posts, pre, resumed, start, tailed, tok, top}
 use Rattle.tla_parser.specs.inner.Moves.{behind_op, class_infix, off}
 use Rattle.tla_parser.specs.inner.Recognition.{Status, acted, advance, advances, deeper, entered, folded, folded_code, following, form, form_deeper, freshly, is_fail, joined_levels, least, lost, operand, placing, read_at, running, wanting}
+
 -- @end
 
 abbrev pub capped : ℕ → ℕ

@@ -20,6 +20,7 @@ use Rattle.tla_parser.specs.declared.signs.Sign.TheVariants.{AngleSub, Arrow, As
 use Rattle.tla_parser.specs.inner.Derivations.{delta, look, mark_column}
 use Rattle.tla_parser.specs.inner.Moves.{Point, Row, begin, behind_op, bracket_rows, filled, fold_rows, found, goes_on, heads, hungry, in_units, insteads, item_rows, moved, next_bullet, of_name, off, opens, postfixes, reading, rows, unit_rows}
 use Rattle.tla_parser.specs.inner.Recognition.{is_fail, op}
+
 -- @end
 
 all_signs : List Sign

@@ -12,6 +12,7 @@ use Rattle.tla_parser.specs.declared.signs.Role.{Role}
 use Rattle.tla_parser.specs.declared.signs.Role.TheVariants.{InfixRole, NoRole, PostfixRole}
 use Rattle.tla_parser.specs.inner.Derivations.{Parts, Written, ahead, bin, class, closed, delta, exp, from, given, idle, inner, is_last, pre, start, tailed, tok, top}
 use Rattle.tla_parser.specs.inner.Recognition.{ended_module, is_fail, op}
+
 -- @end
 
 pub data Frame : Type 0 where

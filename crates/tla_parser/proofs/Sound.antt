@@ -20,6 +20,7 @@ use Rattle.tla_parser.specs.declared.signs.Role.TheVariants.{InfixRole, NoRole, 
 use Rattle.tla_parser.specs.inner.Derivations.{Above, AboveParts, Ends, Fine, From, Good, GoodParts, IsModule, Leaves, Parts, Written, ahead, bin, class, delta, exp, from, given, idle, inner, is_last, pre, start, tailed, tok, tokens, tokens_of, top}
 use Rattle.tla_parser.specs.inner.Moves.{is_finished, off}
 use Rattle.tla_parser.specs.inner.Recognition.{ended_module, is_fail, op}
+
 -- @end
 
 abbrev pub ftokens : Frame → List Tok

@@ -31,6 +31,7 @@ use Rattle.tla_parser.specs.inner.Building.{made, some_if}
 use Rattle.tla_parser.specs.inner.Checked.{IsChecked}
 use Rattle.tla_parser.specs.inner.Derivations.{IsModule, Parts, ahead, deepest, posts, tokens_of, top}
 use Rattle.tla_parser.specs.inner.Recognition.{advances, code_read, ended_module, ended_stack, finished, is_of_grammar, levels_read, module_start, outcome_mode, status}
+
 -- @end
 
 pub record IsRead (ts : List Tok) : Type 0 where

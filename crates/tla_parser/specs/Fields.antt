@@ -11,6 +11,7 @@ use Rattle.tla_meaning.specs.declared.op.Op.TheVariants as op
 -- @imports
 -- @begin
 use Rattle.std.specs.Prelude.{ℕ, Bool, true, not, List, ◌∷◌, ◌&&◌, []}
+
 -- @end
 
 abbrev pub distinct : List (List ℕ) → Bool

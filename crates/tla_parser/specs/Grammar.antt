@@ -11,6 +11,7 @@ use Rattle.tla_parser.specs.Modules.{module_tree}
 use Rattle.tla_parser.specs.Spelling.{items}
 use Rattle.tla_parser.specs.inner.Derivations.{IsModule, Parts, deepest, tokens_of}
 use Rattle.tla_parser.specs.inner.Recognition.{form}
+
 -- @end
 
 -- The module is what the tokens spell: they are the tokens of a module that is written by the rules, and it is the

@@ -23,6 +23,7 @@ use Rattle.tla_parser.specs.Trees.{head_body, head_params, head_set, head_token,
 use Rattle.tla_parser.specs.declared.signs.Sign.{Sign}
 use Rattle.tla_parser.specs.declared.signs.Sign.TheVariants.{AssumeWord, Comma, ConstantWord, Dashes, Defines, EndSign, ExtendsWord, InstanceWord, LeftBracket, LocalWord, ModuleWord, RecursiveWord, RightBracket, TheoremWord, Underscore, VariableWord, WithWord, Word}
 use Rattle.tla_parser.specs.inner.Recognition.{operand}
+
 -- @end
 
 unfoldable pub no_units : Units

@@ -9,6 +9,7 @@ use Rattle.std.specs.Prelude.{List, ◌∷◌, ◌++◌, []}
 use Rattle.tla_parser.specs.Signs.{sign}
 use Rattle.tla_parser.specs.Trees.{build, infix_node, prefix_node}
 use Rattle.tla_parser.specs.inner.Derivations.{Parts, Written, ahead, bin, class, closed, continues, exp, form_of, from, pre, start, tailed, tok, top}
+
 -- @end
 
 abbrev mutual

@@ -26,6 +26,7 @@ use Rattle.tla_parser.specs.declared.moves.Construct.TheVariants.{Application, B
 use Rattle.tla_parser.specs.declared.signs.Sign.{Sign}
 use Rattle.tla_parser.specs.declared.signs.Sign.TheVariants.{AngleSub, Assigns, AtLeast, AtMost, BracketSub, Circle, Colon, Dash, Diamond, Difference, Differs, DomainWord, Dot, Dots, DoubleArrow, Element, EnabledWord, Equals, Equivalence, ExistsSign, FairWord, ForallSign, Greater, InWord, Included, Intersection, LeadsTo, LeftAngle, LeftBracket, LeftParen, Less, LetWord, NotElement, Overrides, Pairs, Percent, Plus, Quotient, RightBracket, Square, Star, Stray, SubsetWord, Tilde, Times, UnchangedWord, UnionSign, UnionWord, Vee, Wedge}
 use Rattle.tla_parser.specs.inner.Moves.{heads}
+
 -- @end
 
 abbrev pub node : Place → Op → List (List ℕ) → List Expr → Expr

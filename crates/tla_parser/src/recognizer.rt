@@ -10,13 +10,13 @@ ghost use Rattle.tla_parser.specs.inner.Recognition.{accepting, acted, advance, 
 ghost use Rattle.tla_parser.specs.inner.Recognition.{followed, IsFolded, least_of, stood};
 
 use crate::copies::copy_token;
+use crate::heads::{heads, insteads};
 use crate::looks::look;
 use crate::moves::{Class, Construct, Mark, Next, Seen};
 use crate::open::{Code, Form, Mode, Open, Operand};
+use crate::operands::goes_on;
 use crate::ranges::{after, hi, is_prefix, lo, prefix_hi, prefix_lo, same};
-use crate::rules::{
-    class_infix, class_of, continues, ends_as, goes_on, heads, insteads, opens, postfixes,
-};
+use crate::rules::{class_infix, class_of, continues, ends_as, opens, postfixes};
 use crate::signs::{Role, Sign};
 use std::alloc::{AllocError, Global};
 use tla_lexer::Token;

@@ -11,6 +11,7 @@ use Rattle.std.specs.Prelude.{ℕ, Bool, true, false, cond, List, Option, Some, 
 use Rattle.tla_parser.specs.Trees.{build, infix_node, prefix_node}
 use Rattle.tla_parser.specs.declared.moves.Construct.{Construct}
 use Rattle.tla_parser.specs.declared.open.Code.TheVariants.{Close, Infix, Part, Prefix}
+
 -- @end
 
 -- the items are given from the last on

@@ -7,6 +7,7 @@ use Rattle.tla_parser.specs.declared.fault.ParseFault.{ParseFault}
 use Rattle.std.specs.Prelude.{true, false, ◌≡◌}
 use Rattle.tla_parser.specs.Fields.{units_differ}
 use Rattle.tla_parser.specs.inner.Recognition.{is_of_grammar}
+
 -- @end
 
 -- The answer is the module, or a refusal of the grammar's where a record of it names a field twice.

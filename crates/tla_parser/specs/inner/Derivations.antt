@@ -19,6 +19,7 @@ use Rattle.tla_parser.specs.declared.open.Code.TheVariants.{Close, Infix, Part, 
 use Rattle.tla_parser.specs.declared.signs.Role.TheVariants.{InfixRole, PostfixRole}
 use Rattle.tla_parser.specs.declared.signs.Sign.{Sign}
 use Rattle.tla_parser.specs.inner.Moves.{Point, begin, behind_op, class_infix, class_of, ends_as, filled, hungry, moved, off, reading}
+
 -- @end
 
 mutual
