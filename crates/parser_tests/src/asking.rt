@@ -1,6 +1,8 @@
 // What texts give, a case a line: `EXPRESSION => TREE`, the tree as `showing` shows it.
 //
 // The expected trees come from the language (Specifying Systems, chapters 15 and 16) and not from the program.
+ghost use Rattle.std.specs.Prelude.{◌≤◌, length, IfSome};
+
 use crate::cases::{FORMS, LISTS, OPERATORS, PLACES, REFUSALS};
 use crate::showing::{put_number, put_tree};
 use std::alloc::{AllocError, Global};
@@ -73,7 +75,9 @@ fn shown(alloc: Global, text: &[u8], places: bool) -> Result<Vec<u8>, Fail> {
 }
 
 // Where ` => ` stands in the line.
-fn arrow(line: &[u8]) -> Option<usize> {
+fn arrow(line: &[u8]) -> Option<usize>
+    ensures { IfSome result (λ i. i ≤ length line.now) }
+{
     for i in 0..line.len() {
         if line[i..].starts_with(b" => ") && line[..i].ends_with(b" ") {
             return Some(i);
