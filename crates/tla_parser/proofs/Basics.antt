@@ -1,11 +1,7 @@
 -- Columns of lists, and tests.
 use Rattle.tla_lexer.specs.declared.token.Token.{Token as Tok}
--- @imports
--- @begin
 use Rattle.std.proofs.Common.{ℕ, Bool, true, false, List, inl, inr, refl, arith, ◌≡◌, ◌≤◌, ◌⊎◌, ◌∷◌, ◌++◌, ◌&&◌, ◌||◌, []}
 use Rattle.tla_parser.specs.inner.Derivations.{From}
-
--- @end
 
 pub From-left : (n : ℕ) (xs ys : List Tok) → From n (xs ++ ys) → From n xs
 From-left n [] ys h = tt

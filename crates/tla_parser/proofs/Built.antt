@@ -5,8 +5,6 @@ use Rattle.tla_lexer.specs.declared.token.Token.{Token as Tok}
 use Rattle.tla_meaning.specs.declared.expr.Expr.{Expr}
 use Rattle.tla_parser.specs.declared.items.Item.{Item}
 use Rattle.tla_parser.specs.declared.items.Item.TheVariants.{Piece, Tree}
--- @imports
--- @begin
 use Rattle.std.proofs.Common.{ℕ, List, Option, Some, length, reverse, refl, sym, ap, arith, le-leb, ◌≡◌, ◌+◌, ◌-◌, ◌≤◌, ◌∷◌, ◌++◌, ◌∙◌, []}
 use Rattle.tla_parser.specs.Signs.{sign}
 use Rattle.tla_parser.specs.Spelling.{items, tree}
@@ -16,8 +14,6 @@ use Rattle.tla_parser.specs.declared.open.Code.{Code}
 use Rattle.tla_parser.specs.declared.open.Code.TheVariants.{Close, Infix, Part, Prefix}
 use Rattle.tla_parser.specs.inner.Building.{made, made_on, shut_form}
 use Rattle.tla_parser.specs.inner.Derivations.{Parts, Written, ahead, bin, class, closed, continues, exp, form_of, from, parts, post, posts, pre, start, tailed, tok, top}
-
--- @end
 
 made_append : (xs ys : List Code) (o : Option (List Item)) → made (xs ++ ys) o ≡ made ys (made xs o)
 made_append [] ys o = refl

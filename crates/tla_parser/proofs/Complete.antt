@@ -2,8 +2,6 @@
 use Rattle.tla_lexer.specs.declared.token.Token.{Token as Tok}
 use Rattle.std.proofs.Math.Dec.{ltb, leb}
 use Rattle.std.proofs.lemmas.Bool.{lt-leb}
--- @imports
--- @begin
 use Rattle.std.proofs.Common.{ℕ, Bool, true, false, not, max, List, Some, inl, inr, refl, sym, ap, arith, append_assoc, append-nil, ltb-false, ltb-true, le-ltb, lt-ltb, le-leb, ◌≡◌, ◌<◌, ◌≤◌, ◌⊎◌, ◌∷◌, ◌++◌, ◌&&◌, ◌||◌, ◌∙◌, []}
 use Rattle.tla_parser.proofs.Basics.{From-left, From-right, either, not_true, or_left, or_none, or_right}
 use Rattle.tla_parser.proofs.Laws.{clash, delta-off, hungry_fresh, hungry_prefix, lo_hi, op-goes_on, postfix_lo, postfix_prefix_lo, postfix_same, prefix_lo_hi, prefix_opens, same_is}
@@ -19,8 +17,6 @@ use Rattle.tla_parser.specs.declared.signs.Role.TheVariants.{InfixRole, PostfixR
 use Rattle.tla_parser.specs.inner.Derivations.{Above, AboveParts, Ends, Fine, From, Good, GoodParts, IsModule, Leaves, Parts, Written, ahead, bin, class, closed, delta, exp, from, given, idle, inner, is_last, is_shut, of_module, point, pre, resumed, start, tailed, tok, tokens, tokens_of, top}
 use Rattle.tla_parser.specs.inner.Moves.{Point, begin, behind_op, filled, hungry, is_finished, off, reading}
 use Rattle.tla_parser.specs.inner.Recognition.{ended_module, is_fail, op}
-
--- @end
 
 -- the state behind w, whose right edge is still open
 abbrev pub holding : Written → List Frame → State

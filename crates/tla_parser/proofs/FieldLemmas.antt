@@ -3,13 +3,9 @@ use Rattle.std.specs.List.{list_all}
 use Rattle.std.proofs.Common.{map, IsTrue}
 use Rattle.tla_meaning.specs.declared.expr.Expr.{Expr, out-Expr}
 use Rattle.tla_meaning.specs.declared.expr.Expr.TheFolds.{fold_out-Expr}
--- @imports
--- @begin
 use Rattle.std.proofs.Common.{Bool, List, refl, sym, ap, ◌≡◌, ◌∷◌, ◌&&◌, ◌∙◌, []}
 use Rattle.tla_parser.specs.Fields.{fields_differ, names_differ}
 use Rattle.tla_parser.specs.Operators.{same}
-
--- @end
 
 all_mapped : (f : Expr → Bool) (xs : List Expr) → list_all (λ b. b) (map f xs) ≡ list_all f xs
 all_mapped f [] = refl

@@ -2,8 +2,6 @@
 use Rattle.std.proofs.Common.{nat_lt, nat_le}
 use Rattle.std.proofs.Math.Dec.{ltb, leb}
 use Rattle.tla_lexer.specs.declared.token.Token.{Token as Tok}
--- @imports
--- @begin
 use Rattle.std.proofs.Common.{ℕ, Bool, true, false, cond, not, max, min, List, inl, inr, refl, sym, ap, arith, append_assoc, ◌≡◌, ◌+◌, ◌∷◌, ◌++◌, ◌&&◌, ◌||◌, ◌∙◌, []}
 use Rattle.tla_parser.proofs.Basics.{and_both, either}
 use Rattle.tla_parser.proofs.Laws.{delta-off, negated}
@@ -27,8 +25,6 @@ use Rattle.tla_parser.specs.declared.signs.Role.TheVariants.{InfixRole, NoRole, 
 use Rattle.tla_parser.specs.inner.Derivations.{Parts, Written, ahead, bin, class, continues, deepest, delta, exp, form_levels, from, given, idle, is_last, levels, parts, post, posts, pre, resumed, start, tailed, tok, top}
 use Rattle.tla_parser.specs.inner.Moves.{behind_op, class_infix, off}
 use Rattle.tla_parser.specs.inner.Recognition.{Status, acted, advance, advances, deeper, entered, folded, folded_code, following, form, form_deeper, freshly, is_fail, joined_levels, least, lost, operand, placing, read_at, running, wanting}
-
--- @end
 
 abbrev pub capped : ℕ → ℕ
 capped n = min n 401

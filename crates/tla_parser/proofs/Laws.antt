@@ -1,8 +1,6 @@
 -- What the proof needs to know of the tables, and nothing else.
 use Rattle.std.proofs.Common.{get_or}
 use Rattle.tla_lexer.specs.declared.token.Token.{Token as Tok}
--- @imports
--- @begin
 use Rattle.std.proofs.Common.{ℕ, Bool, true, false, not, List, inl, inr, refl, sym, ap, subst, arith, eqb-true, ◌≡◌, ◌<◌, ◌≤◌, ◌⊎◌, ◌∷◌, ◌&&◌, ◌==◌, ◌∙◌, []}
 use Rattle.tla_parser.proofs.Basics.{and_both, either, not_true}
 use Rattle.tla_parser.specs.Operators.{after, hi, is_associative, is_bullet, is_prefix, lo, number_of, prefix_hi, prefix_lo, same, same_sign}
@@ -20,8 +18,6 @@ use Rattle.tla_parser.specs.declared.signs.Sign.TheVariants.{AngleSub, Arrow, As
 use Rattle.tla_parser.specs.inner.Derivations.{delta, look, mark_column}
 use Rattle.tla_parser.specs.inner.Moves.{Point, Row, begin, behind_op, bracket_rows, filled, fold_rows, found, goes_on, heads, hungry, in_units, insteads, item_rows, moved, next_bullet, of_name, off, opens, postfixes, reading, rows, unit_rows}
 use Rattle.tla_parser.specs.inner.Recognition.{is_fail, op}
-
--- @end
 
 all_signs : List Sign
 all_signs =

@@ -8,3 +8,4 @@ pub mod Image
 pub mod Built
 pub mod Top
 pub mod FieldLemmas
+pub mod Examples

@@ -1,8 +1,6 @@
 -- The parser as a function: a fold over the tokens, whose state is what is open and, behind an operand, the operand.
 use Rattle.tla_lexer.specs.declared.token.Token.{Token as Tok}
 use Rattle.std.proofs.Math.Dec.{ltb, leb}
--- @imports
--- @begin
 use Rattle.std.proofs.Common.{ℕ, suc, Bool, false, cond, not, max, List, Option, Some, None, ◌∷◌, ◌&&◌, ◌||◌, []}
 use Rattle.tla_parser.specs.Operators.{after, hi, is_prefix, lo, prefix_hi, prefix_lo, same}
 use Rattle.tla_parser.specs.Signs.{column, sign}
@@ -12,8 +10,6 @@ use Rattle.tla_parser.specs.declared.signs.Role.{Role}
 use Rattle.tla_parser.specs.declared.signs.Role.TheVariants.{InfixRole, NoRole, PostfixRole}
 use Rattle.tla_parser.specs.inner.Derivations.{Parts, Written, ahead, bin, class, closed, delta, exp, from, given, idle, inner, is_last, pre, start, tailed, tok, top}
 use Rattle.tla_parser.specs.inner.Recognition.{ended_module, is_fail, op}
-
--- @end
 
 pub data Frame : Type 0 where
   at_pre : Tok → Frame

@@ -1,7 +1,5 @@
 -- A module's parts never end in a form, and a form's parts never begin as a module.
 use Rattle.tla_lexer.specs.declared.token.Token.{Token as Tok}
--- @imports
--- @begin
 use Rattle.std.proofs.Common.{Bool, true, false, refl, ◌≡◌}
 use Rattle.tla_parser.proofs.Laws.{moves_stay, stays_at, stays_in}
 use Rattle.tla_parser.specs.declared.moves.Class.{Class}
@@ -10,8 +8,6 @@ use Rattle.tla_parser.specs.declared.moves.Next.{Next}
 use Rattle.tla_parser.specs.declared.moves.Next.TheVariants.{Fail, Last, Reads, Shut, Wants}
 use Rattle.tla_parser.specs.inner.Derivations.{Parts, ahead, class, delta, exp, from, given, is_last, is_shut, of_module, point, resumed, start, tok, top}
 use Rattle.tla_parser.specs.inner.Moves.{in_units}
-
--- @end
 
 resumed_stays : (b : Bool) (n : Next) → stays_in b n ≡ true → stays_at b (resumed n) ≡ true
 resumed_stays true (Reads m) h = h

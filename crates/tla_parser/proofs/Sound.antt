@@ -1,8 +1,6 @@
 -- What the parser gives is written by the rules, and its tokens are those that were read.
 use Rattle.tla_lexer.specs.declared.token.Token.{Token as Tok}
 use Rattle.std.proofs.Math.Dec.{ltb, leb}
--- @imports
--- @begin
 use Rattle.std.proofs.Common.{ℕ, Bool, true, false, not, max, List, Some, None, inl, inr, refl, sym, ap, subst, arith, append_assoc, append-nil, ltb-false, ltb-true, le-leb, leb-true, ◌≡◌, ◌<◌, ◌≤◌, ◌⊎◌, ◌∷◌, ◌++◌, ◌&&◌, ◌||◌, ◌∙◌, []}
 use Rattle.tla_parser.proofs.Basics.{From-append, From-less, and_both, either, or_cases}
 use Rattle.tla_parser.proofs.Complete.{again, module_again, side}
@@ -20,8 +18,6 @@ use Rattle.tla_parser.specs.declared.signs.Role.TheVariants.{InfixRole, NoRole, 
 use Rattle.tla_parser.specs.inner.Derivations.{Above, AboveParts, Ends, Fine, From, Good, GoodParts, IsModule, Leaves, Parts, Written, ahead, bin, class, delta, exp, from, given, idle, inner, is_last, pre, start, tailed, tok, tokens, tokens_of, top}
 use Rattle.tla_parser.specs.inner.Moves.{is_finished, off}
 use Rattle.tla_parser.specs.inner.Recognition.{ended_module, is_fail, op}
-
--- @end
 
 abbrev pub ftokens : Frame → List Tok
 ftokens (at_pre p) = p ∷ []

@@ -7,8 +7,6 @@ use Rattle.std.proofs.lemmas.List.{reverse-reverse}
 use Rattle.tla_parser.specs.declared.fault.ParseFault.{ParseFault}
 use Rattle.tla_parser.specs.declared.fault.ParseFault.TheVariants.{BadGrammar, NotSupported, TooDeep, Memory}
 use Rattle.std.proofs.Common.{Result, Ok, Err, IfOk, IfErr}
--- @imports
--- @begin
 use Rattle.std.proofs.Common.{ℕ, Bool, true, false, List, Some, None, reverse, inl, inr, refl, sym, ap, subst, arith, append-nil, ◌≡◌, ◌<◌, ◌≤◌, ◌∷◌, ◌++◌, ◌∙◌, []}
 use Rattle.tla_parser.proofs.Basics.{either}
 use Rattle.tla_parser.proofs.Built.{posts_made}
@@ -31,8 +29,6 @@ use Rattle.tla_parser.specs.inner.Building.{made, some_if}
 use Rattle.tla_parser.specs.inner.Checked.{IsChecked}
 use Rattle.tla_parser.specs.inner.Derivations.{IsModule, Parts, ahead, deepest, posts, tokens_of, top}
 use Rattle.tla_parser.specs.inner.Recognition.{advances, code_read, ended_module, ended_stack, finished, is_of_grammar, levels_read, module_start, outcome_mode, status}
-
--- @end
 
 pub record IsRead (ts : List Tok) : Type 0 where
   pub written : Parts

@@ -8,11 +8,7 @@ use Rattle.tla_meaning.specs.declared.modules.Unit.{Unit as ModuleUnit}
 use Rattle.tla_meaning.specs.declared.modules.Unit.TheVariants.{Declare, Assume, Theorem, Define, Instance, Recursive}
 use Rattle.tla_meaning.specs.declared.op.Op.{Op}
 use Rattle.tla_meaning.specs.declared.op.Op.TheVariants as op
--- @imports
--- @begin
 use Rattle.std.specs.Prelude.{ℕ, Bool, true, not, List, ◌∷◌, ◌&&◌, []}
-
--- @end
 
 abbrev pub distinct : List (List ℕ) → Bool
 distinct [] = true

@@ -3,16 +3,12 @@ use Rattle.tla_lexer.specs.declared.token.Token.{Token}
 use Rattle.tla_meaning.specs.declared.modules.Module.{Module}
 use Rattle.tla_parser.specs.declared.fault.ParseFault.{ParseFault}
 use Rattle.tla_parser.specs.declared.fault.ParseFault.TheVariants.{BadGrammar, TooDeep, NotSupported, Memory}
--- @imports
--- @begin
 use Rattle.std.specs.Prelude.{ℕ, true, List, ◌≡◌, ◌≤◌}
 use Rattle.tla_parser.specs.Fields.{units_differ}
 use Rattle.tla_parser.specs.Modules.{module_tree}
 use Rattle.tla_parser.specs.Spelling.{items}
 use Rattle.tla_parser.specs.inner.Derivations.{IsModule, Parts, deepest, tokens_of}
 use Rattle.tla_parser.specs.inner.Recognition.{form}
-
--- @end
 
 -- The module is what the tokens spell: they are the tokens of a module that is written by the rules, and it is the
 -- module of its tokens and expressions.

@@ -15,16 +15,12 @@ use Rattle.tla_parser.specs.declared.items.Head.{Head}
 use Rattle.tla_parser.specs.declared.units.Units.{Units}
 use Rattle.tla_parser.specs.declared.units.Section.{Section}
 use Rattle.tla_parser.specs.declared.units.Section.TheVariants.{Outside, Naming, Extending, Declaring, Assuming, Stating, Defining, Instancing, Recurring}
--- @imports
--- @begin
 use Rattle.std.specs.Prelude.{ℕ, Bool, true, false, cond, not, List, Option, Some, None, reverse, ◌+◌, ◌∷◌, ◌++◌, ◌&&◌, []}
 use Rattle.tla_parser.specs.Signs.{sign}
 use Rattle.tla_parser.specs.Trees.{head_body, head_params, head_set, head_token, name_of, no_head, nowhere}
 use Rattle.tla_parser.specs.declared.signs.Sign.{Sign}
 use Rattle.tla_parser.specs.declared.signs.Sign.TheVariants.{AssumeWord, Comma, ConstantWord, Dashes, Defines, EndSign, ExtendsWord, InstanceWord, LeftBracket, LocalWord, ModuleWord, RecursiveWord, RightBracket, TheoremWord, Underscore, VariableWord, WithWord, Word}
 use Rattle.tla_parser.specs.inner.Recognition.{operand}
-
--- @end
 
 unfoldable pub no_units : Units
 no_units = record { name = []; extends = []; units = []; section = Outside; expects = false; local = false; note = []; place = nowhere; decls = []; head = no_head; operand = None; instance = None; replaced = []; pairs = []; recursive = [] }

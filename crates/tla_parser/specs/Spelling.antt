@@ -3,14 +3,10 @@ use Rattle.tla_lexer.specs.declared.token.Token.{Token}
 use Rattle.tla_meaning.specs.declared.expr.Expr.{Expr}
 use Rattle.tla_parser.specs.declared.items.Item.{Item}
 use Rattle.tla_parser.specs.declared.items.Item.TheVariants.{Piece, Tree}
--- @imports
--- @begin
 use Rattle.std.specs.Prelude.{List, ◌∷◌, ◌++◌, []}
 use Rattle.tla_parser.specs.Signs.{sign}
 use Rattle.tla_parser.specs.Trees.{build, infix_node, prefix_node}
 use Rattle.tla_parser.specs.inner.Derivations.{Parts, Written, ahead, bin, class, closed, continues, exp, form_of, from, pre, start, tailed, tok, top}
-
--- @end
 
 abbrev mutual
   pub tree : Written → Expr

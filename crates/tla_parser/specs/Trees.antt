@@ -17,8 +17,6 @@ use Rattle.tla_parser.specs.declared.items.Digest.{Digest}
 use Rattle.tla_parser.specs.declared.items.Updates.{Updates}
 use Rattle.tla_parser.specs.declared.items.Locals.{Locals}
 use Rattle.tla_parser.specs.declared.items.Head.{Head}
--- @imports
--- @begin
 use Rattle.std.specs.Prelude.{ℕ, Bool, true, false, cond, max, List, Option, Some, None, length, reverse, ◌+◌, ◌∷◌, ◌++◌, []}
 use Rattle.tla_parser.specs.Signs.{sign}
 use Rattle.tla_parser.specs.declared.moves.Construct.{Construct}
@@ -26,8 +24,6 @@ use Rattle.tla_parser.specs.declared.moves.Construct.TheVariants.{Application, B
 use Rattle.tla_parser.specs.declared.signs.Sign.{Sign}
 use Rattle.tla_parser.specs.declared.signs.Sign.TheVariants.{AngleSub, Assigns, AtLeast, AtMost, BracketSub, Circle, Colon, Dash, Diamond, Difference, Differs, DomainWord, Dot, Dots, DoubleArrow, Element, EnabledWord, Equals, Equivalence, ExistsSign, FairWord, ForallSign, Greater, InWord, Included, Intersection, LeadsTo, LeftAngle, LeftBracket, LeftParen, Less, LetWord, NotElement, Overrides, Pairs, Percent, Plus, Quotient, RightBracket, Square, Star, Stray, SubsetWord, Tilde, Times, UnchangedWord, UnionSign, UnionWord, Vee, Wedge}
 use Rattle.tla_parser.specs.inner.Moves.{heads}
-
--- @end
 
 abbrev pub node : Place → Op → List (List ℕ) → List Expr → Expr
 node p o names es = roll-Expr (record { place = p; op = o; args = es; binds = names })

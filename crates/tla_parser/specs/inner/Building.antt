@@ -5,14 +5,10 @@ use Rattle.tla_meaning.specs.declared.expr.Expr.{Expr}
 use Rattle.tla_parser.specs.declared.items.Item.{Item}
 use Rattle.tla_parser.specs.declared.items.Item.TheVariants.{Piece, Tree}
 use Rattle.tla_parser.specs.declared.open.Code.{Code}
--- @imports
--- @begin
 use Rattle.std.specs.Prelude.{ℕ, Bool, true, false, cond, List, Option, Some, None, length, reverse, ◌∷◌, []}
 use Rattle.tla_parser.specs.Trees.{build, infix_node, prefix_node}
 use Rattle.tla_parser.specs.declared.moves.Construct.{Construct}
 use Rattle.tla_parser.specs.declared.open.Code.TheVariants.{Close, Infix, Part, Prefix}
-
--- @end
 
 -- the items are given from the last on
 

@@ -2,13 +2,9 @@
 use Rattle.std.specs.Prelude.{Result, Ok, Err}
 use Rattle.tla_meaning.specs.declared.modules.Module.{Module}
 use Rattle.tla_parser.specs.declared.fault.ParseFault.{ParseFault}
--- @imports
--- @begin
 use Rattle.std.specs.Prelude.{true, false, ◌≡◌}
 use Rattle.tla_parser.specs.Fields.{units_differ}
 use Rattle.tla_parser.specs.inner.Recognition.{is_of_grammar}
-
--- @end
 
 -- The answer is the module, or a refusal of the grammar's where a record of it names a field twice.
 abbrev pub IsChecked : Module → Result Module ParseFault → Type 0

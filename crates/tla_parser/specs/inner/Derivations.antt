@@ -1,7 +1,5 @@
 -- How tokens are written as an expression: operators with their operands, and forms, which are tokens and operands.
 use Rattle.tla_lexer.specs.declared.token.Token.{Token as Tok}
--- @imports
--- @begin
 use Rattle.std.specs.Prelude.{ℕ, suc, Bool, true, false, cond, max, List, ◌≡◌, ◌+◌, ◌<◌, ◌≤◌, ◌⊎◌, ◌∷◌, ◌++◌, []}
 use Rattle.tla_parser.specs.Operators.{after, hi, is_prefix, lo, prefix_hi, prefix_lo, same, same_sign}
 use Rattle.tla_parser.specs.Signs.{column, sign}
@@ -19,8 +17,6 @@ use Rattle.tla_parser.specs.declared.open.Code.TheVariants.{Close, Infix, Part, 
 use Rattle.tla_parser.specs.declared.signs.Role.TheVariants.{InfixRole, PostfixRole}
 use Rattle.tla_parser.specs.declared.signs.Sign.{Sign}
 use Rattle.tla_parser.specs.inner.Moves.{Point, begin, behind_op, class_infix, class_of, ends_as, filled, hungry, moved, off, reading}
-
--- @end
 
 mutual
   pub data Written : Type 0 where

@@ -1,6 +1,4 @@
 -- What may come in a form, token by token: the forms of specs/Grammar, told by where in a form one is.
--- @imports
--- @begin
 use Rattle.std.specs.Prelude.{ℕ, Bool, true, false, cond, List, ◌∷◌, ◌&&◌, ◌==◌, []}
 use Rattle.tla_parser.specs.Operators.{is_bullet, same_sign}
 use Rattle.tla_parser.specs.Signs.{sign}
@@ -15,8 +13,6 @@ use Rattle.tla_parser.specs.declared.moves.Next.TheVariants.{Fail, Last, Reads, 
 use Rattle.tla_parser.specs.declared.moves.Seen.{Seen}
 use Rattle.tla_parser.specs.declared.signs.Sign.{Sign}
 use Rattle.tla_parser.specs.declared.signs.Sign.TheVariants.{AngleSub, Arrow, AssumeWord, At, Bang, BooleanWord, BracketSub, CaseWord, ChooseWord, Colon, Comma, ConstantWord, Dashes, Defines, Dot, Element, ElseWord, EndSign, Equals, ExceptWord, ExistsSign, ExtendsWord, FairWord, FalseWord, FoldWord, ForallSign, IfWord, InWord, InstanceWord, LambdaWord, LeftAngle, LeftBrace, LeftBracket, LeftParen, LetWord, LocalWord, MapsTo, ModuleWord, Number, OtherWord, Quotation, RecursiveWord, Replaces, RightAngle, RightBrace, RightBracket, RightParen, Square, StringWord, ThenWord, TheoremWord, Tick, Times, TrueWord, Underscore, VariableWord, Vee, Wedge, WithWord, Word}
-
--- @end
 
 -- what one sign leads to
 pub record Row : Type 0 where

@@ -4,8 +4,6 @@ use Rattle.tla_lexer.specs.declared.token.Token.{Token as Tok}
 use Rattle.tla_parser.specs.declared.recognizer.Recognizer.{Recognizer}
 use Rattle.tla_parser.specs.declared.fault.ParseFault.{ParseFault}
 use Rattle.tla_parser.specs.declared.fault.ParseFault.TheVariants.{BadGrammar, NotSupported, TooDeep, Memory}
--- @imports
--- @begin
 use Rattle.std.specs.Prelude.{ℕ, Bool, true, false, cond, not, max, min, List, Option, Some, None, length, reverse, ◌≡◌, ◌+◌, ◌<◌, ◌∷◌, ◌++◌, ◌&&◌, ◌||◌, []}
 use Rattle.tla_parser.specs.Operators.{after, hi, is_prefix, lo, prefix_hi, prefix_lo, same}
 use Rattle.tla_parser.specs.Signs.{column, sign}
@@ -28,8 +26,6 @@ use Rattle.tla_parser.specs.declared.signs.Role.{Role}
 use Rattle.tla_parser.specs.declared.signs.Role.TheVariants.{InfixRole, NoRole, PostfixRole}
 use Rattle.tla_parser.specs.inner.Derivations.{class, continues, delta, form_of, given, idle, is_last, levels, mark_column}
 use Rattle.tla_parser.specs.inner.Moves.{Point, begin, behind_op, class_infix, class_of, is_finished, off, reading}
-
--- @end
 
 pub data Status : Type 0 where
   lost : Status
