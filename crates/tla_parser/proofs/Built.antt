@@ -1,7 +1,6 @@
 -- What is read of a derivation makes its tree.
-use Rattle.std.proofs.Common.{take, drop, nat_le, length-append}
-use Rattle.std.proofs.lemmas.List.{length-reverse, reverse-append, reverse-reverse, take-append-drop, take-append-le, drop-append-le, length-take, length-drop}
-use Rattle.tla_lexer.specs.declared.token.Token.{Token as Tok}
+use Rattle.std.proofs.Common.{take, drop, length-append}
+use Rattle.std.proofs.lemmas.List.{length-reverse, reverse-append, reverse-reverse, take-append-drop, take-append-le, drop-append-le, length-drop}
 use Rattle.tla_meaning.specs.declared.expr.Expr.{Expr}
 use Rattle.tla_parser.specs.declared.items.Item.{Item}
 use Rattle.tla_parser.specs.declared.items.Item.TheVariants.{Piece, Tree}

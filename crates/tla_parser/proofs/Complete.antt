@@ -4,7 +4,7 @@ use Rattle.std.proofs.Math.Dec.{ltb, leb}
 use Rattle.std.proofs.lemmas.Bool.{lt-leb}
 use Rattle.std.proofs.Common.{ℕ, Bool, true, false, not, max, List, Some, inl, inr, refl, sym, ap, arith, append_assoc, append-nil, ltb-false, ltb-true, le-ltb, lt-ltb, le-leb, ◌≡◌, ◌<◌, ◌≤◌, ◌⊎◌, ◌∷◌, ◌++◌, ◌&&◌, ◌||◌, ◌∙◌, []}
 use Rattle.tla_parser.proofs.Basics.{From-left, From-right, either, not_true, or_left, or_none, or_right}
-use Rattle.tla_parser.proofs.Laws.{clash, delta-off, hungry_fresh, hungry_prefix, lo_hi, op-goes_on, postfix_lo, postfix_prefix_lo, postfix_same, prefix_lo_hi, prefix_opens, same_is}
+use Rattle.tla_parser.proofs.Laws.{delta-off, hungry_fresh, hungry_prefix, lo_hi, op-goes_on, postfix_lo, postfix_prefix_lo, postfix_same, prefix_lo_hi, prefix_opens, same_is}
 use Rattle.tla_parser.proofs.Machine.{Frame, State, accepts, act, answer, at_bin, at_form, at_pre, behind, enter, floor, fresh, have, heading, margin, module_of, parse_fn, parse_module, placed, pops, run, step, takes, want, whole}
 use Rattle.tla_parser.proofs.Origins.{last_parts, shut_parts}
 use Rattle.tla_parser.specs.Operators.{after, hi, is_prefix, lo, prefix_lo, same}

@@ -2,7 +2,7 @@
 use Rattle.std.proofs.Common.{codes}
 use Rattle.tla_lexer.specs.declared.token.Token.{Token as Tok}
 use Rattle.tla_lexer.specs.declared.token.TokenKind.{TokenKind}
-use Rattle.tla_lexer.specs.declared.token.TokenKind.TheVariants.{Number as Digits, Name, Reserved, Symbol}
+use Rattle.tla_lexer.specs.declared.token.TokenKind.TheVariants.{Name, Reserved, Symbol}
 use Rattle.std.proofs.Common.{ℕ, Bool, true, List, Option, Some, None, refl, ◌≡◌, ◌+◌, ◌∷◌, []}
 use Rattle.tla_parser.proofs.Machine.{parse_fn}
 use Rattle.tla_parser.specs.Operators.{after, hi, is_associative, is_bullet, is_prefix, lo, number_of, prefix_hi, prefix_lo, same}

@@ -1,5 +1,4 @@
 -- A module's parts never end in a form, and a form's parts never begin as a module.
-use Rattle.tla_lexer.specs.declared.token.Token.{Token as Tok}
 use Rattle.std.proofs.Common.{Bool, true, false, refl, ◌≡◌}
 use Rattle.tla_parser.proofs.Laws.{moves_stay, stays_at, stays_in}
 use Rattle.tla_parser.specs.declared.moves.Class.{Class}

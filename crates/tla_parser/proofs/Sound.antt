@@ -4,7 +4,7 @@ use Rattle.std.proofs.Math.Dec.{ltb, leb}
 use Rattle.std.proofs.Common.{ℕ, Bool, true, false, not, max, List, Some, None, inl, inr, refl, sym, ap, subst, arith, append_assoc, append-nil, ltb-false, ltb-true, le-leb, leb-true, ◌≡◌, ◌<◌, ◌≤◌, ◌⊎◌, ◌∷◌, ◌++◌, ◌&&◌, ◌||◌, ◌∙◌, []}
 use Rattle.tla_parser.proofs.Basics.{From-append, From-less, and_both, either, or_cases}
 use Rattle.tla_parser.proofs.Complete.{again, module_again, side}
-use Rattle.tla_parser.proofs.Laws.{clash, delta-off, is_failed, negated}
+use Rattle.tla_parser.proofs.Laws.{delta-off, is_failed}
 use Rattle.tla_parser.proofs.Machine.{Frame, State, accepts, act, answer, at_bin, at_form, at_pre, behind, enter, floor, fresh, have, heading, margin, module_of, parse_fn, parse_module, placed, pops, run, step, stuck, takes, want, wanted, whole}
 use Rattle.tla_parser.proofs.Origins.{finished_parts}
 use Rattle.tla_parser.specs.Operators.{after, hi, is_prefix, lo, prefix_lo, same}

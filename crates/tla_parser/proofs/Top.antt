@@ -2,7 +2,6 @@
 use Rattle.tla_lexer.specs.declared.token.Token.{Token as Tok}
 use Rattle.tla_meaning.specs.declared.modules.Module.{Module}
 use Rattle.tla_parser.specs.declared.items.Item.{Item}
-use Rattle.tla_parser.specs.declared.items.Item.TheVariants.{Piece, Tree}
 use Rattle.std.proofs.lemmas.List.{reverse-reverse}
 use Rattle.tla_parser.specs.declared.fault.ParseFault.{ParseFault}
 use Rattle.tla_parser.specs.declared.fault.ParseFault.TheVariants.{BadGrammar, NotSupported, TooDeep, Memory}
@@ -13,7 +12,7 @@ use Rattle.tla_parser.proofs.Built.{posts_made}
 use Rattle.tla_parser.proofs.Complete.{module_again}
 use Rattle.tla_parser.proofs.Image.{capped, image, image_form, image_run, images}
 use Rattle.tla_parser.proofs.Laws.{clash}
-use Rattle.tla_parser.proofs.Machine.{Frame, State, at_bin, at_form, at_pre, have, heading, margin, module_of, parse_module, run, stuck, want}
+use Rattle.tla_parser.proofs.Machine.{Frame, State, at_bin, at_form, at_pre, have, heading, module_of, parse_module, run, stuck, want}
 use Rattle.tla_parser.proofs.Sound.{module_found, one_module}
 use Rattle.tla_parser.specs.Fields.{units_differ}
 use Rattle.tla_parser.specs.Grammar.{IsRefusal, IsWritten, NothingSpells, SpelledWithin, Spells}

@@ -3,7 +3,6 @@ use Rattle.std.specs.Prelude.{bytes_eq}
 use Rattle.std.specs.List.{list_all, list_any}
 use Rattle.tla_meaning.specs.declared.expr.Expr.{Expr}
 use Rattle.tla_meaning.specs.declared.expr.Expr.TheFolds.{fold-Expr}
-use Rattle.tla_meaning.specs.declared.modules.Module.{Module}
 use Rattle.tla_meaning.specs.declared.modules.Unit.{Unit as ModuleUnit}
 use Rattle.tla_meaning.specs.declared.modules.Unit.TheVariants.{Declare, Assume, Theorem, Define, Instance, Recursive}
 use Rattle.tla_meaning.specs.declared.op.Op.{Op}

@@ -1,14 +1,11 @@
 -- Which module the tokens and the expressions of one stand for. Source: Specifying Systems, section 15.1 and chapter 17.
 use Rattle.std.specs.Prelude.{fold, is_some}
-use Rattle.std.proofs.Math.ListN.{replicate}
 use Rattle.tla_lexer.specs.declared.token.Token.{Token}
 use Rattle.tla_meaning.specs.declared.expr.Expr.{Expr}
-use Rattle.tla_meaning.specs.declared.expr.Decl.{Decl}
 use Rattle.tla_meaning.specs.declared.expr.Def.{Def}
 use Rattle.tla_meaning.specs.declared.modules.Module.{Module}
 use Rattle.tla_meaning.specs.declared.modules.Unit.{Unit as ModuleUnit}
 use Rattle.tla_meaning.specs.declared.modules.Unit.TheVariants.{Declare, Assume, Theorem, Define, Instance, Recursive}
-use Rattle.tla_meaning.specs.declared.place.Place.{Place}
 use Rattle.tla_parser.specs.declared.items.Item.{Item}
 use Rattle.tla_parser.specs.declared.items.Item.TheVariants.{Piece, Tree}
 use Rattle.tla_parser.specs.declared.items.Head.{Head}
@@ -20,7 +17,6 @@ use Rattle.tla_parser.specs.Signs.{sign}
 use Rattle.tla_parser.specs.Trees.{head_body, head_params, head_set, head_token, name_of, no_head, nowhere}
 use Rattle.tla_parser.specs.declared.signs.Sign.{Sign}
 use Rattle.tla_parser.specs.declared.signs.Sign.TheVariants.{AssumeWord, Comma, ConstantWord, Dashes, Defines, EndSign, ExtendsWord, InstanceWord, LeftBracket, LocalWord, ModuleWord, RecursiveWord, RightBracket, TheoremWord, Underscore, VariableWord, WithWord, Word}
-use Rattle.tla_parser.specs.inner.Recognition.{operand}
 
 unfoldable pub no_units : Units
 no_units = record { name = []; extends = []; units = []; section = Outside; expects = false; local = false; note = []; place = nowhere; decls = []; head = no_head; operand = None; instance = None; replaced = []; pairs = []; recursive = [] }

@@ -3,7 +3,7 @@ use Rattle.std.specs.Prelude.{codes, bytes_eq}
 use Rattle.tla_lexer.specs.declared.token.Token.{Token}
 use Rattle.tla_lexer.specs.declared.token.TokenKind.{TokenKind}
 use Rattle.tla_lexer.specs.declared.token.TokenKind.TheVariants.{Dashes as DashRun, End, Number as Digits, Name, Reserved, Quoted, ProofStep, Symbol}
-use Rattle.std.specs.Prelude.{ℕ, cond, List, ◌∷◌, ◌==◌, []}
+use Rattle.std.specs.Prelude.{ℕ, cond, List, ◌∷◌, []}
 use Rattle.tla_parser.specs.declared.signs.Sign.{Sign}
 use Rattle.tla_parser.specs.declared.signs.Sign.TheVariants.{AngleSub, Arrow, Assigns, AssumeWord, At, AtLeast, AtMost, Bang, BooleanWord, BracketSub, Caret, CaseWord, ChooseWord, Circle, Colon, Comma, ConstantWord, Dash, Dashes, Defines, Diamond, Difference, Differs, DomainWord, Dot, Dots, DoubleArrow, Element, ElseWord, EnabledWord, EndSign, Equals, Equivalence, ExceptWord, ExistsSign, ExtendsWord, FairWord, FalseWord, FoldWord, ForallSign, Greater, IfWord, InWord, Included, InstanceWord, Intersection, LambdaWord, LeadsTo, LeftAngle, LeftBrace, LeftBracket, LeftParen, Less, LetWord, LocalWord, MapsTo, ModuleWord, NotElement, Number, OtherWord, Overrides, Pairs, Percent, Plus, ProofWord, Quotation, Quotient, RecursiveWord, Replaces, RightAngle, RightBrace, RightBracket, RightParen, Square, Star, Stray, StringWord, SubsetWord, ThenWord, TheoremWord, Tick, Tilde, Times, TrueWord, UnchangedWord, Underscore, UnionSign, UnionWord, VariableWord, Vee, Wedge, WithWord, Word}
 

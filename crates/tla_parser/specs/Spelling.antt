@@ -1,5 +1,4 @@
 -- The tree of what is written. Source: Specifying Systems, chapters 15 and 16.
-use Rattle.tla_lexer.specs.declared.token.Token.{Token}
 use Rattle.tla_meaning.specs.declared.expr.Expr.{Expr}
 use Rattle.tla_parser.specs.declared.items.Item.{Item}
 use Rattle.tla_parser.specs.declared.items.Item.TheVariants.{Piece, Tree}

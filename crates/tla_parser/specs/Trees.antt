@@ -1,5 +1,5 @@
 -- Which tree each form stands for. Source: Specifying Systems, chapter 16 (what the operators mean) and section 15.1.
-use Rattle.std.specs.Prelude.{fold, codes, if◌then◌else◌}
+use Rattle.std.specs.Prelude.{fold, codes}
 use Rattle.std.proofs.Math.ListN.{replicate}
 use Rattle.tla_lexer.specs.declared.token.Token.{Token}
 use Rattle.tla_lexer.specs.declared.token.TokenKind.{TokenKind}
@@ -8,7 +8,6 @@ use Rattle.tla_meaning.specs.declared.expr.Expr.{Expr, out-Expr, roll-Expr}
 use Rattle.tla_meaning.specs.declared.expr.Expr.TheOpen.{Expr-F}
 use Rattle.tla_meaning.specs.declared.op.Op.{Op}
 use Rattle.tla_meaning.specs.declared.op.Op.TheVariants as op
-use Rattle.tla_meaning.specs.declared.op.Form.{Form}
 use Rattle.tla_meaning.specs.declared.op.Form.TheVariants.{Choose, Enabled, Temporal, Unbounded}
 use Rattle.tla_meaning.specs.declared.place.Place.{Place}
 use Rattle.tla_parser.specs.declared.items.Item.{Item}
@@ -23,7 +22,6 @@ use Rattle.tla_parser.specs.declared.moves.Construct.{Construct}
 use Rattle.tla_parser.specs.declared.moves.Construct.TheVariants.{Application, Booleans, Call, Cases, CasesOther, Choice, Conditional, Enumeration, Exception, Fairness, FalseLiteral, FieldAccess, Filter, FoldCall, FoldUse, Function, FunctionSet, Instanced, Junction, Local, Mapping, NameUse, NumberLiteral, OldValue, Parenthesis, Primed, Quantifier, RecordSet, RecordValue, SquareAction, Strings, TextLiteral, TrueLiteral, TupleValue}
 use Rattle.tla_parser.specs.declared.signs.Sign.{Sign}
 use Rattle.tla_parser.specs.declared.signs.Sign.TheVariants.{AngleSub, Assigns, AtLeast, AtMost, BracketSub, Circle, Colon, Dash, Diamond, Difference, Differs, DomainWord, Dot, Dots, DoubleArrow, Element, EnabledWord, Equals, Equivalence, ExistsSign, FairWord, ForallSign, Greater, InWord, Included, Intersection, LeadsTo, LeftAngle, LeftBracket, LeftParen, Less, LetWord, NotElement, Overrides, Pairs, Percent, Plus, Quotient, RightBracket, Square, Star, Stray, SubsetWord, Tilde, Times, UnchangedWord, UnionSign, UnionWord, Vee, Wedge}
-use Rattle.tla_parser.specs.inner.Moves.{heads}
 
 abbrev pub node : Place → Op → List (List ℕ) → List Expr → Expr
 node p o names es = roll-Expr (record { place = p; op = o; args = es; binds = names })

@@ -24,7 +24,7 @@ use Rattle.tla_parser.specs.declared.open.Open.TheVariants.{Before, Between, Wit
 use Rattle.tla_parser.specs.declared.open.Operand.{Operand}
 use Rattle.tla_parser.specs.declared.signs.Role.{Role}
 use Rattle.tla_parser.specs.declared.signs.Role.TheVariants.{InfixRole, NoRole, PostfixRole}
-use Rattle.tla_parser.specs.inner.Derivations.{class, continues, delta, form_of, given, idle, is_last, levels, mark_column}
+use Rattle.tla_parser.specs.inner.Derivations.{continues, delta, form_of, given, idle, is_last, mark_column}
 use Rattle.tla_parser.specs.inner.Moves.{Point, begin, behind_op, class_infix, class_of, is_finished, off, reading}
 
 pub data Status : Type 0 where

@@ -1,4 +1,4 @@
-use Rattle.std.proofs.Common.{◌≡◌, ◌∙◌, ap, sym, subst, rules, IfOk, List, Some, reverse}
+use Rattle.std.proofs.Common.{◌≡◌, ◌∙◌, ap, sym, subst, IfOk, List, Some, reverse}
 use Rattle.tla_parser.specs.declared.items.Item.{Item}
 use Rattle.tla_parser.specs.Modules.{module_tree}
 use Rattle.tla_parser.specs.inner.Building.{made}

@@ -1,4 +1,4 @@
-use Rattle.std.proofs.Common.{◌≡◌, ◌∙◌, ap, sym, rules, arith, reverse}
+use Rattle.std.proofs.Common.{◌∙◌, ap, sym, arith, reverse}
 use Rattle.tla_parser.specs.inner.Recognition.{Status, advances, module_start}
 use Rattle.tla_parser.proofs.Top.{Answered, Reached, answer_fault, answer_levels, answer_one, answer_spells, answered, reached_deep, reached_none, reached_within}
 use Rattle.tla_parser.proofs.parsing.parse.Goals as goal

@@ -1,5 +1,4 @@
 use Rattle.std.proofs.Common.{◌≡◌, ◌∙◌, ap, subst, rules, IfOk, List, ℕ, Option}
-use Rattle.tla_lexer.specs.declared.token.TokenKind.{TokenKind}
 use Rattle.tla_parser.specs.Trees.{name_of}
 use Rattle.tla_parser.specs.Modules.{word_token}
 use Rattle.tla_parser.proofs.units.word.Goals as goal
