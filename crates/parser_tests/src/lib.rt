@@ -1,0 +1,13 @@
+//! Tests of the parser: which tree or refusal each text gives.
+#![tactic(auto)]
+
+#[cfg(test)]
+mod asking;
+#[cfg(test)]
+mod cases;
+#[cfg(test)]
+mod modules;
+#[cfg(test)]
+mod outside;
+#[cfg(test)]
+mod showing;

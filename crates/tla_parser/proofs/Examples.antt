@@ -1,0 +1,103 @@
+-- What the definitions say of small texts: their tokens as they are written, and the trees that they stand for.
+use Rattle.std.proofs.Common.{codes}
+use Rattle.tla_lexer.specs.declared.token.Token.{Token as Tok}
+use Rattle.tla_lexer.specs.declared.token.TokenKind.{TokenKind}
+use Rattle.tla_lexer.specs.declared.token.TokenKind.TheVariants.{Name, Reserved, Symbol}
+use Rattle.std.proofs.Common.{ℕ, Bool, true, List, Option, Some, None, refl, ◌≡◌, ◌+◌, ◌∷◌, []}
+use Rattle.tla_parser.proofs.Machine.{parse_fn}
+use Rattle.tla_parser.specs.Operators.{after, hi, is_associative, is_bullet, is_prefix, lo, number_of, prefix_hi, prefix_lo, same}
+use Rattle.tla_parser.specs.Signs.{fold_name, sign, symbol_signs, word_signs}
+use Rattle.tla_parser.specs.declared.moves.Construct.{Construct}
+use Rattle.tla_parser.specs.declared.moves.Construct.TheVariants.{Conditional, Filter, Junction, Mapping, Parenthesis}
+use Rattle.tla_parser.specs.declared.signs.Sign.{Sign}
+use Rattle.tla_parser.specs.declared.signs.Sign.TheVariants.{Plus, Vee, Wedge}
+use Rattle.tla_parser.specs.inner.Derivations.{Written, ahead, bin, closed, delta, form_levels, form_of, levels, mark_column, pre, tailed}
+use Rattle.tla_parser.specs.inner.Moves.{bracket_rows, class_infix, class_of, ends_as, fold_rows, goes_on, heads, insteads, item_rows, moved, opens, postfixes, rows, unit_rows}
+
+abbrev token_at : ℕ → TokenKind → Tok
+token_at n k = record { kind = k; place = record { file = 0; line = 1; col = n }; notes = [] }
+
+-- the tokens in one line, each in the column behind the one before
+abbrev line_from : ℕ → List TokenKind → List Tok
+line_from n [] = []
+line_from n (k ∷ ks) = token_at n k ∷ line_from (n + 1) ks
+
+abbrev a : TokenKind
+a = Name (codes "a")
+
+abbrev b : TokenKind
+b = Name (codes "b")
+
+-- what is at the root of what is read: a form, or an operator by its sign
+pub data Root : Type 0 where
+  of_form : Construct → Root
+  of_sign : Sign → Root
+
+abbrev root_of : Written → Root
+root_of (closed ps) = of_form (form_of (ahead ps))
+root_of (tailed ps w) = of_form (form_of (ahead ps))
+root_of (pre p w) = of_sign (sign p)
+root_of (bin x t y) = of_sign (sign t)
+
+-- with its levels
+abbrev root : Option Written → Option (Root × ℕ)
+root None = None
+root (Some w) = Some (root_of w, levels w)
+
+abbrev word : List ℕ → TokenKind
+word t = Reserved t
+
+abbrev mark : List ℕ → TokenKind
+mark t = Symbol t
+
+all_open : Bool
+unfolding sign symbol_signs word_signs fold_name after is_prefix lo hi prefix_lo prefix_hi same is_associative number_of is_bullet delta moved opens postfixes item_rows bracket_rows fold_rows unit_rows rows goes_on heads insteads ends_as class_of class_infix mark_column form_levels
+all_open = true
+
+-- a + b + a is a sum of a sum
+sums : root (parse_fn (line_from 1 (a ∷ mark (codes "+") ∷ b ∷ mark (codes "+") ∷ a ∷ []))) ≡ Some (of_sign Plus, 3)
+unfolding all_open
+sums = refl
+
+-- a /\ b /\ a is one conjunction, on one level above its operands
+chains : root (parse_fn (line_from 1 (a ∷ mark (codes "/\\") ∷ b ∷ mark (codes "/\\") ∷ a ∷ []))) ≡ Some (of_sign Wedge, 2)
+unfolding all_open
+chains = refl
+
+-- a /\ b \/ a is nothing
+mixed : root (parse_fn (line_from 1 (a ∷ mark (codes "/\\") ∷ b ∷ mark (codes "\\/") ∷ a ∷ []))) ≡ None
+unfolding all_open
+mixed = refl
+
+-- parentheses make no level
+brackets : root (parse_fn (line_from 1 (mark (codes "(") ∷ mark (codes "(") ∷ a ∷ mark (codes ")") ∷ mark (codes ")") ∷ []))) ≡ Some (of_form Parenthesis, 1)
+unfolding all_open
+brackets = refl
+
+-- IF a THEN b ELSE a + a, which takes the sum
+choices : root (parse_fn (line_from 1 (word (codes "IF") ∷ a ∷ word (codes "THEN") ∷ b ∷ word (codes "ELSE") ∷ a ∷ mark (codes "+") ∷ a ∷ []))) ≡ Some (of_form Conditional, 3)
+unfolding all_open
+choices = refl
+
+-- { a \in b : a } is a filter, { a : a \in b } a mapping
+filters : root (parse_fn (line_from 1 (mark (codes "{") ∷ a ∷ mark (codes "\\in") ∷ b ∷ mark (codes ":") ∷ a ∷ mark (codes "}") ∷ []))) ≡ Some (of_form Filter, 3)
+unfolding all_open
+filters = refl
+
+mappings : root (parse_fn (line_from 1 (mark (codes "{") ∷ a ∷ mark (codes ":") ∷ a ∷ mark (codes "\\in") ∷ b ∷ mark (codes "}") ∷ []))) ≡ Some (of_form Mapping, 2)
+unfolding all_open
+mappings = refl
+
+-- two bullets in one column are a list; a token in their column is part of no item
+lists : root (parse_fn (token_at 1 (mark (codes "/\\")) ∷ token_at 3 a ∷ token_at 1 (mark (codes "/\\")) ∷ token_at 3 b ∷ [])) ≡ Some (of_form Junction, 2)
+unfolding all_open
+lists = refl
+
+columns : root (parse_fn (token_at 3 (mark (codes "/\\")) ∷ token_at 5 (mark (codes "(")) ∷ token_at 3 a ∷ token_at 6 (mark (codes ")")) ∷ [])) ≡ None
+unfolding all_open
+columns = refl
+
+-- the other bullet in that column is an operator on the list that it ends
+other_bullets : root (parse_fn (token_at 1 (mark (codes "/\\")) ∷ token_at 3 a ∷ token_at 1 (mark (codes "\\/")) ∷ token_at 3 b ∷ [])) ≡ Some (of_sign Vee, 3)
+unfolding all_open
+other_bullets = refl

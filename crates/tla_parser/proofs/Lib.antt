@@ -1,0 +1,11 @@
+pub mod Basics
+pub mod Laws
+pub mod Origins
+pub mod Machine
+pub mod Complete
+pub mod Sound
+pub mod Image
+pub mod Built
+pub mod Top
+pub mod FieldLemmas
+pub mod Examples

@@ -1,0 +1,234 @@
+-- What is read of a module's tokens, and of other tokens.
+use Rattle.tla_lexer.specs.declared.token.Token.{Token as Tok}
+use Rattle.tla_meaning.specs.declared.modules.Module.{Module}
+use Rattle.tla_parser.specs.declared.items.Item.{Item}
+use Rattle.std.proofs.lemmas.List.{reverse-reverse}
+use Rattle.tla_parser.specs.declared.fault.ParseFault.{ParseFault}
+use Rattle.tla_parser.specs.declared.fault.ParseFault.TheVariants.{BadGrammar, NotSupported, TooDeep, Memory}
+use Rattle.std.proofs.Common.{Result, Ok, Err, IfOk, IfErr}
+use Rattle.std.proofs.Common.{ℕ, Bool, true, false, List, Some, None, reverse, inl, inr, refl, sym, ap, subst, arith, append-nil, ◌≡◌, ◌<◌, ◌≤◌, ◌∷◌, ◌++◌, ◌∙◌, []}
+use Rattle.tla_parser.proofs.Basics.{either}
+use Rattle.tla_parser.proofs.Built.{posts_made}
+use Rattle.tla_parser.proofs.Complete.{module_again}
+use Rattle.tla_parser.proofs.Image.{capped, image, image_form, image_run, images}
+use Rattle.tla_parser.proofs.Laws.{clash}
+use Rattle.tla_parser.proofs.Machine.{Frame, State, at_bin, at_form, at_pre, have, heading, module_of, parse_module, run, stuck, want}
+use Rattle.tla_parser.proofs.Sound.{module_found, one_module}
+use Rattle.tla_parser.specs.Fields.{units_differ}
+use Rattle.tla_parser.specs.Grammar.{IsRefusal, IsWritten, NothingSpells, SpelledWithin, Spells}
+use Rattle.tla_parser.specs.Modules.{module_tree}
+use Rattle.tla_parser.specs.Spelling.{items}
+use Rattle.tla_parser.specs.declared.moves.Mark.TheVariants.{AtTop}
+use Rattle.tla_parser.specs.declared.open.Code.{Code}
+use Rattle.tla_parser.specs.declared.open.Mode.{Mode}
+use Rattle.tla_parser.specs.declared.open.Mode.TheVariants.{Have, Read, Stuck, Want}
+use Rattle.tla_parser.specs.declared.open.Open.{Open}
+use Rattle.tla_parser.specs.declared.open.Open.TheVariants.{Before, Between, Within}
+use Rattle.tla_parser.specs.inner.Building.{made, some_if}
+use Rattle.tla_parser.specs.inner.Checked.{IsChecked}
+use Rattle.tla_parser.specs.inner.Derivations.{IsModule, Parts, ahead, deepest, posts, tokens_of, top}
+use Rattle.tla_parser.specs.inner.Recognition.{advances, code_read, ended_module, ended_stack, finished, is_of_grammar, levels_read, module_start, outcome_mode, status}
+
+pub record IsRead (ts : List Tok) : Type 0 where
+  pub written : Parts
+  pub by_rules : IsModule written
+  pub tokens_so : tokens_of written ≡ ts
+  pub code_so : code_read (advances module_start ts) ≡ posts written
+  pub levels_so : levels_read (advances module_start ts) ≡ capped (deepest written)
+
+read_as : (ts : List Tok) → image (run (heading top []) ts) ≡ advances module_start ts
+read_as ts = image_run (heading top []) ts (AtTop, refl)
+
+two_open : (f : Frame) (s : List Frame) (o : Open) → ended_stack (o ∷ images (f ∷ s)) ≡ false
+two_open (at_pre p) s o = refl
+two_open (at_bin a t) s o = refl
+two_open (at_form ps) s o = refl
+
+state_read : (st : State) → finished (image st) ≡ true → (ps : Parts) × (module_of st ≡ Some ps) × (code_read (image st) ≡ posts ps) × (levels_read (image st) ≡ capped (deepest ps))
+state_read (heading qs []) h = (qs, rw h refl, refl, refl)
+state_read (heading qs (f ∷ s)) h = absurd (clash (ended_stack (image_form qs (f ∷ s) ∷ images (f ∷ s))) h (two_open f s (image_form qs (f ∷ s))))
+state_read (have w s) h = absurd (cc)
+state_read (want s) h = absurd (cc)
+state_read stuck h = absurd (cc)
+
+pub read_module : (ts : List Tok) → finished (advances module_start ts) ≡ true → IsRead ts
+read_module ts h =
+    let e : image (run (heading top []) ts) ≡ advances module_start ts = read_as ts in
+    let r : (ps : Parts) × (module_of (run (heading top []) ts) ≡ Some ps) × (code_read (image (run (heading top []) ts)) ≡ posts ps) × (levels_read (image (run (heading top []) ts)) ≡ capped (deepest ps)) = state_read (run (heading top []) ts) (ap finished e ∙ h) in
+    let f : IsModule r.0 × (tokens_of r.0 ≡ ts) = module_found ts r.0 r.1 in
+    record { written = r.0; by_rules = f.0; tokens_so = f.1; code_so = ap code_read (sym e) ∙ r.2; levels_so = ap levels_read (sym e) ∙ r.3 }
+
+finished_state : (st : State) (ps : Parts) → module_of st ≡ Some ps → finished (image st) ≡ true
+finished_state (heading qs []) ps h =
+    elim (either (ended_module (ahead qs))) [ inl e ↦ e | inr e ↦ absurd (none_is ps (rw e at h)) ]
+  where
+    none_is : (u : Parts) → None ≡ Some u → ⊥
+    none_is u e = cc
+finished_state (heading qs (f ∷ s)) ps h = absurd (cc)
+finished_state (have w s) ps h = absurd (cc)
+finished_state (want s) ps h = absurd (cc)
+finished_state stuck ps h = absurd (cc)
+
+pub module_reads : (ts : List Tok) (ps : Parts) → IsModule ps → tokens_of ps ≡ ts → finished (advances module_start ts) ≡ true
+module_reads ts ps i e =
+    ap finished (sym (read_as ts)) ∙ finished_state (run (heading top []) ts) ps (ap parse_module (sym e) ∙ module_again ps i)
+
+-- nothing spells what is not read as a whole
+pub unread : (ts : List Tok) → finished (advances module_start ts) ≡ false → NothingSpells ts
+unread ts h m s = clash (finished (advances module_start ts)) (module_reads ts s.written s.by_rules s.tokens_so) h
+
+-- what is read is spelled, and by nothing else
+pub read_spells : (ts : List Tok) (m : Module) (r : IsRead ts) → m ≡ module_tree (items r.written) → units_differ m.units ≡ true → Spells m ts
+read_spells ts m r e d = record { written = r.written; by_rules = r.by_rules; tokens_so = r.tokens_so; module_so = sym e; fields_so = d }
+
+-- where a record of what is read names a field twice, nothing is spelled
+pub read_repeats : (ts : List Tok) (m : Module) (r : IsRead ts) → m ≡ module_tree (items r.written) → units_differ m.units ≡ false → NothingSpells ts
+read_repeats ts m r e d n s =
+    let q : n ≡ m = sym s.module_so ∙ ap (λ (ps : Parts). module_tree (items ps)) (one_module s.written r.written s.by_rules r.by_rules (s.tokens_so ∙ sym r.tokens_so)) ∙ sym e in
+    clash (units_differ m.units) (ap (λ (x : Module). units_differ x.units) (sym q) ∙ s.fields_so) d
+
+pub one_spelling : (ts : List Tok) (m n : Module) → Spells m ts → Spells n ts → m ≡ n
+one_spelling ts m n s r =
+    sym s.module_so ∙ ap (λ (ps : Parts). module_tree (items ps)) (one_module s.written r.written s.by_rules r.by_rules (s.tokens_so ∙ sym r.tokens_so)) ∙ r.module_so
+
+capped_past : (n : ℕ) → 400 < capped n → n ≤ 400 → ⊥
+capped_past n h k = omega arith
+
+-- a module with more levels is spelled within 400 by none
+pub too_deep : (ts : List Tok) → finished (advances module_start ts) ≡ true → 400 < levels_read (advances module_start ts) → IsWritten ts × (SpelledWithin 400 ts → ⊥)
+too_deep ts h k =
+    let r : IsRead ts = read_module ts h in (
+      record { written = r.written; by_rules = r.by_rules; tokens_so = r.tokens_so },
+      (λ (s : SpelledWithin 400 ts).
+          let e : s.written ≡ r.written = one_module s.written r.written s.by_rules r.by_rules (s.tokens_so ∙ sym r.tokens_so) in
+          let d : deepest s.written ≡ deepest r.written = ap deepest e in
+          capped_past (deepest r.written) (omega (arith, r.levels_so)) (omega (arith, d, s.levels_so))),
+    )
+
+capped_within : (n : ℕ) → capped n ≤ 400 → n ≤ 400
+capped_within n h = omega arith
+
+pub within_levels : (ts : List Tok) → finished (advances module_start ts) ≡ true → levels_read (advances module_start ts) ≤ 400 → SpelledWithin 400 ts
+within_levels ts h k =
+    let r : IsRead ts = read_module ts h in
+    record { written = r.written; by_rules = r.by_rules; tokens_so = r.tokens_so; levels_so = capped_within (deepest r.written) (omega (arith, r.levels_so)) }
+
+-- what was read makes the items of the module
+pub items_made : (ps : Parts) (codes : List Code) (b : Bool) (xs : List Item) → codes ≡ posts ps → made codes (Some []) ≡ some_if b (reverse xs) → xs ≡ items ps
+items_made ps codes b xs e h = by_flag b (sym (posts_made ps []) ∙ ap (λ (cs : List Code). made cs (Some [])) (sym e) ∙ h)
+  where
+    by_flag : (c : Bool) → Some (reverse (items ps) ++ []) ≡ some_if c (reverse xs) → xs ≡ items ps
+    by_flag true q =
+        let r : reverse xs ≡ reverse (items ps) = sym (some_items q) ∙ append-nil (reverse (items ps)) in
+        sym (reverse-reverse xs) ∙ ap reverse r ∙ reverse-reverse (items ps)
+      where
+        some_items : {x y : List Item} → Some x ≡ Some y → x ≡ y
+        some_items p = cc
+    by_flag false q = absurd (cc)
+
+-- ---- by the outcome
+
+outcome_finished : (m : Mode) (s : List Open) (c : List Code) (k : ℕ) → outcome_mode m s ≡ None → finished (status m s c k) ≡ false
+outcome_finished Want s c k h = refl
+outcome_finished (Have w) s c k h = refl
+outcome_finished Stuck s c k h = refl
+outcome_finished Read [] c k h = refl
+outcome_finished Read (f ∷ g ∷ s) c k h = refl
+outcome_finished Read (Before p ∷ []) c k h = refl
+outcome_finished Read (Between a o ∷ []) c k h = refl
+outcome_finished Read (Within f ∷ []) c k h =
+    elim (either (ended_module f.next)) [ inl e ↦ absurd (some_none (rw e at h)) | inr e ↦ e ]
+  where
+    some_none : Some f.levels ≡ None → ⊥
+    some_none q = cc
+
+outcome_some : (m : Mode) (s : List Open) (c : List Code) (k n : ℕ) → outcome_mode m s ≡ Some n → (finished (status m s c k) ≡ true) × (levels_read (status m s c k) ≡ n) × (code_read (status m s c k) ≡ c)
+outcome_some Want s c k n h = absurd (cc)
+outcome_some (Have w) s c k n h = absurd (cc)
+outcome_some Stuck s c k n h = absurd (cc)
+outcome_some Read [] c k n h = absurd (cc)
+outcome_some Read (f ∷ g ∷ s) c k n h = absurd (cc)
+outcome_some Read (Before p ∷ []) c k n h = absurd (cc)
+outcome_some Read (Between a o ∷ []) c k n h = absurd (cc)
+outcome_some Read (Within f ∷ []) c k n h =
+    elim (either (ended_module f.next)) [ inl e ↦ (e, same_level (rw e at h), refl) | inr e ↦ absurd (none_some (rw e at h)) ]
+  where
+    none_some : None ≡ Some n → ⊥
+    none_some q = cc
+
+    same_level : Some f.levels ≡ Some n → f.levels ≡ n
+    same_level q = cc
+
+pub refused_so : (ts : List Tok) (m : Mode) (s : List Open) (c : List Code) (k : ℕ) → status m s c k ≡ advances module_start ts → outcome_mode m s ≡ None → NothingSpells ts
+refused_so ts m s c k e h = unread ts (ap finished (sym e) ∙ outcome_finished m s c k h)
+
+pub deep_so : (ts : List Tok) (m : Mode) (s : List Open) (c : List Code) (k n : ℕ) → status m s c k ≡ advances module_start ts → outcome_mode m s ≡ Some n → 400 < n → IsWritten ts × (SpelledWithin 400 ts → ⊥)
+deep_so ts m s c k n e h l =
+    let r : (finished (status m s c k) ≡ true) × (levels_read (status m s c k) ≡ n) × (code_read (status m s c k) ≡ c) = outcome_some m s c k n h in
+    too_deep ts (ap finished (sym e) ∙ r.0) (omega (arith, ap levels_read e, r.1))
+
+pub within_so : (ts : List Tok) (m : Mode) (s : List Open) (c : List Code) (k n : ℕ) → status m s c k ≡ advances module_start ts → outcome_mode m s ≡ Some n → n ≤ 400 → SpelledWithin 400 ts
+within_so ts m s c k n e h l =
+    let r : (finished (status m s c k) ≡ true) × (levels_read (status m s c k) ≡ n) × (code_read (status m s c k) ≡ c) = outcome_some m s c k n h in
+    within_levels ts (ap finished (sym e) ∙ r.0) (omega (arith, ap levels_read e, r.1))
+
+-- the module of what was read
+pub made_so : (ts : List Tok) (m : Mode) (s : List Open) (c : List Code) (k n : ℕ) (x : Module) → status m s c k ≡ advances module_start ts → outcome_mode m s ≡ Some n → ((ps : Parts) → c ≡ posts ps → x ≡ module_tree (items ps)) → (units_differ x.units ≡ true → Spells x ts) × (units_differ x.units ≡ false → NothingSpells ts)
+made_so ts m s c k n x e h made_of =
+    let r : (finished (status m s c k) ≡ true) × (levels_read (status m s c k) ≡ n) × (code_read (status m s c k) ≡ c) = outcome_some m s c k n h in
+    let i : IsRead ts = read_module ts (ap finished (sym e) ∙ r.0) in
+    let q : x ≡ module_tree (items i.written) = made_of i.written (sym r.2 ∙ ap code_read e ∙ i.code_so) in
+    (read_spells ts x i q, read_repeats ts x i q)
+
+pub refusal_so : (e : ParseFault) (ts : List Tok) → is_of_grammar e ≡ true → NothingSpells ts → IsRefusal e ts
+refusal_so (BadGrammar p) ts h n = n
+refusal_so (NotSupported p s) ts h n = n
+refusal_so (TooDeep p) ts h n = absurd (cc)
+refusal_so (Memory e) ts h n = tt
+
+-- what the answer of the code says of the recognizer
+pub record Reached (ts : List Tok) : Type 0 where
+  pub mode : Mode
+  pub stack : List Open
+  pub code : List Code
+  pub margin : ℕ
+  pub so : status mode stack code margin ≡ advances module_start ts
+
+pub reached_none : (ts : List Tok) (r : Reached ts) (e : ParseFault) → is_of_grammar e ≡ true → outcome_mode r.mode r.stack ≡ None → IsRefusal e ts
+reached_none ts r e g h = refusal_so e ts g (refused_so ts r.mode r.stack r.code r.margin r.so h)
+
+pub reached_deep : (ts : List Tok) (r : Reached ts) (n : ℕ) → outcome_mode r.mode r.stack ≡ Some n → 400 < n → IsWritten ts × (SpelledWithin 400 ts → ⊥)
+reached_deep ts r n h l = deep_so ts r.mode r.stack r.code r.margin n r.so h l
+
+pub reached_within : (ts : List Tok) (r : Reached ts) (n : ℕ) → outcome_mode r.mode r.stack ≡ Some n → n ≤ 400 → SpelledWithin 400 ts
+reached_within ts r n h l = within_so ts r.mode r.stack r.code r.margin n r.so h l
+
+pub reached_module : (ts : List Tok) (r : Reached ts) (n : ℕ) (x : Module) → outcome_mode r.mode r.stack ≡ Some n → ((ps : Parts) → r.code ≡ posts ps → x ≡ module_tree (items ps)) → (units_differ x.units ≡ true → Spells x ts) × (units_differ x.units ≡ false → NothingSpells ts)
+reached_module ts r n x h m = made_so ts r.mode r.stack r.code r.margin n x r.so h m
+
+-- ---- the answer where a whole module was read
+
+pub record Answered (ts : List Tok) (x : Module) : Type 0 where
+  pub differs : units_differ x.units ≡ true → Spells x ts
+  pub repeats : units_differ x.units ≡ false → NothingSpells ts
+
+pub answer_spells : (ts : List Tok) (x : Module) (r : Result Module ParseFault) → Answered ts x → IsChecked x r → IfOk r (λ m. Spells m ts)
+answer_spells ts x (Ok m) a h = subst (λ (y : Module). Spells y ts) (sym h.0) (a.differs h.1)
+answer_spells ts x (Err e) a h = tt
+
+pub answer_one : (ts : List Tok) (x : Module) (r : Result Module ParseFault) → Answered ts x → IsChecked x r → (n : Module) → Spells n ts → IfOk r (λ m. m ≡ n)
+answer_one ts x (Ok m) a h n s = h.0 ∙ one_spelling ts x n (a.differs h.1) s
+answer_one ts x (Err e) a h n s = tt
+
+pub answer_levels : (ts : List Tok) (x : Module) (r : Result Module ParseFault) → SpelledWithin 400 ts → IfOk r (λ m. SpelledWithin 400 ts)
+answer_levels ts x (Ok m) h = h
+answer_levels ts x (Err e) h = tt
+
+pub answer_fault : (ts : List Tok) (x : Module) (r : Result Module ParseFault) → Answered ts x → IsChecked x r → IfErr r (λ e. IsRefusal e ts)
+answer_fault ts x (Ok m) a h = tt
+answer_fault ts x (Err e) a h = refusal_so e ts h.0 (a.repeats h.1)
+
+pub answered : (ts : List Tok) (r : Reached ts) (n : ℕ) (x : Module) → outcome_mode r.mode r.stack ≡ Some n → ((ps : Parts) → r.code ≡ posts ps → x ≡ module_tree (items ps)) → Answered ts x
+answered ts r n x h m =
+    let p : (units_differ x.units ≡ true → Spells x ts) × (units_differ x.units ≡ false → NothingSpells ts) = reached_module ts r n x h m in
+    record { differs = p.0; repeats = p.1 }

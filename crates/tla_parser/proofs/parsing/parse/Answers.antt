@@ -1,0 +1,73 @@
+use Rattle.std.proofs.Common.{◌∙◌, ap, sym, arith, reverse}
+use Rattle.tla_parser.specs.inner.Recognition.{Status, advances, module_start}
+use Rattle.tla_parser.proofs.Top.{Answered, Reached, answer_fault, answer_levels, answer_one, answer_spells, answered, reached_deep, reached_none, reached_within}
+use Rattle.tla_parser.proofs.parsing.parse.Goals as goal
+
+pub returns-in-None-clause-fault : goal.returns-in-None-clause-fault
+returns-in-None-clause-fault c =
+    let r : Reached c.args.tokens.now = record {
+      mode = c.in_ok-mode.mode;
+      stack = reverse c.read_all.new.recognizer.stack.items;
+      code = c.read_all.new.recognizer.code.items;
+      margin = c.read_all.new.recognizer.margin;
+      so = c.in_ok-mode.ensures ∙ ap (λ (st : Status). advances st c.as_slice-source.result.now) c.in_ok-recognizer.ensures ∙ ap (advances module_start) c.as_slice-source.ensures;
+    } in
+    reached_none c.args.tokens.now r c.refusal.result c.refusal.ensures (sym c.outcome.ensures ∙ c.in-None.is)
+
+pub returns-then-levels-gt-LEVELS-clause-fault : goal.returns-then-levels-gt-LEVELS-clause-fault
+returns-then-levels-gt-LEVELS-clause-fault c =
+    let r : Reached c.args.tokens.now = record {
+      mode = c.in_ok-mode.mode;
+      stack = reverse c.read_all.new.recognizer.stack.items;
+      code = c.read_all.new.recognizer.code.items;
+      margin = c.read_all.new.recognizer.margin;
+      so = c.in_ok-mode.ensures ∙ ap (λ (st : Status). advances st c.as_slice-source.result.now) c.in_ok-recognizer.ensures ∙ ap (advances module_start) c.as_slice-source.ensures;
+    } in
+    reached_deep c.args.tokens.now r c.in-Some.levels (sym c.outcome.ensures ∙ c.in-Some.is) (omega (arith, c.if-levels-gt-LEVELS.true))
+
+pub returns-clause-spells : goal.returns-clause-spells
+returns-clause-spells c =
+    let r : Reached c.args.tokens.now = record {
+      mode = c.in_ok-mode.mode;
+      stack = reverse c.read_all.new.recognizer.stack.items;
+      code = c.read_all.new.recognizer.code.items;
+      margin = c.read_all.new.recognizer.margin;
+      so = c.in_ok-mode.ensures ∙ ap (λ (st : Status). advances st c.as_slice-source.result.now) c.in_ok-recognizer.ensures ∙ ap (advances module_start) c.as_slice-source.ensures;
+    } in
+    let a : Answered c.args.tokens.now c.in_ok-module-in-Some.module = answered c.args.tokens.now r c.in-Some.levels c.in_ok-module-in-Some.module (sym c.outcome.ensures ∙ c.in-Some.is) c.in_ok-module-in-Some.ensures in
+    answer_spells c.args.tokens.now c.in_ok-module-in-Some.module c.checked.result a c.checked.ensures
+
+pub returns-clause-one : goal.returns-clause-one
+returns-clause-one c = λ m s.
+    let r : Reached c.args.tokens.now = record {
+      mode = c.in_ok-mode.mode;
+      stack = reverse c.read_all.new.recognizer.stack.items;
+      code = c.read_all.new.recognizer.code.items;
+      margin = c.read_all.new.recognizer.margin;
+      so = c.in_ok-mode.ensures ∙ ap (λ (st : Status). advances st c.as_slice-source.result.now) c.in_ok-recognizer.ensures ∙ ap (advances module_start) c.as_slice-source.ensures;
+    } in
+    let a : Answered c.args.tokens.now c.in_ok-module-in-Some.module = answered c.args.tokens.now r c.in-Some.levels c.in_ok-module-in-Some.module (sym c.outcome.ensures ∙ c.in-Some.is) c.in_ok-module-in-Some.ensures in
+    answer_one c.args.tokens.now c.in_ok-module-in-Some.module c.checked.result a c.checked.ensures m s
+
+pub returns-clause-levels : goal.returns-clause-levels
+returns-clause-levels c =
+    let r : Reached c.args.tokens.now = record {
+      mode = c.in_ok-mode.mode;
+      stack = reverse c.read_all.new.recognizer.stack.items;
+      code = c.read_all.new.recognizer.code.items;
+      margin = c.read_all.new.recognizer.margin;
+      so = c.in_ok-mode.ensures ∙ ap (λ (st : Status). advances st c.as_slice-source.result.now) c.in_ok-recognizer.ensures ∙ ap (advances module_start) c.as_slice-source.ensures;
+    } in
+    answer_levels c.args.tokens.now c.in_ok-module-in-Some.module c.checked.result (reached_within c.args.tokens.now r c.in-Some.levels (sym c.outcome.ensures ∙ c.in-Some.is) (omega (arith, c.if-levels-gt-LEVELS.false)))
+
+pub returns-clause-fault : goal.returns-clause-fault
+returns-clause-fault c =
+    let r : Reached c.args.tokens.now = record {
+      mode = c.in_ok-mode.mode;
+      stack = reverse c.read_all.new.recognizer.stack.items;
+      code = c.read_all.new.recognizer.code.items;
+      margin = c.read_all.new.recognizer.margin;
+      so = c.in_ok-mode.ensures ∙ ap (λ (st : Status). advances st c.as_slice-source.result.now) c.in_ok-recognizer.ensures ∙ ap (advances module_start) c.as_slice-source.ensures;
+    } in
+    let a : Answered c.args.tokens.now c.in_ok-module-in-Some.module = answered c.args.tokens.now r c.in-Some.levels c.in_ok-module-in-Some.module (sym c.outcome.ensures ∙ c.in-Some.is) c.in_ok-module-in-Some.ensures in
+    answer_fault c.args.tokens.now c.in_ok-module-in-Some.module c.checked.result a c.checked.ensures

@@ -1,0 +1,44 @@
+-- What tokens spell. Source: Specifying Systems, chapters 15 and 17.
+use Rattle.tla_lexer.specs.declared.token.Token.{Token}
+use Rattle.tla_meaning.specs.declared.modules.Module.{Module}
+use Rattle.tla_parser.specs.declared.fault.ParseFault.{ParseFault}
+use Rattle.tla_parser.specs.declared.fault.ParseFault.TheVariants.{BadGrammar, TooDeep, NotSupported, Memory}
+use Rattle.std.specs.Prelude.{ℕ, true, List, ◌≡◌, ◌≤◌}
+use Rattle.tla_parser.specs.Fields.{units_differ}
+use Rattle.tla_parser.specs.Modules.{module_tree}
+use Rattle.tla_parser.specs.Spelling.{items}
+use Rattle.tla_parser.specs.inner.Derivations.{IsModule, Parts, deepest, tokens_of}
+use Rattle.tla_parser.specs.inner.Recognition.{form}
+
+-- The module is what the tokens spell: they are the tokens of a module that is written by the rules, and it is the
+-- module of its tokens and expressions.
+pub record Spells (m : Module) (ts : List Token) : Type 0 where
+  pub written : Parts
+  pub by_rules : IsModule written
+  pub tokens_so : tokens_of written ≡ ts
+  pub module_so : module_tree (items written) ≡ m
+  -- no record names a field twice
+  pub fields_so : units_differ m.units ≡ true
+
+-- no module at all is what the tokens spell
+abbrev pub NothingSpells : List Token → Type 0
+NothingSpells ts = (m : Module) → Spells m ts → ⊥
+
+-- The tokens are those of a module that is written by the rules, whatever the names of its fields.
+pub record IsWritten (ts : List Token) : Type 0 where
+  pub written : Parts
+  pub by_rules : IsModule written
+  pub tokens_so : tokens_of written ≡ ts
+
+-- so is some module, and no expression of it has more than n levels
+pub record SpelledWithin (n : ℕ) (ts : List Token) : Type 0 where
+  pub written : Parts
+  pub by_rules : IsModule written
+  pub tokens_so : tokens_of written ≡ ts
+  pub levels_so : deepest written ≤ n
+
+abbrev pub IsRefusal : ParseFault → List Token → Type 0
+IsRefusal (BadGrammar place) ts = NothingSpells ts
+IsRefusal (NotSupported place form) ts = NothingSpells ts
+IsRefusal (TooDeep place) ts = IsWritten ts × (SpelledWithin 400 ts → ⊥)
+IsRefusal (Memory e) ts = Unit {0}

@@ -1,0 +1,5 @@
+pub mod Moves
+pub mod Derivations
+pub mod Recognition
+pub mod Building
+pub mod Checked

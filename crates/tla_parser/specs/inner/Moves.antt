@@ -1,0 +1,347 @@
+-- What may come in a form, token by token: the forms of specs/Grammar, told by where in a form one is.
+use Rattle.std.specs.Prelude.{ℕ, Bool, true, false, cond, List, ◌∷◌, ◌&&◌, ◌==◌, []}
+use Rattle.tla_parser.specs.Operators.{is_bullet, same_sign}
+use Rattle.tla_parser.specs.declared.moves.Class.{Class}
+use Rattle.tla_parser.specs.declared.moves.Class.TheVariants.{BareName, FoldName, Joined, Member, Other, PathName}
+use Rattle.tla_parser.specs.declared.moves.Construct.{Construct}
+use Rattle.tla_parser.specs.declared.moves.Construct.TheVariants.{Application, Booleans, Call, Cases, CasesOther, Choice, Conditional, Enumeration, Exception, Fairness, FalseLiteral, FieldAccess, Filter, FoldCall, FoldUse, Function, FunctionSet, Instanced, Junction, Local, Mapping, NameUse, NumberLiteral, OldValue, Parenthesis, Primed, Quantifier, RecordSet, RecordValue, SquareAction, Strings, TextLiteral, TrueLiteral, TupleValue}
+use Rattle.tla_parser.specs.declared.moves.Mark.{Mark}
+use Rattle.tla_parser.specs.declared.moves.Mark.TheVariants.{ArgumentName, AtTop, BangName, BehindArgument, BehindArity, BehindBlank, BehindBoundName, BehindChosen, BehindDeclared, BehindExtended, BehindFoldFirst, BehindFoldSecond, BehindHeader, BehindInstance, BehindLocalArgument, BehindMapped, BehindOther, BehindParameter, BehindQuantified, BehindRecursive, BehindSetName, BehindStep, BehindSubstituted, BehindUnitArgument, BehindUnitParameter, BehindValueName, BetweenUnits, Bullets, ChoiceBody, ChosenName, DeclaredName, ExtendedName, FairOpens, FairSubscript, FieldName, Finished, FoldFirst, FoldSecond, InArgumentSet, InArm, InAssumption, InBody, InBound, InBracket, InCall, InChoiceSet, InDefinition, InElse, InFair, InFairParen, InFairTuple, InFieldSet, InFieldValue, InFilter, InFold, InFoldBody, InFoldSequence, InFoldStart, InFunctionBody, InGuard, InIf, InIndex, InItems, InLocalSet, InMappedSet, InMoreFair, InMoreItems, InMoreSubscript, InMoreTuple, InNamedAssumption, InNamedStatement, InNextGuard, InOther, InParen, InPlainBody, InReplacement, InResultSet, InStatement, InSubscriptParen, InSubscriptTuple, InThen, InTuple, InUnitSet, InUpdateIndex, InUpdateValue, InstanceName, LocalArgument, LocalBody, LocalDefines, LocalHead, LocalName, LocalParameter, LocalUnit, MappedName, ModuleHead, ModuleName, ModuleNamed, NextBoundName, QuantifiedName, QuantifierBody, RecursiveBlank, RecursiveName, SetName, Subscript, Substituted, UnitArgument, UnitDefines, UnitHead, UnitParameter, UpdateBang, UpdateField, UpdatePath, ValueName}
+use Rattle.tla_parser.specs.declared.moves.Next.{Next}
+use Rattle.tla_parser.specs.declared.moves.Next.TheVariants.{Fail, Last, Reads, Shut, Wants}
+use Rattle.tla_parser.specs.declared.moves.Seen.{Seen}
+use Rattle.tla_parser.specs.declared.signs.Sign.{Sign}
+use Rattle.tla_parser.specs.declared.signs.Sign.TheVariants.{AngleSub, Arrow, AssumeWord, At, Bang, BooleanWord, BracketSub, CaseWord, ChooseWord, Colon, Comma, ConstantWord, Dashes, Defines, Dot, Element, ElseWord, EndSign, Equals, ExceptWord, ExistsSign, ExtendsWord, FairWord, FalseWord, FoldWord, ForallSign, IfWord, InWord, InstanceWord, LambdaWord, LeftAngle, LeftBrace, LeftBracket, LeftParen, LetWord, LocalWord, MapsTo, ModuleWord, Number, OtherWord, Quotation, RecursiveWord, Replaces, RightAngle, RightBrace, RightBracket, RightParen, Square, StringWord, ThenWord, TheoremWord, Tick, Times, TrueWord, Underscore, VariableWord, Vee, Wedge, WithWord, Word}
+
+-- what one sign leads to
+pub record Row : Type 0 where
+  pub sign : Sign
+  pub next : Next
+
+abbrev pub on : Sign → Next → Row
+on s n = record { sign = s; next = n }
+
+abbrev pub found : Sign → List Row → Next
+found s [] = Fail
+found s (row ∷ others) = cond (same_sign s row.sign) row.next (found s others)
+
+-- where an expression begins
+unfoldable pub opens : Seen → Sign → Next
+opens t Number = Shut NumberLiteral
+opens t Quotation = Shut TextLiteral
+opens t Word = Shut NameUse
+opens t FoldWord = Shut FoldUse
+opens t TrueWord = Shut TrueLiteral
+opens t FalseWord = Shut FalseLiteral
+opens t BooleanWord = Shut Booleans
+opens t StringWord = Shut Strings
+opens t At = Shut OldValue
+opens t LeftParen = Wants InParen
+opens t LeftBrace = Wants InItems
+opens t LeftBracket = Wants InBracket
+opens t LeftAngle = Wants InTuple
+opens t FairWord = Reads FairSubscript
+opens t ExistsSign = Reads QuantifiedName
+opens t ForallSign = Reads QuantifiedName
+opens t ChooseWord = Reads ChosenName
+opens t IfWord = Wants InIf
+opens t CaseWord = Wants InGuard
+opens t LetWord = Reads LocalName
+opens t Wedge = Last (Bullets Wedge t.column)
+opens t Vee = Last (Bullets Vee t.column)
+opens t _ = Fail
+
+-- behind an operand that a postfix form begins with
+abbrev pub calls : Class → Next
+calls BareName = Wants InCall
+calls PathName = Wants InCall
+calls FoldName = Wants InFold
+calls Other = Fail
+calls Member = Fail
+calls (Joined s) = Fail
+
+abbrev pub of_name : Class → Next → Next
+of_name BareName n = n
+of_name PathName n = Fail
+of_name FoldName n = Fail
+of_name Other n = Fail
+of_name Member n = Fail
+of_name (Joined s) n = Fail
+
+unfoldable pub postfixes : Class → List Row
+postfixes c =
+    on Tick (Shut Primed) ∷ on LeftBracket (Wants InIndex) ∷ on Dot (Reads FieldName) ∷ on LeftParen (calls c)
+    ∷ on Bang (of_name c (Reads BangName)) ∷ []
+
+-- `:` behind the first operand in braces
+abbrev pub braced : Class → Next
+braced Member = Wants InFilter
+braced BareName = Reads MappedName
+braced PathName = Reads MappedName
+braced FoldName = Reads MappedName
+braced Other = Reads MappedName
+braced (Joined s) = Reads MappedName
+
+-- `|->` behind the first operand in brackets
+abbrev pub mapped : Class → Next
+mapped Member = Wants InFunctionBody
+mapped BareName = Wants InFieldValue
+mapped PathName = Fail
+mapped FoldName = Fail
+mapped Other = Fail
+mapped (Joined s) = Fail
+
+-- `,` behind the first operand in brackets
+abbrev pub bracketed : Class → Next
+bracketed Member = Reads ArgumentName
+bracketed BareName = Reads ArgumentName
+bracketed PathName = Fail
+bracketed FoldName = Fail
+bracketed Other = Fail
+bracketed (Joined s) = Fail
+
+unfoldable pub item_rows : Class → List Row
+item_rows c = on Comma (Wants InMoreItems) ∷ on RightBrace (Shut Enumeration) ∷ on Colon (braced c) ∷ []
+
+unfoldable pub bracket_rows : Class → List Row
+bracket_rows c =
+    on Arrow (Wants InResultSet) ∷ on MapsTo (mapped c) ∷ on Comma (bracketed c)
+    ∷ on Colon (of_name c (Wants InFieldSet)) ∷ on ExceptWord (Reads UpdateBang) ∷ on BracketSub (Reads Subscript) ∷ []
+
+unfoldable pub fold_rows : Class → List Row
+fold_rows c = on Comma (of_name c (Wants InFoldStart)) ∷ []
+
+-- the next bullet of a list: the same in the same column
+abbrev pub next_bullet : Sign → ℕ → Seen → Next
+next_bullet s n t = cond (is_bullet s && (same_sign s t.sign && (n == t.column))) (Last (Bullets t.sign t.column)) Fail
+
+-- where a unit begins, or the module ends
+unfoldable pub unit_rows : List Row
+unit_rows =
+    on Word (Reads UnitHead) ∷ on VariableWord (Reads DeclaredName) ∷ on ConstantWord (Reads DeclaredName)
+    ∷ on AssumeWord (Wants InAssumption) ∷ on TheoremWord (Wants InStatement) ∷ on InstanceWord (Reads InstanceName)
+    ∷ on RecursiveWord (Reads RecursiveName) ∷ on LocalWord (Reads LocalUnit) ∷ on Dashes (Reads BetweenUnits)
+    ∷ on EndSign (Reads Finished) ∷ []
+
+-- behind an operand of a form
+unfoldable pub rows : Mark → Class → List Row
+rows InParen c = on RightParen (Shut Parenthesis) ∷ []
+rows InIf c = on ThenWord (Wants InThen) ∷ []
+rows InThen c = on ElseWord (Last InElse) ∷ []
+rows InBound c = on Comma (Reads NextBoundName) ∷ on Colon (Last QuantifierBody) ∷ []
+rows InChoiceSet c = on Colon (Last ChoiceBody) ∷ []
+rows InItems c = item_rows c
+rows InMoreItems c = on Comma (Wants InMoreItems) ∷ on RightBrace (Shut Enumeration) ∷ []
+rows InFilter c = on RightBrace (Shut Filter) ∷ []
+rows InMappedSet c = on Comma (Reads MappedName) ∷ on RightBrace (Shut Mapping) ∷ []
+rows InBracket c = bracket_rows c
+rows InResultSet c = on RightBracket (Shut FunctionSet) ∷ []
+rows InArgumentSet c = on Comma (Reads ArgumentName) ∷ on MapsTo (Wants InFunctionBody) ∷ []
+rows InFunctionBody c = on RightBracket (Shut Function) ∷ []
+rows InFieldValue c = on Comma (Reads ValueName) ∷ on RightBracket (Shut RecordValue) ∷ []
+rows InFieldSet c = on Comma (Reads SetName) ∷ on RightBracket (Shut RecordSet) ∷ []
+rows InUpdateIndex c = on Comma (Wants InUpdateIndex) ∷ on RightBracket (Reads BehindStep) ∷ []
+rows InUpdateValue c = on Comma (Reads UpdateBang) ∷ on RightBracket (Shut Exception) ∷ []
+rows InTuple c = on Comma (Wants InMoreTuple) ∷ on RightAngle (Shut TupleValue) ∷ on AngleSub (Reads Subscript) ∷ []
+rows InMoreTuple c = on Comma (Wants InMoreTuple) ∷ on RightAngle (Shut TupleValue) ∷ []
+rows InSubscriptTuple c = on Comma (Wants InMoreSubscript) ∷ on RightAngle (Shut SquareAction) ∷ []
+rows InMoreSubscript c = on Comma (Wants InMoreSubscript) ∷ on RightAngle (Shut SquareAction) ∷ []
+rows InSubscriptParen c = on RightParen (Shut SquareAction) ∷ []
+rows InFairTuple c = on Comma (Wants InMoreFair) ∷ on RightAngle (Reads FairOpens) ∷ []
+rows InMoreFair c = on Comma (Wants InMoreFair) ∷ on RightAngle (Reads FairOpens) ∷ []
+rows InFairParen c = on RightParen (Reads FairOpens) ∷ []
+rows InFair c = on RightParen (Shut Fairness) ∷ []
+rows InGuard c = on Arrow (Last InArm) ∷ []
+rows InArm c = on Square (Wants InNextGuard) ∷ []
+rows InNextGuard c = on Arrow (Last InArm) ∷ []
+rows InLocalSet c = on Comma (Reads LocalArgument) ∷ on RightBracket (Reads LocalDefines) ∷ []
+rows InDefinition c = on Word (Reads LocalHead) ∷ on InWord (Last LocalBody) ∷ []
+rows InCall c = on Comma (Wants InCall) ∷ on RightParen (Shut Call) ∷ []
+rows InFold c = fold_rows c
+rows InFoldBody c = on Comma (Wants InFoldStart) ∷ []
+rows InFoldStart c = on Comma (Wants InFoldSequence) ∷ []
+rows InFoldSequence c = on RightParen (Shut FoldCall) ∷ []
+rows InIndex c = on Comma (Wants InIndex) ∷ on RightBracket (Shut Application) ∷ []
+rows InAssumption c = on Defines (of_name c (Wants InNamedAssumption)) ∷ unit_rows
+rows InNamedAssumption c = unit_rows
+rows InStatement c = on Defines (of_name c (Wants InNamedStatement)) ∷ unit_rows
+rows InNamedStatement c = unit_rows
+rows InUnitSet c = on Comma (Reads UnitArgument) ∷ on RightBracket (Reads UnitDefines) ∷ []
+rows InBody c = unit_rows
+rows InPlainBody c = unit_rows
+rows InReplacement c = on Comma (Reads Substituted) ∷ unit_rows
+rows _ c = []
+
+unfoldable pub goes_on : Mark → Class → Seen → Next
+goes_on (Bullets s n) c t = next_bullet s n t
+goes_on m c t = found t.sign (rows m c)
+
+-- between the tokens of a form
+unfoldable pub heads : Mark → List Row
+heads QuantifiedName = on Word (Reads BehindQuantified) ∷ []
+heads BehindQuantified = on Comma (Reads QuantifiedName) ∷ on Element (Wants InBound) ∷ on Colon (Last QuantifierBody) ∷ []
+heads NextBoundName = on Word (Reads BehindBoundName) ∷ []
+heads BehindBoundName = on Comma (Reads NextBoundName) ∷ on Element (Wants InBound) ∷ []
+heads ChosenName = on Word (Reads BehindChosen) ∷ []
+heads BehindChosen = on Element (Wants InChoiceSet) ∷ on Colon (Last ChoiceBody) ∷ []
+heads MappedName = on Word (Reads BehindMapped) ∷ []
+heads BehindMapped = on Comma (Reads MappedName) ∷ on Element (Wants InMappedSet) ∷ []
+heads ArgumentName = on Word (Reads BehindArgument) ∷ []
+heads BehindArgument = on Comma (Reads ArgumentName) ∷ on Element (Wants InArgumentSet) ∷ []
+heads ValueName = on Word (Reads BehindValueName) ∷ []
+heads BehindValueName = on MapsTo (Wants InFieldValue) ∷ []
+heads SetName = on Word (Reads BehindSetName) ∷ []
+heads BehindSetName = on Colon (Wants InFieldSet) ∷ []
+heads UpdateBang = on Bang (Reads UpdatePath) ∷ []
+heads UpdatePath = on LeftBracket (Wants InUpdateIndex) ∷ on Dot (Reads UpdateField) ∷ []
+heads UpdateField = on Word (Reads BehindStep) ∷ []
+heads BehindStep = on LeftBracket (Wants InUpdateIndex) ∷ on Dot (Reads UpdateField) ∷ on Equals (Wants InUpdateValue) ∷ []
+heads Subscript = on Word (Shut SquareAction) ∷ on LeftAngle (Wants InSubscriptTuple) ∷ on LeftParen (Wants InSubscriptParen) ∷ []
+heads FairSubscript = on Word (Reads FairOpens) ∷ on LeftAngle (Wants InFairTuple) ∷ on LeftParen (Wants InFairParen) ∷ []
+heads FairOpens = on LeftParen (Wants InFair) ∷ []
+heads BehindOther = on Arrow (Last InOther) ∷ []
+heads LocalName = on Word (Reads LocalHead) ∷ []
+heads LocalHead = on Defines (Wants InDefinition) ∷ on LeftParen (Reads LocalParameter) ∷ on LeftBracket (Reads LocalArgument) ∷ []
+heads LocalParameter = on Word (Reads BehindParameter) ∷ []
+heads BehindParameter = on Comma (Reads LocalParameter) ∷ on RightParen (Reads LocalDefines) ∷ []
+heads LocalArgument = on Word (Reads BehindLocalArgument) ∷ []
+heads BehindLocalArgument = on Comma (Reads LocalArgument) ∷ on Element (Wants InLocalSet) ∷ []
+heads LocalDefines = on Defines (Wants InDefinition) ∷ []
+heads FoldFirst = on Word (Reads BehindFoldFirst) ∷ []
+heads BehindFoldFirst = on Comma (Reads FoldSecond) ∷ []
+heads FoldSecond = on Word (Reads BehindFoldSecond) ∷ []
+heads BehindFoldSecond = on Colon (Wants InFoldBody) ∷ []
+heads FieldName = on Word (Shut FieldAccess) ∷ []
+heads BangName = on Word (Shut Instanced) ∷ []
+heads AtTop = on Dashes (Reads ModuleHead) ∷ []
+heads ModuleHead = on ModuleWord (Reads ModuleName) ∷ []
+heads ModuleName = on Word (Reads ModuleNamed) ∷ []
+heads ModuleNamed = on Dashes (Reads BehindHeader) ∷ []
+heads BehindHeader = on ExtendsWord (Reads ExtendedName) ∷ unit_rows
+heads ExtendedName = on Word (Reads BehindExtended) ∷ []
+heads BehindExtended = on Comma (Reads ExtendedName) ∷ unit_rows
+heads BetweenUnits = unit_rows
+heads DeclaredName = on Word (Reads BehindDeclared) ∷ []
+heads BehindDeclared = on Comma (Reads DeclaredName) ∷ unit_rows
+heads UnitHead = on Defines (Wants InBody) ∷ on LeftParen (Reads UnitParameter) ∷ on LeftBracket (Reads UnitArgument) ∷ []
+heads UnitParameter = on Word (Reads BehindUnitParameter) ∷ []
+heads BehindUnitParameter = on Comma (Reads UnitParameter) ∷ on RightParen (Reads UnitDefines) ∷ []
+heads UnitArgument = on Word (Reads BehindUnitArgument) ∷ []
+heads BehindUnitArgument = on Comma (Reads UnitArgument) ∷ on Element (Wants InUnitSet) ∷ []
+heads UnitDefines = on Defines (Wants InPlainBody) ∷ []
+heads InstanceName = on Word (Reads BehindInstance) ∷ []
+heads BehindInstance = on WithWord (Reads Substituted) ∷ unit_rows
+heads Substituted = on Word (Reads BehindSubstituted) ∷ []
+heads BehindSubstituted = on Replaces (Wants InReplacement) ∷ []
+heads RecursiveName = on Word (Reads BehindRecursive) ∷ []
+heads BehindRecursive = on Comma (Reads RecursiveName) ∷ on LeftParen (Reads RecursiveBlank) ∷ unit_rows
+heads RecursiveBlank = on Underscore (Reads BehindBlank) ∷ []
+heads BehindBlank = on Comma (Reads RecursiveBlank) ∷ on RightParen (Reads BehindArity) ∷ []
+heads BehindArity = on Comma (Reads RecursiveName) ∷ unit_rows
+heads LocalUnit = on Word (Reads UnitHead) ∷ on InstanceWord (Reads InstanceName) ∷ []
+heads _ = []
+
+-- in the place of an operand
+unfoldable pub insteads : Mark → List Row
+insteads InItems = on RightBrace (Shut Enumeration) ∷ []
+insteads InTuple = on RightAngle (Shut TupleValue) ∷ []
+insteads InSubscriptTuple = on RightAngle (Shut SquareAction) ∷ []
+insteads InFairTuple = on RightAngle (Reads FairOpens) ∷ []
+insteads InNextGuard = on OtherWord (Reads BehindOther) ∷ []
+insteads InFold = on LambdaWord (Reads FoldFirst) ∷ []
+insteads InBody = on InstanceWord (Reads InstanceName) ∷ []
+insteads _ = []
+
+-- what stands before a token of a form
+pub data Point : Type 0 where
+  begin : Point
+  behind_op : Class → Point
+  reading : Mark → Point
+  -- where an operand may come too
+  hungry : Mark → Point
+  filled : Mark → Class → Point
+  off : Point
+
+unfoldable pub moved : Point → Seen → Next
+moved begin t = opens t t.sign
+moved (behind_op c) t = found t.sign (postfixes c)
+moved (reading m) t = found t.sign (heads m)
+moved (hungry m) t = found t.sign (insteads m)
+moved (filled m c) t = goes_on m c t
+moved off t = Fail
+
+-- the form that ends in an operand here
+unfoldable pub ends_as : Mark → Construct
+ends_as InElse = Conditional
+ends_as QuantifierBody = Quantifier
+ends_as ChoiceBody = Choice
+ends_as InArm = Cases
+ends_as InOther = CasesOther
+ends_as LocalBody = Local
+ends_as _ = Junction
+
+-- what the operand is that a whole form makes
+unfoldable pub class_of : Construct → Class
+class_of NameUse = BareName
+class_of FoldUse = FoldName
+class_of Instanced = PathName
+class_of _ = Other
+
+-- what an infix operator makes of a left operand
+abbrev pub member : Class → Class
+member BareName = Member
+member PathName = Other
+member FoldName = Other
+member Other = Other
+member Member = Other
+member (Joined s) = Other
+
+unfoldable pub class_infix : Class → Sign → Class
+class_infix c Element = member c
+class_infix c Wedge = Joined Wedge
+class_infix c Vee = Joined Vee
+class_infix c Times = Joined Times
+class_infix c _ = Other
+
+-- the marks of a module, outside its expressions
+unfoldable pub in_units : Mark → Bool
+in_units AtTop = true
+in_units ModuleHead = true
+in_units ModuleName = true
+in_units ModuleNamed = true
+in_units BehindHeader = true
+in_units ExtendedName = true
+in_units BehindExtended = true
+in_units BetweenUnits = true
+in_units DeclaredName = true
+in_units BehindDeclared = true
+in_units InAssumption = true
+in_units InNamedAssumption = true
+in_units InStatement = true
+in_units InNamedStatement = true
+in_units UnitHead = true
+in_units UnitParameter = true
+in_units BehindUnitParameter = true
+in_units UnitArgument = true
+in_units BehindUnitArgument = true
+in_units InUnitSet = true
+in_units UnitDefines = true
+in_units InBody = true
+in_units InPlainBody = true
+in_units InstanceName = true
+in_units BehindInstance = true
+in_units Substituted = true
+in_units BehindSubstituted = true
+in_units InReplacement = true
+in_units RecursiveName = true
+in_units BehindRecursive = true
+in_units RecursiveBlank = true
+in_units BehindBlank = true
+in_units BehindArity = true
+in_units LocalUnit = true
+in_units Finished = true
+in_units _ = false
+
+unfoldable pub is_finished : Mark → Bool
+is_finished Finished = true
+is_finished _ = false

@@ -1,0 +1,51 @@
+// Why tokens are refused.
+ghost use Rattle.std.specs.Prelude.{◌≡◌, alloc_error};
+ghost use Rattle.tla_parser.specs.declared.fault.ParseFault.TheVariants.{Memory as wants_memory};
+
+use std::alloc::{AllocError, AllocFailed};
+use thiserror::Error;
+use tla_meaning::Place;
+
+/// A form of the language that is read nowhere.
+#[derive(Clone, Copy, Debug, PartialEq, Eq, Drop)]
+pub enum Syntax {
+    NestedModule,
+    ParametrizedInstance,
+    SymbolDefinition,
+    Proof,
+    OperatorParameter,
+    TuplePattern,
+}
+
+/// Why tokens are no module.
+#[derive(Debug, Drop, Error)]
+pub enum ParseFault {
+    /// No module spells the tokens, and the unit that begins here is the first that is not whole.
+    #[error("no unit of the grammar stands here")]
+    BadGrammar(Place),
+    /// The unit that begins here has more than 400 levels.
+    #[error("a unit is nested too deeply")]
+    TooDeep(Place),
+    /// The form at this place is not read.
+    #[error("a form is not supported")]
+    NotSupported(Place, Syntax),
+    /// Memory ran out.
+    #[error(transparent)]
+    Memory(AllocError),
+}
+
+impl From<AllocError> for ParseFault {
+    ghost from_gives = { λ _ e. e ≡ wants_memory alloc_error };
+
+    fn from(_: AllocError) -> Self {
+        ParseFault::Memory(AllocError)
+    }
+}
+
+impl<T: Drop> From<AllocFailed<T>> for ParseFault {
+    ghost from_gives = { λ _ e. e ≡ wants_memory alloc_error };
+
+    fn from(_: AllocFailed<T>) -> Self {
+        ParseFault::Memory(AllocError)
+    }
+}
