@@ -1,19 +1,19 @@
 -- The parts of an expression's form lead where the templates lead.
-use Rattle.std.proofs.Common.{◌↔◌, ℕ, Bool, true, false, cond, not, ◌≡◌, ◌⊎◌, inl, inr, List, [], ◌∷◌, ◌++◌, ◌&&◌, ◌||◌, ◌==◌, refl, sym, ap, subst, ◌∙◌}
+use Rattle.std.proofs.Common.{◌↔◌, ℕ, Bool, true, false, not, ◌≡◌, ◌⊎◌, inl, inr, List, [], ◌∷◌, ◌++◌, ◌&&◌, ◌||◌, ◌==◌, refl, sym, ap, subst, ◌∙◌}
 use Rattle.tla_lexer.specs.declared.token.Token.{Token as Tok}
 use Rattle.tla_parser.proofs.Basics.{and_both, either, or_cases}
 use Rattle.tla_parser.proofs.Laws.{clash, negated, stays_in}
 use Rattle.tla_parser.proofs.Origins.{ahead_stays}
 use Rattle.tla_parser.proofs.TableLaw.{along, behind_all, begins, is_lasting, is_reading, is_wanting, left_of, postfix_law}
 use Rattle.tla_parser.proofs.TableRows.{unended, unended_left, heads_law, last_law, lasting_law, quiet_law, wanted_law, wants_law}
-use Rattle.tla_parser.specs.Forms.{FormPart, Matches, Spelled, Template, a_token, an_operand, nothing, templates}
+use Rattle.tla_parser.specs.Forms.{FormPart, Matches, Spelled, Template, a_token, an_operand, templates}
 use Rattle.tla_parser.specs.inner.Elements.{Proper, elements}
 use Rattle.tla_parser.proofs.Templates.{behind_part, can_end, is_never, matches_can, matches_part, never_not, part_matches}
 use Rattle.tla_parser.specs.declared.moves.Construct.{Construct}
 use Rattle.tla_parser.specs.Operators.{is_bullet, same_sign}
 use Rattle.tla_parser.specs.Signs.{column, sign}
 use Rattle.tla_parser.specs.declared.moves.Class.{Class}
-use Rattle.tla_parser.specs.declared.moves.Class.TheVariants.{BareName, Joined}
+use Rattle.tla_parser.specs.declared.moves.Class.TheVariants.{Joined}
 use Rattle.tla_parser.specs.declared.moves.Mark.{Mark}
 use Rattle.tla_parser.specs.declared.moves.Mark.TheVariants.{Bullets, InAssumption, InBracket, InFold, InItems, InStatement}
 use Rattle.tla_parser.specs.declared.moves.Next.{Next}
@@ -21,7 +21,7 @@ use Rattle.tla_parser.specs.declared.moves.Next.TheVariants.{Fail, Last, Reads, 
 use Rattle.tla_parser.specs.declared.moves.Seen.{Seen}
 use Rattle.tla_parser.specs.declared.signs.Sign.{Sign}
 use Rattle.tla_parser.specs.declared.signs.Sign.TheVariants.{Number}
-use Rattle.tla_parser.specs.inner.Derivations.{Parts, Written, ahead, class, delta, exp, from, given, look, of_module, point, resumed, start, tok, top}
+use Rattle.tla_parser.specs.inner.Derivations.{Parts, ahead, class, delta, exp, from, given, look, of_module, point, resumed, start, tok, top}
 use Rattle.tla_parser.specs.inner.Moves.{Point, Row, begin, behind_op, bracket_rows, filled, fold_rows, found, goes_on, heads, hungry, in_units, insteads, item_rows, moved, next_bullet, off, opens, postfixes, reading, rows, unit_rows}
 
 -- ---- each mark comes in its own way

@@ -1,8 +1,8 @@
 -- The table of forms is equal to the templates, from each place in a form: by computing, for every token.
-use Rattle.std.proofs.Common.{ℕ, Bool, true, false, cond, ◌≡◌, ◌&&◌, not, List, [], ◌∷◌, refl}
-use Rattle.tla_parser.proofs.Templates.{behind_part, can_end, is_never}
+use Rattle.std.proofs.Common.{Bool, true, false, cond, ◌≡◌, List, [], ◌∷◌, refl}
+use Rattle.tla_parser.proofs.Templates.{behind_part, is_never}
 use Rattle.tla_parser.specs.Operators.{number_of}
-use Rattle.tla_parser.specs.inner.Moves.{opens, postfixes, rows, item_rows, bracket_rows, fold_rows, heads, insteads, found, in_units}
+use Rattle.tla_parser.specs.inner.Moves.{opens, postfixes, rows, item_rows, bracket_rows, fold_rows, heads, insteads, found}
 use Rattle.tla_parser.specs.Forms.{FormPart, a_token, an_operand, Form, nothing, Template, templates}
 use Rattle.tla_parser.specs.declared.signs.Sign.{Sign}
 use Rattle.tla_parser.specs.declared.signs.Sign.TheVariants.{Number, Word, LeftParen, RightParen, LeftBracket, RightBracket, LeftBrace, LeftAngle, Comma, Colon, Dot, Bang, Defines, Arrow, MapsTo, BracketSub, Equals, Element, Square, ExistsSign, ChooseWord, IfWord, ThenWord, ElseWord, CaseWord, OtherWord, LetWord, InWord, LambdaWord, ExceptWord, FairWord}
@@ -10,7 +10,7 @@ use Rattle.tla_parser.specs.declared.moves.Construct.{Construct}
 use Rattle.tla_parser.specs.declared.moves.Class.{Class}
 use Rattle.tla_parser.specs.declared.moves.Class.TheVariants.{BareName, FoldName, Joined, Member, Other, PathName}
 use Rattle.tla_parser.specs.declared.moves.Mark.{Mark}
-use Rattle.tla_parser.specs.declared.moves.Mark.TheVariants.{ArgumentName, AtTop, BangName, BehindArgument, BehindArity, BehindBlank, BehindBoundName, BehindChosen, BehindDeclared, BehindExtended, BehindFoldFirst, BehindFoldSecond, BehindHeader, BehindInstance, BehindLocalArgument, BehindMapped, BehindOther, BehindParameter, BehindQuantified, BehindRecursive, BehindSetName, BehindStep, BehindSubstituted, BehindUnitArgument, BehindUnitParameter, BehindValueName, BetweenUnits, Bullets, ChoiceBody, ChosenName, DeclaredName, ExtendedName, FairOpens, FairSubscript, FieldName, Finished, FoldFirst, FoldSecond, InArgumentSet, InArm, InAssumption, InBody, InBound, InBracket, InCall, InChoiceSet, InDefinition, InElse, InFair, InFairParen, InFairTuple, InFieldSet, InFieldValue, InFilter, InFold, InFoldBody, InFoldSequence, InFoldStart, InFunctionBody, InGuard, InIf, InIndex, InItems, InLocalSet, InMappedSet, InMoreFair, InMoreItems, InMoreSubscript, InMoreTuple, InNamedAssumption, InNamedStatement, InNextGuard, InOther, InParen, InPlainBody, InReplacement, InResultSet, InStatement, InSubscriptParen, InSubscriptTuple, InThen, InTuple, InUnitSet, InUpdateIndex, InUpdateValue, InstanceName, LocalArgument, LocalBody, LocalDefines, LocalHead, LocalName, LocalParameter, LocalUnit, MappedName, ModuleHead, ModuleName, ModuleNamed, NextBoundName, QuantifiedName, QuantifierBody, RecursiveBlank, RecursiveName, SetName, Subscript, Substituted, UnitArgument, UnitDefines, UnitHead, UnitParameter, UpdateBang, UpdateField, UpdatePath, ValueName}
+use Rattle.tla_parser.specs.declared.moves.Mark.TheVariants.{ArgumentName, BangName, BehindArgument, BehindBoundName, BehindChosen, BehindFoldFirst, BehindFoldSecond, BehindLocalArgument, BehindMapped, BehindOther, BehindParameter, BehindQuantified, BehindSetName, BehindStep, BehindValueName, ChoiceBody, ChosenName, FairOpens, FairSubscript, FieldName, FoldFirst, FoldSecond, InArgumentSet, InArm, InBound, InBracket, InCall, InChoiceSet, InDefinition, InElse, InFair, InFairParen, InFairTuple, InFieldSet, InFieldValue, InFilter, InFold, InFoldBody, InFoldSequence, InFoldStart, InFunctionBody, InGuard, InIf, InIndex, InItems, InLocalSet, InMappedSet, InMoreFair, InMoreItems, InMoreSubscript, InMoreTuple, InNextGuard, InOther, InParen, InResultSet, InSubscriptParen, InSubscriptTuple, InThen, InTuple, InUpdateIndex, InUpdateValue, LocalArgument, LocalBody, LocalDefines, LocalHead, LocalName, LocalParameter, MappedName, NextBoundName, QuantifiedName, QuantifierBody, SetName, Subscript, UpdateBang, UpdateField, UpdatePath, ValueName}
 use Rattle.tla_parser.specs.declared.moves.Next.{Next}
 use Rattle.tla_parser.specs.declared.moves.Next.TheVariants.{Reads, Wants, Last, Shut, Fail}
 use Rattle.tla_parser.specs.declared.moves.Seen.{Seen}
