@@ -9,3 +9,7 @@ pub mod Built
 pub mod Top
 pub mod FieldLemmas
 pub mod Examples
+pub mod Templates
+pub mod TableLaw
+pub mod TableRows
+pub mod FormLaw

@@ -4,5 +4,6 @@ pub mod Trees
 pub mod Spelling
 pub mod Modules
 pub mod Fields
+pub mod Forms
 pub mod Grammar
 pub mod inner

@@ -1,4 +1,5 @@
--- What may come in a form, token by token: the forms of specs/Grammar, told by where in a form one is.
+-- What may come in a form, token by token, told by where in a form one is. That this is equal to the templates of
+-- `specs/Forms` is a law (`forms_are_as_their_templates`).
 use Rattle.std.specs.Prelude.{ℕ, Bool, true, false, cond, List, ◌∷◌, ◌&&◌, ◌==◌, []}
 use Rattle.tla_parser.specs.Operators.{is_bullet, same_sign}
 use Rattle.tla_parser.specs.declared.moves.Class.{Class}
