@@ -5,3 +5,4 @@ pub mod Present
 pub mod Unions
 pub mod Chosen
 pub mod Layering
+pub mod Examples

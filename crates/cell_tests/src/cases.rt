@@ -1,6 +1,7 @@
 //! Operators on sets, a case a line: the operator, the edges of two sets, the values of the free
 //! bits a to h, and the text of what it gives. An edge is a member and a literal: a digit or m
 //! (1 or 0 by g), n (3 or 2 by h) or k (2 or 1 by g); a bit, in capitals its negation, or T or F.
+//! `member` asks whether k is a member of the second set.
 
 pub(crate) const CASES: &str = r#"union 1H - 01110110 => {1}
 union 3g3cmH 2f1E 10111111 => {2, 3}
@@ -114,4 +115,44 @@ big mAmD nh1h 11010101 => {1, 3}
 big 1anh3f1d 2b2f 01101111 => {2}
 big 1g2E - 01010101 => {}
 big me 3H 00011001 => {}
+size 3T mb1gkh 01111111 => 1
+size 3T - 10011010 => 1
+size 2a2T1dka1f nc3h2fmb 10110000 => 2
+size nc1B1B3g 2B3b 11101110 => 2
+size 0h1B3T 3C3c2D1f 00010011 => 3
+size kf 2H0H 10101011 => 0
+size 3H3h2B1g kT1b1b 00111001 => 2
+size nT 0a2E2T 10011101 => 1
+size 1e2C1e - 11011101 => 2
+size 3Fke2e1e1f - 00111101 => 2
+size 3f 2e 10001010 => 0
+size 1c3F3f 1T 00110000 => 1
+size 3d2D0A nc2b1T3A 01011101 => 2
+size - - 00010001 => 0
+size 3e1h0bmf - 10001111 => 2
+size mc0h2h2T3g mEkDmT 00010100 => 1
+subsets - 2g 11111100 => {{}}
+subsets 1fnf3H 2E3H 11110001 => {{}}
+subsets 3T ne2e 11011111 => {{}, {3}}
+subsets 0d 0c2C 10011111 => {{}, {0}}
+subsets 2a2f2C 2b1g3e 01101100 => {{}, {2}}
+subsets - - 10001111 => {{}}
+subsets 1HkH2e 2d1b 01001101 => {{}, {2}}
+subsets 0f0C 1HkE3f 11111101 => {{}, {0}}
+member 3g2b 3BmE 01110111 => FALSE
+member - mF 00011110 => FALSE
+member 0d2D 3ake 01010101 => FALSE
+member nF2c3e 2d2H2C2a 00000011 => TRUE
+member 2b1f mf 01111101 => FALSE
+member 1b2g3b 3gkb 00011101 => FALSE
+member 3h3T2F mb0d2h 11110111 => TRUE
+member ngkd 3c 01101010 => FALSE
+member mg2g 1F 01010111 => FALSE
+member - nf0d 00101011 => FALSE
+member 3E0E 2d3F 10011100 => FALSE
+member kC nc2h2f0a 11111100 => FALSE
+member 2d 2E 11010111 => TRUE
+member - 3f 10101110 => FALSE
+member kf0C 0ekC1f 10011101 => TRUE
+member mhma kb0d1C 11001110 => TRUE
 "#;

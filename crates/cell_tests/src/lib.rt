@@ -15,3 +15,5 @@ mod equality;
 mod picks;
 #[cfg(test)]
 mod sets;
+#[cfg(test)]
+mod sizes;

@@ -10,9 +10,11 @@ use crate::cases::CASES;
 use crate::decoding::shown_at;
 use crate::equality::{extended, int};
 use cell_arena::{Build, CellId};
-use cell_merge::{choose_cell, same};
+use cell_merge::{choose_cell, pick, same};
 use sat_formula::Lit;
-use set_rewriter::{big_union, inter, minus, subset, union};
+use set_rewriter::{
+    big_union, cardinality, inter, member, minus, pick_subset, subset, subsets, union,
+};
 use std::alloc::{AllocError, Global};
 use std::test::Fail;
 use tla_values::List;
@@ -122,7 +124,7 @@ fn set_of_sets(
 
 // What the operator gives.
 #[tactic(auto, using(cell_arena::proofs::Growing::growing))]
-fn answer(
+pub fn answer(
     alloc: Global,
     b: &mut Build,
     op: &str,
@@ -147,6 +149,27 @@ fn answer(
     }
     if op == "choose" {
         return choose_cell(b, p, x, y);
+    }
+    if op == "member" {
+        let k = element(alloc, b, bits, b'k')?;
+        let l = member(b, k, y)?;
+        return b.bit(l);
+    }
+    if op == "size" {
+        let (id, _) = cardinality(b, x)?;
+        return Ok(id);
+    }
+    if op == "subsets" {
+        return subsets(b, x);
+    }
+    if op == "part" {
+        return pick_subset(b, x);
+    }
+    if op == "pick" {
+        return match pick(b, x)? {
+            Some((id, _)) => Ok(id),
+            None => Ok(x),
+        };
     }
     if op == "big" {
         let sets = set_of_sets(alloc, b, (p, x), (q, y))?;

@@ -8,3 +8,4 @@ pub mod Numbers
 pub mod Sizes
 pub mod Powers
 pub mod MapLaws
+pub mod Examples

@@ -1,4 +1,4 @@
-use Rattle.cell_merge.specs.Sorts.{OfSort, number, set_of}
+use Rattle.cell_merge.specs.Sorts.{number, set_of}
 use Rattle.cell_merge.proofs.SortLaws.{OfSort-later}
 use Rattle.cell_tests.proofs.equality.sets_agree.Goals as goal
 

@@ -1,4 +1,4 @@
-use Rattle.std.proofs.Common.{List, [], ◌∷◌, All, length, ap, ◌∙◌, sym}
+use Rattle.std.proofs.Common.{[], ◌∷◌, All}
 use Rattle.std.proofs.lemmas.List.Elements.{All-nil, All-cons}
 use Rattle.sat_formula.specs.declared.lit.Lit.{Lit}
 use Rattle.cell_arena.specs.declared.kinds.CellId.{CellId}

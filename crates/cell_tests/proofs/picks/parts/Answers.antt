@@ -1,4 +1,4 @@
-use Rattle.std.proofs.Common.{List, [], ◌∷◌, All, length, ap, ◌∙◌, sym, refl}
+use Rattle.std.proofs.Common.{[], ◌∷◌, length, ap, ◌∙◌, sym}
 use Rattle.std.proofs.lemmas.List.Elements.{All-nil, All-cons}
 use Rattle.cell_arena.specs.declared.kinds.CellId.{CellId}
 use Rattle.cell_arena.specs.declared.kinds.CellKind.{CellKind}
