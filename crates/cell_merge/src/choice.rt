@@ -28,8 +28,8 @@ pub fn known(formula: &Formula, l: Lit) -> Option<bool>
 }
 
 /// A cell with the value of x where the literal is true, and else that of y. It is one of the two
-/// where they are alike, or the literal is `top` or its negation. A set has one edge for members
-/// that are alike.
+/// where they are alike, or the literal is `top` or its negation. A set has one edge for a member
+/// of each of the two, where these are alike.
 #[tactic(auto, using(cell_arena::proofs::Growing::growing))]
 pub fn choose_cell(b: &mut Build, l: Lit, x: CellId, y: CellId) -> Result<CellId, AllocError>
     requires below { l.var < b.old.formula.vars }

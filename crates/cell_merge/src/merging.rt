@@ -1,4 +1,4 @@
-//! Two sets made into one, with one edge for the members that are alike.
+//! Two sets made into one, with one edge for a member of each where the two are alike.
 
 ghost use Rattle.cell_arena.specs.declared.kinds.CellKind.{CellKind as AnyKind};
 ghost use Rattle.cell_merge.specs.Edges.{AreNamed, JoinBelow, Merges, TwoSets, joined};
@@ -118,9 +118,9 @@ fn join_front(
     Ok((out, rest))
 }
 
-/// The edges of two sets as those of one. Members that are alike have one edge, whose literal is
-/// joined of theirs; where the two literals are the same, nothing is added for it. An edge whose
-/// literal is the negation of `top` is left out.
+/// The edges of two sets as those of one. A member of each, where the two are alike, has one edge,
+/// whose literal is joined of theirs; where the two literals are the same, nothing is added for it.
+/// An edge whose literal is the negation of `top` is left out.
 #[tactic(auto, using(sat_formula::proofs::Extension::gates))]
 pub fn merge_edges(
     arena: &Arena,

@@ -155,4 +155,7 @@ member 2d 2E 11010111 => TRUE
 member - 3f 10101110 => FALSE
 member kf0C 0ekC1f 10011101 => TRUE
 member mhma kb0d1C 11001110 => TRUE
+minus 1T2T 2T 00000000 => {1}
+choose 1T 2T 10000000 => {1}
+choose 1T 2T 00000000 => {2}
 "#;

@@ -37,7 +37,7 @@ const TABLES: [(Question, u32, &str); 13] = [
     (Question::Invariant, 8, INVARIANTS),
 ];
 
-#[tactic(auto, using(tla_evaluator::proofs::NormalValues::int_normal))]
+#[tactic(auto, using(tla_meaning::proofs::NormalShapes::int_normal))]
 fn whole(n: i128) -> Value
     ensures { Normal result }
 {

@@ -2,8 +2,7 @@
 //!
 //! Each call gives, under every satisfying assignment, the value of its operator at the values of
 //! its cells. The cells of one call have one sort, and the cells that are answered have the sort
-//! that the operator gives. A set has one edge for members that are alike, and none whose literal
-//! is the negation of `top`. (Specifying Systems, section 16.1.6; Konnov, Kukovec and Tran, "TLA+
+//! that the operator gives. (Specifying Systems, section 16.1.6; Konnov, Kukovec and Tran, "TLA+
 //! Model Checking Made Symbolic", OOPSLA 2019, section 5.)
 #![tactic(auto)]
 
