@@ -1,7 +1,7 @@
 -- Columns of lists, and tests.
 use Rattle.tla_lexer.specs.declared.token.Token.{Token as Tok}
 use Rattle.std.proofs.Common.{ℕ, Bool, true, false, List, inl, inr, refl, arith, ◌≡◌, ◌≤◌, ◌⊎◌, ◌∷◌, ◌++◌, ◌&&◌, ◌||◌, []}
-use Rattle.tla_parser.specs.inner.Derivations.{From}
+use Rattle.tla_parser.specs.Written.{From}
 
 pub From-left : (n : ℕ) (xs ys : List Tok) → From n (xs ++ ys) → From n xs
 From-left n [] ys h = tt

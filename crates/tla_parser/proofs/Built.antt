@@ -12,7 +12,8 @@ use Rattle.tla_parser.specs.declared.moves.Construct.{Construct}
 use Rattle.tla_parser.specs.declared.open.Code.{Code}
 use Rattle.tla_parser.specs.declared.open.Code.TheVariants.{Close, Infix, Part, Prefix}
 use Rattle.tla_parser.specs.inner.Building.{made, made_on, shut_form}
-use Rattle.tla_parser.specs.inner.Derivations.{Parts, Written, ahead, bin, class, closed, continues, exp, form_of, from, parts, post, posts, pre, start, tailed, tok, top}
+use Rattle.tla_parser.specs.Written.{Parts, Written, bin, class, closed, continues, exp, from, pre, start, tailed, tok, top}
+use Rattle.tla_parser.specs.inner.Derivations.{ahead, form_of, parts, post, posts}
 
 made_append : (xs ys : List Code) (o : Option (List Item)) → made (xs ++ ys) o ≡ made ys (made xs o)
 made_append [] ys o = refl
@@ -56,14 +57,14 @@ one_more_made xs x s = ap (λ (ys : List Item). ys ++ s) (sym (reverse-append xs
 
 mutual
   pub post_made : (w : Written) (s : List Item) → made (post w) (Some s) ≡ Some (Tree (tree w) ∷ s)
-  post_made (closed ps) s =
-      made_then (posts ps) (Close (form_of (ahead ps)) (parts ps) ∷ []) s (reverse (items ps) ++ s) (posts_made ps s)
-      ∙ close_made (form_of (ahead ps)) (parts ps) s (items ps) (counted ps)
-  post_made (tailed ps w) s =
-      made_then (posts ps ++ post w) (Close (form_of (ahead ps)) (parts ps + 1) ∷ []) s (Tree (tree w) ∷ (reverse (items ps) ++ s))
+  post_made (closed c ps) s =
+      made_then (posts ps) (Close c (parts ps) ∷ []) s (reverse (items ps) ++ s) (posts_made ps s)
+      ∙ close_made c (parts ps) s (items ps) (counted ps)
+  post_made (tailed c ps w) s =
+      made_then (posts ps ++ post w) (Close c (parts ps + 1) ∷ []) s (Tree (tree w) ∷ (reverse (items ps) ++ s))
       (made_then (posts ps) (post w) s (reverse (items ps) ++ s) (posts_made ps s) ∙ post_made w (reverse (items ps) ++ s))
-      ∙ ap (λ (r : List Item). made (Close (form_of (ahead ps)) (parts ps + 1) ∷ []) (Some r)) (one_more_made (items ps) (Tree (tree w)) s)
-      ∙ close_made (form_of (ahead ps)) (parts ps + 1) s (items ps ++ (Tree (tree w) ∷ []))
+      ∙ ap (λ (r : List Item). made (Close c (parts ps + 1) ∷ []) (Some r)) (one_more_made (items ps) (Tree (tree w)) s)
+      ∙ close_made c (parts ps + 1) s (items ps ++ (Tree (tree w) ∷ []))
       (length-append (items ps) (Tree (tree w) ∷ []) ∙ ap (λ (n : ℕ). n + 1) (counted ps))
   post_made (pre p w) s = made_then (post w) (Prefix p ∷ []) s (Tree (tree w) ∷ s) (post_made w s)
   post_made (bin a t b) s =

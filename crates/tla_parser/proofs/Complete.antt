@@ -10,18 +10,21 @@ use Rattle.tla_parser.proofs.Origins.{last_parts, shut_parts}
 use Rattle.tla_parser.specs.Operators.{after, hi, is_prefix, lo, prefix_lo, same}
 use Rattle.tla_parser.specs.Signs.{column, sign}
 use Rattle.tla_parser.specs.declared.moves.Class.{Class}
+use Rattle.tla_parser.specs.declared.moves.Construct.{Construct}
 use Rattle.tla_parser.specs.declared.moves.Mark.TheVariants.{Finished}
 use Rattle.tla_parser.specs.declared.moves.Next.{Next}
 use Rattle.tla_parser.specs.declared.moves.Next.TheVariants.{Fail, Last, Reads, Shut, Wants}
 use Rattle.tla_parser.specs.declared.signs.Role.TheVariants.{InfixRole, PostfixRole}
-use Rattle.tla_parser.specs.inner.Derivations.{Above, AboveParts, Ends, Fine, From, Good, GoodParts, IsModule, Leaves, Parts, Written, ahead, bin, class, closed, delta, exp, from, given, idle, inner, is_last, is_shut, of_module, point, pre, resumed, start, tailed, tok, tokens, tokens_of, top}
+use Rattle.tla_parser.specs.Rules.{Above, AboveParts}
+use Rattle.tla_parser.specs.Written.{From, Parts, Written, bin, class, closed, exp, from, of_module, pre, start, tailed, tok, tokens, tokens_of, top}
+use Rattle.tla_parser.specs.inner.Derivations.{IsTableModule, TableEnds, TableFine, TableGood, TableLeaves, TableParts, ahead, delta, form_of, given, idle, inner, is_last, is_shut, point, resumed}
 use Rattle.tla_parser.specs.inner.Moves.{Point, begin, behind_op, filled, hungry, is_finished, off, reading}
 use Rattle.tla_parser.specs.inner.Recognition.{ended_module, is_fail, op}
 
 -- the state behind w, whose right edge is still open
 abbrev pub holding : Written → List Frame → State
-holding (closed ps) s = have (closed ps) s
-holding (tailed ps w) s = holding w (at_form ps ∷ s)
+holding (closed c ps) s = have (closed c ps) s
+holding (tailed c ps w) s = holding w (at_form ps ∷ s)
 holding (pre p w) s = holding w (at_pre p ∷ s)
 holding (bin a t b) s = holding b (at_bin a t ∷ s)
 
@@ -53,8 +56,8 @@ pop_pre t w p s h = rw h refl
 pub pop_bin : (t : Tok) (w a : Written) (o : Tok) (s : List Frame) → pops t (margin s) (ltb (hi (sign t)) (lo (sign o)) || same (sign o) (sign t)) ≡ true → behind t w (at_bin a o ∷ s) ≡ behind t (bin a o w) s
 pop_bin t w a o s h = rw h refl
 
-pub pop_form : (t : Tok) (w : Written) (ps : Parts) (s : List Frame) → accepts ps w t (margin s) ≡ false → is_last (ahead ps) ≡ true → pops t (margin (at_form ps ∷ s)) false ≡ true → behind t w (at_form ps ∷ s) ≡ behind t (tailed ps w) s
-pop_form t w ps s a l p = rw (a, l, p) refl
+pub pop_form : (t : Tok) (w : Written) (c : Construct) (ps : Parts) (s : List Frame) → form_of (ahead ps) ≡ c → accepts ps w t (margin s) ≡ false → is_last (ahead ps) ≡ true → pops t (margin (at_form ps ∷ s)) false ≡ true → behind t w (at_form ps ∷ s) ≡ behind t (tailed c ps w) s
+pop_form t w c ps s e a l p = rw (a, l, p) (ap (λ (x : Construct). behind t (tailed x ps w) s) e)
 
 less_deeper : (n a b : ℕ) → n < b → n < max a b
 less_deeper n a b h = omega arith
@@ -63,11 +66,11 @@ outer : (n a b : ℕ) → n < a → n < max a b
 outer n a b h = omega arith
 
 -- t stands left of what is open
-pub forced : (t : Tok) (w : Written) (s : List Frame) → Good w → (column t) < margin s → step t (holding w s) ≡ behind t w s
-forced t (closed ps) s g h = refl
-forced t (tailed ps w) s g h =
-    forced t w (at_form ps ∷ s) g.2 (less_deeper (column t) (inner (ahead ps)) (margin s) h)
-    ∙ pop_form t w ps s (accepts_left ps w t (margin s) h) g.0 (pops_left t (margin (at_form ps ∷ s)) false (less_deeper (column t) (inner (ahead ps)) (margin s) h))
+pub forced : (t : Tok) (w : Written) (s : List Frame) → TableGood w → (column t) < margin s → step t (holding w s) ≡ behind t w s
+forced t (closed c ps) s g h = refl
+forced t (tailed c ps w) s g h =
+    forced t w (at_form ps ∷ s) g.3 (less_deeper (column t) (inner (ahead ps)) (margin s) h)
+    ∙ pop_form t w c ps s g.1 (accepts_left ps w t (margin s) h) g.0 (pops_left t (margin (at_form ps ∷ s)) false (less_deeper (column t) (inner (ahead ps)) (margin s) h))
 forced t (pre p w) s g h = forced t w (at_pre p ∷ s) g.1 h ∙ pop_pre t w p s (pops_left t (margin s) (ltb (hi (sign t)) (prefix_lo (sign p))) h)
 forced t (bin a o b) s g h = forced t b (at_bin a o ∷ s) g.3 h ∙ pop_bin t b a o s (pops_left t (margin s) (ltb (hi (sign t)) (lo (sign o)) || same (sign o) (sign t)) h)
 
@@ -83,23 +86,23 @@ passes_deeper : (t : Tok) (a b : ℕ) → Passes t b → Passes t (max a b)
 passes_deeper t a b (inl h) = inl (less_deeper (column t) a b h)
 passes_deeper t a b (inr h) = inr h
 
-pub left : (t : Tok) (w : Written) (s : List Frame) → Good w → Leaves w t → Passes t (margin s) → step t (holding w s) ≡ behind t w s
-left t (closed ps) s g l h = refl
-left t (tailed ps w) s g l h =
+pub left : (t : Tok) (w : Written) (s : List Frame) → TableGood w → TableLeaves w t → Passes t (margin s) → step t (holding w s) ≡ behind t w s
+left t (closed c ps) s g l h = refl
+left t (tailed c ps w) s g l h =
     elim l.1 [
-      | inl c ↦ forced t w (at_form ps ∷ s) g.2 (outer (column t) (inner (ahead ps)) (margin s) c)
-      | inr k ↦ left t w (at_form ps ∷ s) g.2 k (passes_deeper t (inner (ahead ps)) (margin s) h)
+      | inl d ↦ forced t w (at_form ps ∷ s) g.3 (outer (column t) (inner (ahead ps)) (margin s) d)
+      | inr k ↦ left t w (at_form ps ∷ s) g.3 k (passes_deeper t (inner (ahead ps)) (margin s) h)
     ]
-    ∙ pop_form t w ps s (accepts_fail ps w t (margin s) l.0) g.0 (pops_passes t (margin (at_form ps ∷ s)) false (passes_deeper t (inner (ahead ps)) (margin s) h))
+    ∙ pop_form t w c ps s g.1 (accepts_fail ps w t (margin s) l.0) g.0 (pops_passes t (margin (at_form ps ∷ s)) false (passes_deeper t (inner (ahead ps)) (margin s) h))
 left t (pre p w) s g l h = left t w (at_pre p ∷ s) g.1 l h ∙ pop_pre t w p s (pops_passes t (margin s) (ltb (hi (sign t)) (prefix_lo (sign p))) h)
 left t (bin a o b) s g l h = left t b (at_bin a o ∷ s) g.3 l h ∙ pop_bin t b a o s (pops_passes t (margin s) (ltb (hi (sign t)) (lo (sign o)) || same (sign o) (sign t)) h)
 
 -- the operator t ends w by its range or its column
-pub ended : (t : Tok) (w : Written) (s : List Frame) → Good w → Ends w t → step t (holding w s) ≡ behind t w s
-ended t (closed ps) s g e = refl
-ended t (tailed ps w) s g e =
-    forced t w (at_form ps ∷ s) g.2 (outer (column t) (inner (ahead ps)) (margin s) e.0)
-    ∙ pop_form t w ps s (accepts_fail ps w t (margin s) e.1) g.0 (pops_left t (margin (at_form ps ∷ s)) false (outer (column t) (inner (ahead ps)) (margin s) e.0))
+pub ended : (t : Tok) (w : Written) (s : List Frame) → TableGood w → TableEnds w t → step t (holding w s) ≡ behind t w s
+ended t (closed c ps) s g e = refl
+ended t (tailed c ps w) s g e =
+    forced t w (at_form ps ∷ s) g.3 (outer (column t) (inner (ahead ps)) (margin s) e.0)
+    ∙ pop_form t w c ps s g.1 (accepts_fail ps w t (margin s) e.1) g.0 (pops_left t (margin (at_form ps ∷ s)) false (outer (column t) (inner (ahead ps)) (margin s) e.0))
 ended t (pre p w) s g e = ended t w (at_pre p ∷ s) g.1 e.1 ∙ pop_pre t w p s (pops_bound t (margin s) (ltb (hi (sign t)) (prefix_lo (sign p))) (lt-ltb (hi (sign t)) (prefix_lo (sign p)) e.0))
 ended t (bin a o b) s g e = ended t b (at_bin a o ∷ s) g.3 e.1 ∙ pop_bin t b a o s (pops_bound t (margin s) (ltb (hi (sign t)) (lo (sign o)) || same (sign o) (sign t)) (takes e.0))
   where
@@ -143,8 +146,8 @@ reaches t w (at_form ps ∷ s) m o b =
 -- on the left edge of an operand that no operator holds anything may stand
 mutual
   pub Above-zero : (w : Written) → Above 0 w
-  Above-zero (closed ps) = AboveParts-zero ps
-  Above-zero (tailed ps w) = AboveParts-zero ps
+  Above-zero (closed c ps) = AboveParts-zero ps
+  Above-zero (tailed c ps w) = AboveParts-zero ps
   Above-zero (pre p w) = tt
   Above-zero (bin a o b) = (omega arith, Above-zero a)
 
@@ -226,33 +229,36 @@ given_wants (Reads m) c ps s h = absurd (cc)
 given_wants (Shut f) c ps s h = absurd (cc)
 given_wants Fail c ps s h = absurd (cc)
 
-alive_tok : (ps : Parts) (t : Tok) → Alive (tok ps t) → Alive ps
+pub alive_tok : (ps : Parts) (t : Tok) → Alive (tok ps t) → Alive ps
 alive_tok start t h = tt
 alive_tok top t h = tt
 alive_tok (from w) t h = tt
 alive_tok (tok ps u) t h = resumed_alive (ahead (tok ps u)) (off_fails (point (tok ps u)) t h)
 alive_tok (exp ps w) t h = off_fails (point (exp ps w)) t h
 
-alive_exp : (ps : Parts) (w : Written) (s : List Frame) → Alive (exp ps w) → Alive ps × (standing ps s ≡ want (at_form ps ∷ s))
+pub alive_exp : (ps : Parts) (w : Written) (s : List Frame) → Alive (exp ps w) → Alive ps × (standing ps s ≡ want (at_form ps ∷ s))
 alive_exp start w s h = absurd (cc)
 alive_exp top w s h = absurd (cc)
 alive_exp (from a) w s h = absurd (cc)
 alive_exp (exp ps a) w s h = absurd (cc)
 alive_exp (tok ps t) w s h = (given_alive (ahead (tok ps t)) (class w) h, given_wants (ahead (tok ps t)) (class w) (tok ps t) s h)
 
-shut_has : (n : Next) (ps : Parts) (s : List Frame) → is_shut n ≡ true → (is_fail n ≡ false) × (enter n ps s ≡ have (closed ps) s)
+shut_has : (n : Next) (ps : Parts) (s : List Frame) → is_shut n ≡ true → (is_fail n ≡ false) × (enter n ps s ≡ have (closed (form_of n) ps) s)
 shut_has (Shut f) ps s h = (refl, refl)
 shut_has (Last m) ps s h = absurd (cc)
 shut_has (Wants m) ps s h = absurd (cc)
 shut_has (Reads m) ps s h = absurd (cc)
 shut_has Fail ps s h = absurd (cc)
 
-alive_shut : (ps : Parts) (s : List Frame) → is_shut (ahead ps) ≡ true → Alive ps × (standing ps s ≡ have (closed ps) s)
+pub alive_shut : (ps : Parts) (s : List Frame) → is_shut (ahead ps) ≡ true → Alive ps × (standing ps s ≡ have (closed (form_of (ahead ps)) ps) s)
 alive_shut start s h = absurd (cc)
 alive_shut top s h = absurd (cc)
 alive_shut (from w) s h = absurd (cc)
 alive_shut (exp ps w) s h = absurd (cc)
 alive_shut (tok ps t) s h = shut_has (ahead (tok ps t)) (tok ps t) s h
+
+have_form : (c : Construct) (ps : Parts) (s : List Frame) → form_of (ahead ps) ≡ c → Alive ps × (standing ps s ≡ have (closed (form_of (ahead ps)) ps) s) → Alive ps × (standing ps s ≡ have (closed c ps) s)
+have_form c ps s e h = (h.0, h.1 ∙ ap (λ (x : Construct). have (closed x ps) s) e)
 
 last_wants : (n : Next) (ps : Parts) (s : List Frame) → is_last n ≡ true → (is_fail n ≡ false) × (enter n ps s ≡ want (at_form ps ∷ s))
 last_wants (Last m) ps s h = (refl, refl)
@@ -261,7 +267,7 @@ last_wants (Reads m) ps s h = absurd (cc)
 last_wants (Shut f) ps s h = absurd (cc)
 last_wants Fail ps s h = absurd (cc)
 
-alive_last : (ps : Parts) (s : List Frame) → is_last (ahead ps) ≡ true → Alive ps × (standing ps s ≡ want (at_form ps ∷ s))
+pub alive_last : (ps : Parts) (s : List Frame) → is_last (ahead ps) ≡ true → Alive ps × (standing ps s ≡ want (at_form ps ∷ s))
 alive_last start s h = absurd (cc)
 alive_last top s h = absurd (cc)
 alive_last (from w) s h = absurd (cc)
@@ -321,7 +327,7 @@ begins_prefix t (at_pre p ∷ s) h = refl
 begins_prefix t (at_bin a o ∷ s) h = refl
 begins_prefix t (at_form ps ∷ s) h = rw (takes_fail ps t (margin s) (idle_prefix (ahead ps) t h)) refl
 
-token : (ps : Parts) (t : Tok) (s : List Frame) → GoodParts ps → Fine ps t → Alive (tok ps t) → margin s ≤ (column t) → step t (standing ps s) ≡ enter (ahead (tok ps t)) (tok ps t) s
+token : (ps : Parts) (t : Tok) (s : List Frame) → TableParts ps → TableFine ps t → Alive (tok ps t) → margin s ≤ (column t) → step t (standing ps s) ≡ enter (ahead (tok ps t)) (tok ps t) s
 token top t s g f h m = rw (le-ltb (column t) (margin s) m) refl
 token start t s g f h m = begins_fresh t s h ∙ rw (le-ltb (column t) (margin s) m, prefix_not t h) refl
 token (from w) t s g f h m =
@@ -342,7 +348,7 @@ From-max m n (t ∷ ts) h g = (omega (arith, h.0, g.0), From-max m n ts h.1 g.1)
 then_run : (rest : List Tok) (x y : State) → x ≡ y → run x rest ≡ run y rest
 then_run rest x y e = ap (λ (st : State). run st rest) e
 
-infixes : (t : Tok) (a : Written) (s : List Frame) → Good a → Ends a t → margin s ≤ (column t) → after (sign t) ≡ InfixRole → floor s ≤ lo (sign t) → step t (holding a s) ≡ want (at_bin a t ∷ s)
+infixes : (t : Tok) (a : Written) (s : List Frame) → TableGood a → TableEnds a t → margin s ≤ (column t) → after (sign t) ≡ InfixRole → floor s ≤ lo (sign t) → step t (holding a s) ≡ want (at_bin a t ∷ s)
 infixes t a s g e m c h = ended t a s g e ∙ reaches t a s m (rw c refl) (inl h) ∙ rw (c, le-leb (floor s) (lo (sign t)) h) refl
 
 prefixes : (p : Tok) (s : List Frame) → is_prefix (sign p) ≡ true → margin s ≤ (column p) → step p (want s) ≡ want (at_pre p ∷ s)
@@ -365,19 +371,19 @@ origin_form (exp ps w) s h = origin_form ps s h
 
 -- The tokens of w, read where an operand is wanted, leave w with its right edge open.
 mutual
-  pub complete : (w : Written) (s : List Frame) (rest : List Tok) → Good w → Above (floor s) w → From (margin s) (tokens w) → run (want s) (tokens w ++ rest) ≡ run (holding w s) rest
-  complete (closed ps) s rest g a f =
-      let h : Alive ps × (standing ps s ≡ have (closed ps) s) = alive_shut ps s g.0 in
+  pub complete : (w : Written) (s : List Frame) (rest : List Tok) → TableGood w → Above (floor s) w → From (margin s) (tokens w) → run (want s) (tokens w ++ rest) ≡ run (holding w s) rest
+  complete (closed c ps) s rest g a f =
+      let h : Alive ps × (standing ps s ≡ have (closed c ps) s) = have_form c ps s g.1 (alive_shut ps s g.0) in
       then_run (tokens_of ps ++ rest) (want s) (origin ps s) (sym (origin_form ps s (shut_parts ps g.0)))
-      ∙ complete_parts ps s rest g.1 h.0 a f ∙ then_run rest (standing ps s) (have (closed ps) s) h.1
-  complete (tailed ps w) s rest g a f =
+      ∙ complete_parts ps s rest g.2 h.0 a f ∙ then_run rest (standing ps s) (have (closed c ps) s) h.1
+  complete (tailed c ps w) s rest g a f =
       let h : Alive ps × (standing ps s ≡ want (at_form ps ∷ s)) = alive_last ps s g.0 in
       let fw : From (margin s) (tokens w) = From-right (margin s) (tokens_of ps) (tokens w) f in
       ap (run (want s)) (append_assoc (tokens_of ps) (tokens w) rest)
       ∙ then_run (tokens_of ps ++ (tokens w ++ rest)) (want s) (origin ps s) (sym (origin_form ps s (last_parts ps g.0)))
-      ∙ complete_parts ps s (tokens w ++ rest) g.1 h.0 a (From-left (margin s) (tokens_of ps) (tokens w) f)
+      ∙ complete_parts ps s (tokens w ++ rest) g.2 h.0 a (From-left (margin s) (tokens_of ps) (tokens w) f)
       ∙ then_run (tokens w ++ rest) (standing ps s) (want (at_form ps ∷ s)) h.1
-      ∙ complete w (at_form ps ∷ s) rest g.2 (Above-zero w) (From-max (inner (ahead ps)) (margin s) (tokens w) g.3 fw)
+      ∙ complete w (at_form ps ∷ s) rest g.3 (Above-zero w) (From-max (inner (ahead ps)) (margin s) (tokens w) g.4 fw)
   complete (pre p w) s rest g a f =
       then_run (tokens w ++ rest) (step p (want s)) (want (at_pre p ∷ s)) (prefixes p s g.0 f.0)
       ∙ complete w (at_pre p ∷ s) rest g.1 g.2 f.1
@@ -389,7 +395,7 @@ mutual
       ∙ then_run (tokens y ++ rest) (step t (holding x s)) (want (at_bin x t ∷ s)) (infixes t x s g.0 g.2 fy.0 g.1 a.0)
       ∙ complete y (at_bin x t ∷ s) rest g.3 g.4 fy.1
 
-  pub complete_parts : (ps : Parts) (s : List Frame) (rest : List Tok) → GoodParts ps → Alive ps → AboveParts (floor s) ps → From (margin s) (tokens_of ps) → run (origin ps s) (tokens_of ps ++ rest) ≡ run (standing ps s) rest
+  pub complete_parts : (ps : Parts) (s : List Frame) (rest : List Tok) → TableParts ps → Alive ps → AboveParts (floor s) ps → From (margin s) (tokens_of ps) → run (origin ps s) (tokens_of ps ++ rest) ≡ run (standing ps s) rest
   complete_parts start s rest g l a f = refl
   complete_parts top s rest g l a f = refl
   complete_parts (from w) s rest g l a f = complete w s rest g a f
@@ -406,9 +412,9 @@ mutual
       ∙ then_run (tokens w ++ rest) (standing ps s) (want (at_form ps ∷ s)) h.1
       ∙ complete w (at_form ps ∷ s) rest g.1 (Above-zero w) (From-max (inner (ahead ps)) (margin s) (tokens w) g.2 fw)
 
-pub holding-whole : (w : Written) (s : List Frame) → Good w → answer (holding w s) ≡ whole w s
-holding-whole (closed ps) s g = refl
-holding-whole (tailed ps w) s g = holding-whole w (at_form ps ∷ s) g.2 ∙ rw g.0 refl
+pub holding-whole : (w : Written) (s : List Frame) → TableGood w → answer (holding w s) ≡ whole w s
+holding-whole (closed c ps) s g = refl
+holding-whole (tailed c ps w) s g = holding-whole w (at_form ps ∷ s) g.3 ∙ rw g.0 (ap (λ (x : Construct). whole (tailed x ps w) s) g.1)
 holding-whole (pre p w) s g = holding-whole w (at_pre p ∷ s) g.1
 holding-whole (bin a t b) s g = holding-whole b (at_bin a t ∷ s) g.3
 
@@ -424,7 +430,7 @@ unfolding is_finished
 ended_finished n h = rw h (refl, refl)
 
 -- Each module that is written by the rules is what the parser gives on its tokens.
-pub module_again : (ps : Parts) → IsModule ps → parse_module (tokens_of ps) ≡ Some ps
+pub module_again : (ps : Parts) → IsTableModule ps → parse_module (tokens_of ps) ≡ Some ps
 module_again ps i = whole_module ps i.good i.begins i.ends (ended_finished (ahead ps) i.ends)
   where
     alive : (qs : Parts) → is_fail (ahead qs) ≡ false → ahead qs ≡ Reads Finished → Alive qs × (standing qs [] ≡ heading qs [])
@@ -441,7 +447,7 @@ module_again ps i = whole_module ps i.good i.begins i.ends (ended_finished (ahea
     begun (tok qs t) h a = begun qs h a
     begun (exp qs w) h a = begun qs h a
 
-    whole_module : (qs : Parts) → GoodParts qs → of_module qs ≡ true → ahead qs ≡ Reads Finished → (is_fail (ahead qs) ≡ false) × (ended_module (ahead qs) ≡ true) → parse_module (tokens_of qs) ≡ Some qs
+    whole_module : (qs : Parts) → TableParts qs → of_module qs ≡ true → ahead qs ≡ Reads Finished → (is_fail (ahead qs) ≡ false) × (ended_module (ahead qs) ≡ true) → parse_module (tokens_of qs) ≡ Some qs
     whole_module qs g b e k =
         let l : Alive qs × (standing qs [] ≡ heading qs []) = alive qs k.0 e in
         ap (λ (ts : List Tok). module_of (run (heading top []) ts)) (sym (append-nil (tokens_of qs)))
@@ -451,7 +457,7 @@ module_again ps i = whole_module ps i.good i.begins i.ends (ended_finished (ahea
         ∙ rw k.1 refl
 
 -- Each tree that is written by the rules is what the parser gives on its tokens.
-pub again : (w : Written) → Good w → parse_fn (tokens w) ≡ Some w
+pub again : (w : Written) → TableGood w → parse_fn (tokens w) ≡ Some w
 again w g =
     ap (λ (ts : List Tok). parse_fn ts) (sym (append-nil (tokens w)))
     ∙ ap answer (complete w [] [] g (Above-zero w) (From-zero (tokens w)))

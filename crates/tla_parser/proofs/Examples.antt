@@ -11,8 +11,9 @@ use Rattle.tla_parser.specs.declared.moves.Construct.{Construct}
 use Rattle.tla_parser.specs.declared.moves.Construct.TheVariants.{Conditional, Filter, Junction, Mapping, Parenthesis}
 use Rattle.tla_parser.specs.declared.signs.Sign.{Sign}
 use Rattle.tla_parser.specs.declared.signs.Sign.TheVariants.{Plus, Vee, Wedge}
-use Rattle.tla_parser.specs.inner.Derivations.{Written, ahead, bin, closed, delta, form_levels, form_of, levels, mark_column, pre, tailed}
-use Rattle.tla_parser.specs.inner.Moves.{bracket_rows, class_infix, class_of, ends_as, fold_rows, goes_on, heads, insteads, item_rows, moved, opens, postfixes, rows, unit_rows}
+use Rattle.tla_parser.specs.Written.{Written, bin, class_infix, class_of, closed, form_levels, levels, pre, tailed}
+use Rattle.tla_parser.specs.inner.Derivations.{ahead, delta, form_of, mark_column}
+use Rattle.tla_parser.specs.inner.Moves.{body_rows, bracket_rows, ends_as, fair_rows, fold_rows, goes_on, heads, in_braces, in_brackets, insteads, listed_heads, local_heads, local_rows, module_heads, moved, name_heads, opens, postfixes, recursive_heads, rows, subscript_heads, tuple_rows, unit_heads, unit_rows, update_heads, update_rows}
 
 abbrev token_at : ℕ → TokenKind → Tok
 token_at n k = record { kind = k; place = record { file = 0; line = 1; col = n }; notes = [] }
@@ -34,8 +35,8 @@ pub data Root : Type 0 where
   of_sign : Sign → Root
 
 abbrev root_of : Written → Root
-root_of (closed ps) = of_form (form_of (ahead ps))
-root_of (tailed ps w) = of_form (form_of (ahead ps))
+root_of (closed c ps) = of_form c
+root_of (tailed c ps w) = of_form c
 root_of (pre p w) = of_sign (sign p)
 root_of (bin x t y) = of_sign (sign t)
 
@@ -51,7 +52,7 @@ abbrev mark : List ℕ → TokenKind
 mark t = Symbol t
 
 all_open : Bool
-unfolding sign symbol_signs word_signs fold_name after is_prefix lo hi prefix_lo prefix_hi same is_associative number_of is_bullet delta moved opens postfixes item_rows bracket_rows fold_rows unit_rows rows goes_on heads insteads ends_as class_of class_infix mark_column form_levels
+unfolding sign symbol_signs word_signs fold_name after is_prefix lo hi prefix_lo prefix_hi same is_associative number_of is_bullet delta moved opens postfixes in_braces in_brackets unit_rows rows local_rows bracket_rows update_rows tuple_rows fair_rows fold_rows body_rows goes_on heads listed_heads update_heads subscript_heads local_heads module_heads unit_heads name_heads recursive_heads insteads ends_as class_of class_infix mark_column form_levels
 all_open = true
 
 -- a + b + a is a sum of a sum

@@ -22,8 +22,9 @@ use Rattle.tla_parser.specs.declared.open.Open.TheVariants.{Before, Between}
 use Rattle.tla_parser.specs.declared.open.Operand.{Operand}
 use Rattle.tla_parser.specs.declared.signs.Role.{Role}
 use Rattle.tla_parser.specs.declared.signs.Role.TheVariants.{InfixRole, NoRole, PostfixRole}
-use Rattle.tla_parser.specs.inner.Derivations.{Parts, Written, ahead, bin, class, continues, deepest, delta, exp, form_levels, from, given, idle, is_last, levels, parts, post, posts, pre, resumed, start, tailed, tok, top}
-use Rattle.tla_parser.specs.inner.Moves.{behind_op, class_infix, off}
+use Rattle.tla_parser.specs.Written.{Parts, Written, bin, class, class_infix, continues, deepest, exp, form_levels, from, levels, pre, start, tailed, tok, top}
+use Rattle.tla_parser.specs.inner.Derivations.{ahead, delta, form_of, given, idle, is_last, parts, post, posts, resumed}
+use Rattle.tla_parser.specs.inner.Moves.{behind_op, off}
 use Rattle.tla_parser.specs.inner.Recognition.{Status, acted, advance, advances, deeper, entered, folded, folded_code, following, form, form_deeper, freshly, is_fail, joined_levels, least, lost, operand, placing, read_at, running, wanting}
 
 abbrev pub capped : ℕ → ℕ
@@ -71,7 +72,7 @@ enter_image (Reads k) ps s e = rw e refl
 enter_image (Wants k) ps s e = rw e refl
 enter_image (Last k) ps s e = rw e refl
 enter_image (Shut f) ps s e =
-    rw (e, form_capped f (deepest ps), append_assoc (codes_of s) (posts ps) (Close f (parts ps) ∷ [])) refl
+    rw (form_capped f (deepest ps), append_assoc (codes_of s) (posts ps) (Close f (parts ps) ∷ [])) refl
 enter_image Fail ps s e = refl
 
 same_ltb : (a b : ℕ) → ltb a b ≡ nat_lt a b
@@ -210,9 +211,9 @@ bin_folds t a o w s =
     (ap (operand (class_infix (class a) (sign o))) (capped_joined (continues (class a) (sign o)) (levels a) (levels w)))
     (bin_codes (codes_of s) (post a) (post w) (folded_code (Between (shown a) o) ∷ []))
 
-form_folds : (t : Tok) (ps : Parts) (w : Written) (s : List Frame) → following t (shown (tailed ps w)) (images s) (codes_of s ++ post (tailed ps w)) (margin s) ≡ following t (folded (image_form ps s) (shown w)) (images s) (((codes_of s ++ posts ps) ++ post w) ++ (folded_code (image_form ps s) ∷ [])) (margin s)
+form_folds : (t : Tok) (ps : Parts) (w : Written) (s : List Frame) → following t (shown (tailed (form_of (ahead ps)) ps w)) (images s) (codes_of s ++ post (tailed (form_of (ahead ps)) ps w)) (margin s) ≡ following t (folded (image_form ps s) (shown w)) (images s) (((codes_of s ++ posts ps) ++ post w) ++ (folded_code (image_form ps s) ∷ [])) (margin s)
 form_folds t ps w s =
-    same_running (shown (tailed ps w)) (folded (image_form ps s) (shown w)) (images s) (codes_of s ++ post (tailed ps w)) (((codes_of s ++ posts ps) ++ post w) ++ (folded_code (image_form ps s) ∷ [])) (margin s) t
+    same_running (shown (tailed (form_of (ahead ps)) ps w)) (folded (image_form ps s) (shown w)) (images s) (codes_of s ++ post (tailed (form_of (ahead ps)) ps w)) (((codes_of s ++ posts ps) ++ post w) ++ (folded_code (image_form ps s) ∷ [])) (margin s) t
     (ap (operand Other) (capped_max (deepest ps) (levels w)))
     (bin_codes (codes_of s) (posts ps) (post w) (folded_code (image_form ps s) ∷ []))
 
@@ -242,7 +243,7 @@ behind_image t w (at_form ps ∷ s) =
     elim (either (accepts ps w t (margin s))) [
       | inl h ↦ goes_here h ∙ form_goes t ps w s ∙ sym (goes_there h)
       | inr h ↦ elim (either (is_last (ahead ps) && pops t (margin (at_form ps ∷ s)) false)) [
-        | inl q ↦ folds_here h q ∙ behind_image t (tailed ps w) s ∙ form_folds t ps w s ∙ sym (folds_there h q)
+        | inl q ↦ folds_here h q ∙ behind_image t (tailed (form_of (ahead ps)) ps w) s ∙ form_folds t ps w s ∙ sym (folds_there h q)
         | inr q ↦ stays_here h q ∙ placed_image t w (at_form ps ∷ s) ∙ sym (stays_there h q)
       ]
     ]
@@ -253,7 +254,7 @@ behind_image t w (at_form ps ∷ s) =
     goes_there : accepts ps w t (margin s) ≡ true → following t (shown w) (images (at_form ps ∷ s)) (codes_of (at_form ps ∷ s) ++ post w) (margin (at_form ps ∷ s)) ≡ entered (delta (given (ahead ps) (class w)) t) (parts ps + 2) (max (capped (deepest ps)) (capped (levels w))) (images s) (((codes_of s ++ posts ps) ++ post w) ++ (Part t ∷ [])) (margin s)
     goes_there h = rw h refl
 
-    folds_here : accepts ps w t (margin s) ≡ false → (is_last (ahead ps) && pops t (margin (at_form ps ∷ s)) false) ≡ true → image (behind t w (at_form ps ∷ s)) ≡ image (behind t (tailed ps w) s)
+    folds_here : accepts ps w t (margin s) ≡ false → (is_last (ahead ps) && pops t (margin (at_form ps ∷ s)) false) ≡ true → image (behind t w (at_form ps ∷ s)) ≡ image (behind t (tailed (form_of (ahead ps)) ps w) s)
     folds_here h q = rw (h, q) refl
 
     folds_there : accepts ps w t (margin s) ≡ false → (is_last (ahead ps) && pops t (margin (at_form ps ∷ s)) false) ≡ true → following t (shown w) (images (at_form ps ∷ s)) (codes_of (at_form ps ∷ s) ++ post w) (margin (at_form ps ∷ s)) ≡ following t (folded (image_form ps s) (shown w)) (images s) (((codes_of s ++ posts ps) ++ post w) ++ (folded_code (image_form ps s) ∷ [])) (margin s)
@@ -305,7 +306,7 @@ headed_behind t w (at_pre p ∷ s) = headed_cond (pops t (margin s) (ltb (hi (si
 headed_behind t w (at_bin a o ∷ s) = headed_cond (pops t (margin s) (ltb (hi (sign t)) (lo (sign o)) || same (sign o) (sign t))) _ _ (headed_behind t (bin a o w) s) (headed_placed t w (at_bin a o ∷ s))
 headed_behind t w (at_form ps ∷ s) =
     headed_cond (accepts ps w t (margin s)) _ _ (headed_enter (delta (given (ahead ps) (class w)) t) (tok (exp ps w) t) s refl)
-    (headed_cond (is_last (ahead ps) && pops t (margin (at_form ps ∷ s)) false) _ _ (headed_behind t (tailed ps w) s) (headed_placed t w (at_form ps ∷ s)))
+    (headed_cond (is_last (ahead ps) && pops t (margin (at_form ps ∷ s)) false) _ _ (headed_behind t (tailed (form_of (ahead ps)) ps w) s) (headed_placed t w (at_form ps ∷ s)))
 
 pub headed_step : (t : Tok) (st : State) → Headed st → Headed (step t st)
 headed_step t (want s) h = headed_wanted t s

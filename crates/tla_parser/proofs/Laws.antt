@@ -16,7 +16,7 @@ use Rattle.tla_parser.specs.declared.signs.Role.TheVariants.{InfixRole, PostfixR
 use Rattle.tla_parser.specs.declared.signs.Sign.{Sign}
 use Rattle.tla_parser.specs.declared.signs.Sign.TheVariants.{AngleSub, Arrow, Assigns, AssumeWord, At, AtLeast, AtMost, Bang, BooleanWord, BracketSub, Caret, CaseWord, ChooseWord, Circle, Colon, Comma, ConstantWord, Dash, Dashes, Defines, Diamond, Difference, Differs, DomainWord, Dot, Dots, DoubleArrow, Element, ElseWord, EnabledWord, EndSign, Equals, Equivalence, ExceptWord, ExistsSign, ExtendsWord, FairWord, FalseWord, FoldWord, ForallSign, Greater, IfWord, InWord, Included, InstanceWord, Intersection, LambdaWord, LeadsTo, LeftAngle, LeftBrace, LeftBracket, LeftParen, Less, LetWord, LocalWord, MapsTo, ModuleWord, NotElement, Number, OtherWord, Overrides, Pairs, Percent, Plus, ProofWord, Quotation, Quotient, RecursiveWord, Replaces, RightAngle, RightBrace, RightBracket, RightParen, Square, Star, Stray, StringWord, SubsetWord, ThenWord, TheoremWord, Tick, Tilde, Times, TrueWord, UnchangedWord, Underscore, UnionSign, UnionWord, VariableWord, Vee, Wedge, WithWord, Word}
 use Rattle.tla_parser.specs.inner.Derivations.{delta, look, mark_column}
-use Rattle.tla_parser.specs.inner.Moves.{Point, Row, begin, behind_op, bracket_rows, filled, fold_rows, found, goes_on, heads, hungry, in_units, insteads, item_rows, moved, next_bullet, of_name, off, opens, postfixes, reading, rows, unit_rows}
+use Rattle.tla_parser.specs.inner.Moves.{Point, Row, begin, behind_op, body_rows, bracket_rows, fair_rows, filled, fold_rows, found, goes_on, heads, hungry, in_braces, in_brackets, in_units, insteads, listed_heads, local_heads, local_rows, module_heads, moved, name_heads, next_bullet, of_name, off, opens, postfixes, reading, recursive_heads, rows, subscript_heads, tuple_rows, unit_heads, unit_rows, update_heads, update_rows}
 use Rattle.tla_parser.specs.inner.Recognition.{is_fail, op}
 
 all_signs : List Sign
@@ -132,7 +132,7 @@ plain_found s (r ∷ rs) h o =
     clash (op (after r.sign)) (ap (λ (x : Sign). op (after x)) (sym (same_sign-is s r.sign e)) ∙ o) (negated (op (after r.sign)) b.0))) (plain_found s rs b.1 o)
 
 plain_rows : (m : Mark) (c : Class) → plain (rows m c) ≡ true
-unfolding rows item_rows bracket_rows fold_rows unit_rows after
+unfolding rows local_rows bracket_rows update_rows tuple_rows fair_rows fold_rows body_rows in_braces in_brackets unit_rows after
 plain_rows (Bullets s n) c = refl
 plain_rows _ c = refl
 
@@ -241,7 +241,7 @@ kept_found b s (r ∷ rs) h =
     elim (either (same_sign s r.sign)) [ inl e ↦ rw e k.0 | inr e ↦ rw e (kept_found b s rs k.1) ]
 
 kept_heads : (m : Mark) → kept (in_units m) (heads m) ≡ true
-unfolding heads unit_rows in_units
+unfolding heads listed_heads update_heads subscript_heads local_heads module_heads unit_heads name_heads recursive_heads unit_rows in_units
 kept_heads (Bullets s n) = refl
 kept_heads _ = refl
 
@@ -258,33 +258,33 @@ kept_of_name Other m b h k = k
 kept_of_name Member m b h k = k
 kept_of_name (Joined s) m b h k = k
 
-kept_items : (c : Class) → kept false (item_rows c) ≡ true
-unfolding item_rows in_units
+kept_items : (c : Class) → kept false (in_braces c) ≡ true
+unfolding in_braces in_units
 kept_items BareName = refl
 kept_items _ = refl
 
-kept_bracket : (c : Class) → kept false (bracket_rows c) ≡ true
-unfolding bracket_rows in_units
+kept_bracket : (c : Class) → kept false (in_brackets c) ≡ true
+unfolding in_brackets in_units
 kept_bracket BareName = refl
 kept_bracket _ = refl
 
-kept_fold : (c : Class) → kept false (fold_rows c) ≡ true
-unfolding fold_rows in_units
+kept_fold : (c : Class) → kept false (rows InFold c) ≡ true
+unfolding rows local_rows bracket_rows update_rows tuple_rows fair_rows fold_rows in_units
 kept_fold BareName = refl
 kept_fold _ = refl
 
 kept_assumption : (c : Class) → kept true (rows InAssumption c) ≡ true
-unfolding rows unit_rows in_units
+unfolding rows local_rows bracket_rows update_rows tuple_rows fair_rows fold_rows body_rows unit_rows in_units
 kept_assumption BareName = refl
 kept_assumption _ = refl
 
 kept_statement : (c : Class) → kept true (rows InStatement c) ≡ true
-unfolding rows unit_rows in_units
+unfolding rows local_rows bracket_rows update_rows tuple_rows fair_rows fold_rows body_rows unit_rows in_units
 kept_statement BareName = refl
 kept_statement _ = refl
 
 kept_rows : (m : Mark) (c : Class) → kept (in_units m) (rows m c) ≡ true
-unfolding rows unit_rows in_units
+unfolding rows local_rows bracket_rows update_rows tuple_rows fair_rows fold_rows body_rows unit_rows in_units
 kept_rows (Bullets s n) c = refl
 kept_rows InItems c = kept_items c
 kept_rows InBracket c = kept_bracket c

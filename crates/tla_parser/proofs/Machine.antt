@@ -8,7 +8,8 @@ use Rattle.tla_parser.specs.declared.moves.Next.{Next}
 use Rattle.tla_parser.specs.declared.moves.Next.TheVariants.{Fail, Last, Reads, Shut, Wants}
 use Rattle.tla_parser.specs.declared.signs.Role.{Role}
 use Rattle.tla_parser.specs.declared.signs.Role.TheVariants.{InfixRole, NoRole, PostfixRole}
-use Rattle.tla_parser.specs.inner.Derivations.{Parts, Written, ahead, bin, class, closed, delta, exp, from, given, idle, inner, is_last, pre, start, tailed, tok, top}
+use Rattle.tla_parser.specs.Written.{Parts, Written, bin, class, closed, exp, from, pre, start, tailed, tok, top}
+use Rattle.tla_parser.specs.inner.Derivations.{ahead, delta, form_of, given, idle, inner, is_last}
 use Rattle.tla_parser.specs.inner.Recognition.{ended_module, is_fail, op}
 
 pub data Frame : Type 0 where
@@ -39,7 +40,7 @@ abbrev pub enter : Next → Parts → List Frame → State
 enter (Reads m) ps s = heading ps s
 enter (Wants m) ps s = want (at_form ps ∷ s)
 enter (Last m) ps s = want (at_form ps ∷ s)
-enter (Shut f) ps s = have (closed ps) s
+enter (Shut f) ps s = have (closed f ps) s
 enter Fail ps s = stuck
 
 abbrev pub act : Tok → Role → Written → List Frame → State
@@ -63,7 +64,7 @@ behind t w (at_pre p ∷ s) = cond (pops t (margin s) (ltb (hi (sign t)) (prefix
 behind t w (at_bin a o ∷ s) = cond (pops t (margin s) (ltb (hi (sign t)) (lo (sign o)) || same (sign o) (sign t))) (behind t (bin a o w) s) (placed t w (at_bin a o ∷ s))
 behind t w (at_form ps ∷ s) =
     cond (accepts ps w t (margin s)) (enter (delta (given (ahead ps) (class w)) t) (tok (exp ps w) t) s)
-    (cond (is_last (ahead ps) && pops t (margin (at_form ps ∷ s)) false) (behind t (tailed ps w) s) (placed t w (at_form ps ∷ s)))
+    (cond (is_last (ahead ps) && pops t (margin (at_form ps ∷ s)) false) (behind t (tailed (form_of (ahead ps)) ps w) s) (placed t w (at_form ps ∷ s)))
 
 -- t begins an operand
 abbrev pub fresh : Tok → List Frame → State
@@ -93,7 +94,7 @@ abbrev pub whole : Written → List Frame → Option Written
 whole w [] = Some w
 whole w (at_pre p ∷ s) = whole (pre p w) s
 whole w (at_bin a o ∷ s) = whole (bin a o w) s
-whole w (at_form ps ∷ s) = cond (is_last (ahead ps)) (whole (tailed ps w) s) None
+whole w (at_form ps ∷ s) = cond (is_last (ahead ps)) (whole (tailed (form_of (ahead ps)) ps w) s) None
 
 abbrev pub answer : State → Option Written
 answer (have w s) = whole w s

@@ -5,7 +5,8 @@ use Rattle.tla_parser.specs.declared.moves.Class.{Class}
 use Rattle.tla_parser.specs.declared.moves.Mark.TheVariants.{Finished}
 use Rattle.tla_parser.specs.declared.moves.Next.{Next}
 use Rattle.tla_parser.specs.declared.moves.Next.TheVariants.{Fail, Last, Reads, Shut, Wants}
-use Rattle.tla_parser.specs.inner.Derivations.{Parts, ahead, class, delta, exp, from, given, is_last, is_shut, of_module, point, resumed, start, tok, top}
+use Rattle.tla_parser.specs.Written.{Parts, class, exp, from, of_module, start, tok, top}
+use Rattle.tla_parser.specs.inner.Derivations.{ahead, delta, given, is_last, is_shut, point, resumed}
 use Rattle.tla_parser.specs.inner.Moves.{in_units}
 
 resumed_stays : (b : Bool) (n : Next) → stays_in b n ≡ true → stays_at b (resumed n) ≡ true

@@ -15,7 +15,9 @@ use Rattle.tla_parser.specs.declared.moves.Next.{Next}
 use Rattle.tla_parser.specs.declared.moves.Next.TheVariants.{Fail, Last, Reads, Shut, Wants}
 use Rattle.tla_parser.specs.declared.signs.Role.{Role}
 use Rattle.tla_parser.specs.declared.signs.Role.TheVariants.{InfixRole, NoRole, PostfixRole}
-use Rattle.tla_parser.specs.inner.Derivations.{Above, AboveParts, Ends, Fine, From, Good, GoodParts, IsModule, Leaves, Parts, Written, ahead, bin, class, delta, exp, from, given, idle, inner, is_last, pre, start, tailed, tok, tokens, tokens_of, top}
+use Rattle.tla_parser.specs.Rules.{Above, AboveParts}
+use Rattle.tla_parser.specs.Written.{From, Parts, Written, bin, class, exp, from, pre, start, tailed, tok, tokens, tokens_of, top}
+use Rattle.tla_parser.specs.inner.Derivations.{IsTableModule, TableEnds, TableFine, TableGood, TableLeaves, TableParts, ahead, delta, form_of, given, idle, inner, is_last}
 use Rattle.tla_parser.specs.inner.Moves.{is_finished, off}
 use Rattle.tla_parser.specs.inner.Recognition.{ended_module, is_fail, op}
 
@@ -37,26 +39,26 @@ waits Fail = false
 
 abbrev pub OkFrame : Frame → ℕ → Type 0
 OkFrame (at_pre p) n = is_prefix (sign p) ≡ true
-OkFrame (at_bin a t) n = Good a × (after (sign t) ≡ InfixRole) × Ends a t × Above n a × (n ≤ lo (sign t))
-OkFrame (at_form ps) n = GoodParts ps × AboveParts n ps
+OkFrame (at_bin a t) n = TableGood a × (after (sign t) ≡ InfixRole) × TableEnds a t × Above n a × (n ≤ lo (sign t))
+OkFrame (at_form ps) n = TableParts ps × AboveParts n ps
 
 abbrev pub OkStack : List Frame → Type 0
 OkStack [] = Unit {0}
 OkStack (f ∷ s) = OkFrame f (floor s) × From (margin s) (ftokens f) × OkStack s
 
 abbrev pub Fits : Written → List Frame → Type 0
-Fits w s = Good w × Above (floor s) w × From (margin s) (tokens w)
+Fits w s = TableGood w × Above (floor s) w × From (margin s) (tokens w)
 
 abbrev pub FitParts : Parts → List Frame → Type 0
-FitParts ps s = GoodParts ps × AboveParts (floor s) ps × From (margin s) (tokens_of ps)
+FitParts ps s = TableParts ps × AboveParts (floor s) ps × From (margin s) (tokens_of ps)
 
 abbrev pub Inv : State → List Tok → Type 0
 Inv (want s) ts = OkStack s × (flat s ≡ ts)
-Inv (have w s) ts = OkStack s × Fits w s × ((t : Tok) → Ends w t × Leaves w t) × (flat s ++ tokens w ≡ ts)
-Inv (heading ps s) ts = OkStack s × FitParts ps s × ((t : Tok) → Fine ps t) × (flat s ++ tokens_of ps ≡ ts)
+Inv (have w s) ts = OkStack s × Fits w s × ((t : Tok) → TableEnds w t × TableLeaves w t) × (flat s ++ tokens w ≡ ts)
+Inv (heading ps s) ts = OkStack s × FitParts ps s × ((t : Tok) → TableFine ps t) × (flat s ++ tokens_of ps ≡ ts)
 Inv stuck ts = Unit {0}
 
-fine_reads : (ps : Parts) (m : Mark) → ahead ps ≡ Reads m → (t : Tok) → Fine ps t
+fine_reads : (ps : Parts) (m : Mark) → ahead ps ≡ Reads m → (t : Tok) → TableFine ps t
 fine_reads start m h t = tt
 fine_reads top m h t = tt
 fine_reads (tok ps u) m h t = tt
@@ -67,14 +69,14 @@ enter-ok : (n : Next) (ps : Parts) (s : List Frame) (ts : List Tok) → ahead ps
 enter-ok (Reads m) ps s ts r k g e = (k, g, fine_reads ps m r, e)
 enter-ok (Wants m) ps s ts r k g e = (((g.0, g.1), g.2, k), e)
 enter-ok (Last m) ps s ts r k g e = (((g.0, g.1), g.2, k), e)
-enter-ok (Shut f) ps s ts r k g e = (k, ((rw r refl, g.0), g.1, g.2), (λ t. (tt, tt)), e)
+enter-ok (Shut f) ps s ts r k g e = (k, ((rw r refl, rw r refl, g.0), g.1, g.2), (λ t. (tt, tt)), e)
 enter-ok Fail ps s ts r k g e = tt
 
 -- t ends w, or stands left of what is open
 abbrev pub Done : Written → ℕ → Tok → Type 0
-Done w m t = ((column t) < m) ⊎ (Leaves w t × ((op (after (sign t)) ≡ false) ⊎ Ends w t))
+Done w m t = ((column t) < m) ⊎ (TableLeaves w t × ((op (after (sign t)) ≡ false) ⊎ TableEnds w t))
 
-ends_plainly : (w : Written) (m : ℕ) (t : Tok) → m ≤ (column t) → op (after (sign t)) ≡ true → Done w m t → Ends w t
+ends_plainly : (w : Written) (m : ℕ) (t : Tok) → m ≤ (column t) → op (after (sign t)) ≡ true → Done w m t → TableEnds w t
 ends_plainly w m t c o (inl h) = absurd (omega arith)
 ends_plainly w m t c o (inr (l, inl h)) = absurd (cc)
 ends_plainly w m t c o (inr (l, inr e)) = e
@@ -103,7 +105,7 @@ done_bin a u w m t (inr d) (inr (inl o)) = inr (d.0, inl o)
 done_bin a u w m t (inr (l, inl o)) (inr (inr b)) = inr (l, inl o)
 done_bin a u w m t (inr (l, inr e)) (inr (inr b)) = inr (l, inr (elim (or_cases (ltb (hi (sign t)) (lo (sign u))) (same (sign u) (sign t)) b) [ inl x ↦ inl (ltb-true (hi (sign t)) (lo (sign u)) x) | inr x ↦ inr x ], e))
 
-inner_passes : (n m : ℕ) (w : Written) (t : Tok) → m ≤ (column t) → Done w (max n m) t → ((column t) < n) ⊎ Leaves w t
+inner_passes : (n m : ℕ) (w : Written) (t : Tok) → m ≤ (column t) → Done w (max n m) t → ((column t) < n) ⊎ TableLeaves w t
 inner_passes n m w t c (inl h) = inl (omega arith)
 inner_passes n m w t c (inr h) = inr h.0
 
@@ -112,13 +114,13 @@ refused true true h q = refl
 refused true false h q = cc
 refused false y h q = cc
 
-done_form : (ps : Parts) (w : Written) (m : ℕ) (t : Tok) → Done w (max (inner (ahead ps)) m) t → accepts ps w t m ≡ false → pops t (max (inner (ahead ps)) m) false ≡ true → ((column t) < m) ⊎ (m ≤ (column t)) → Done (tailed ps w) m t
+done_form : (ps : Parts) (w : Written) (m : ℕ) (t : Tok) → Done w (max (inner (ahead ps)) m) t → accepts ps w t m ≡ false → pops t (max (inner (ahead ps)) m) false ≡ true → ((column t) < m) ⊎ (m ≤ (column t)) → Done (tailed (form_of (ahead ps)) ps w) m t
 done_form ps w m t d a p (inl c) = inl c
 done_form ps w m t d a p (inr c) =
     let f : delta (given (ahead ps) (class w)) t ≡ Fail = is_failed (delta (given (ahead ps) (class w)) t) (refused (leb m (column t)) (is_fail (delta (given (ahead ps) (class w)) t)) (le-leb m (column t) c) a) in
     inr ((f, inner_passes (inner (ahead ps)) m w t c d), ends_it f (pops_cases t (max (inner (ahead ps)) m) false p))
   where
-    ends_it : delta (given (ahead ps) (class w)) t ≡ Fail → ((column t) < max (inner (ahead ps)) m) ⊎ ((op (after (sign t)) ≡ false) ⊎ (false ≡ true)) → (op (after (sign t)) ≡ false) ⊎ Ends (tailed ps w) t
+    ends_it : delta (given (ahead ps) (class w)) t ≡ Fail → ((column t) < max (inner (ahead ps)) m) ⊎ ((op (after (sign t)) ≡ false) ⊎ (false ≡ true)) → (op (after (sign t)) ≡ false) ⊎ TableEnds (tailed (form_of (ahead ps)) ps w) t
     ends_it f (inl h) = inr (omega arith, f)
     ends_it f (inr (inl o)) = inl o
     ends_it f (inr (inr q)) = absurd (cc)
@@ -129,7 +131,7 @@ one_more n xs t h m = From-append n xs (t ∷ []) h (m, tt)
 flat_more : (s : List Frame) (xs : List Tok) (t : Tok) (ts : List Tok) → flat s ++ xs ≡ ts → flat s ++ (xs ++ (t ∷ [])) ≡ ts ++ (t ∷ [])
 flat_more s xs t ts e = sym (append_assoc (flat s) xs (t ∷ [])) ∙ ap (λ (ys : List Tok). ys ++ (t ∷ [])) e
 
-act-ok : (t : Tok) (a : Role) (w : Written) (s : List Frame) (ts : List Tok) → after (sign t) ≡ a → margin s ≤ (column t) → OkStack s → Fits w s → (op a ≡ true → Ends w t) → flat s ++ tokens w ≡ ts → Inv (act t a w s) (ts ++ (t ∷ []))
+act-ok : (t : Tok) (a : Role) (w : Written) (s : List Frame) (ts : List Tok) → after (sign t) ≡ a → margin s ≤ (column t) → OkStack s → Fits w s → (op a ≡ true → TableEnds w t) → flat s ++ tokens w ≡ ts → Inv (act t a w s) (ts ++ (t ∷ []))
 act-ok t InfixRole w s ts r m k g d e =
     elim (either (leb (floor s) (lo (sign t)))) [
       | inl h ↦ rw h (((g.0, r, d refl, g.1, leb-true (floor s) (lo (sign t)) h), one_more (margin s) (tokens w) t g.2 m, k), flat_more s (tokens w) t ts e)
@@ -179,7 +181,7 @@ behind-ok t w (at_form ps ∷ s) ts k g d e =
           (flat_more s (tokens_of ps ++ tokens w) t ts joined))
       | inr h ↦ rw h (elim (either (is_last (ahead ps) && pops t (margin (at_form ps ∷ s)) false)) [
         | inl q ↦ rw q (let b : (is_last (ahead ps) ≡ true) × (pops t (margin (at_form ps ∷ s)) false ≡ true) = and_both (is_last (ahead ps)) (pops t (margin (at_form ps ∷ s)) false) q in
-            behind-ok t (tailed ps w) s ts k.2 ((b.0, k.0.0, g.0, within), k.0.1, both) (done_form ps w (margin s) t d h b.1 (side (column t) (margin s))) joined)
+            behind-ok t (tailed (form_of (ahead ps)) ps w) s ts k.2 ((b.0, refl, k.0.0, g.0, within), k.0.1, both) (done_form ps w (margin s) t d h b.1 (side (column t) (margin s))) joined)
         | inr q ↦ rw q (placed-ok t w (at_form ps ∷ s) ts k g d e)
       ])
     ]
@@ -210,7 +212,7 @@ idle_waits Fail t h = let e : delta off t ≡ Fail = delta-off t in absurd (clas
     clash : true ≡ false → ⊥
     clash q = cc
 
-fine_waits : (ps : Parts) (t : Tok) → waits (ahead ps) ≡ true → Fine ps t
+fine_waits : (ps : Parts) (t : Tok) → waits (ahead ps) ≡ true → TableFine ps t
 fine_waits start t h = tt
 fine_waits top t h = absurd (cc)
 fine_waits (tok ps u) t h = tt
@@ -251,22 +253,22 @@ run-ok st ts (t ∷ rest) i = subst (Inv (run (step t st) rest)) (append_assoc t
 pub some_is : (v w : Written) → Some v ≡ Some w → v ≡ w
 some_is v w e = cc
 
-whole-ok : (w : Written) (s : List Frame) (v : Written) → OkStack s → Fits w s → whole w s ≡ Some v → Good v × (tokens v ≡ flat s ++ tokens w)
+whole-ok : (w : Written) (s : List Frame) (v : Written) → OkStack s → Fits w s → whole w s ≡ Some v → TableGood v × (tokens v ≡ flat s ++ tokens w)
 whole-ok w [] v k g h =
     let e : w ≡ v = some_is w v h in
-    (subst Good e g.0, ap tokens (sym e))
+    (subst TableGood e g.0, ap tokens (sym e))
 whole-ok w (at_pre p ∷ s) v k g h =
-    let r : Good v × (tokens v ≡ flat s ++ tokens (pre p w)) = whole-ok (pre p w) s v k.2 ((k.0, g.0, g.1), tt, (k.1.0, g.2)) h in
+    let r : TableGood v × (tokens v ≡ flat s ++ tokens (pre p w)) = whole-ok (pre p w) s v k.2 ((k.0, g.0, g.1), tt, (k.1.0, g.2)) h in
     (r.0, r.1 ∙ sym (append_assoc (flat s) (p ∷ []) (tokens w)))
 whole-ok w (at_bin a u ∷ s) v k g h =
-    let r : Good v × (tokens v ≡ flat s ++ tokens (bin a u w)) = whole-ok (bin a u w) s v k.2 ((k.0.0, k.0.1, k.0.2, g.0, g.1), (k.0.4, k.0.3), subst (From (margin s)) (append_assoc (tokens a) (u ∷ []) (tokens w)) (From-append (margin s) (tokens a ++ (u ∷ [])) (tokens w) k.1 g.2)) h in
+    let r : TableGood v × (tokens v ≡ flat s ++ tokens (bin a u w)) = whole-ok (bin a u w) s v k.2 ((k.0.0, k.0.1, k.0.2, g.0, g.1), (k.0.4, k.0.3), subst (From (margin s)) (append_assoc (tokens a) (u ∷ []) (tokens w)) (From-append (margin s) (tokens a ++ (u ∷ [])) (tokens w) k.1 g.2)) h in
     (r.0, r.1 ∙ ap (λ (ys : List Tok). flat s ++ ys) (sym (append_assoc (tokens a) (u ∷ []) (tokens w))) ∙ sym (append_assoc (flat s) (tokens a ++ (u ∷ [])) (tokens w)))
 whole-ok w (at_form ps ∷ s) v k g h =
     let below : From (margin s) (tokens w) = From-less (margin s) (max (inner (ahead ps)) (margin s)) (tokens w) (max_right (inner (ahead ps)) (margin s)) g.2 in
     let within : From (inner (ahead ps)) (tokens w) = From-less (inner (ahead ps)) (max (inner (ahead ps)) (margin s)) (tokens w) (max_left (inner (ahead ps)) (margin s)) g.2 in
     let both : From (margin s) (tokens_of ps ++ tokens w) = From-append (margin s) (tokens_of ps) (tokens w) k.1 below in
     elim (either (is_last (ahead ps))) [
-      | inl o ↦ (let r : Good v × (tokens v ≡ flat s ++ tokens (tailed ps w)) = whole-ok (tailed ps w) s v k.2 ((o, k.0.0, g.0, within), k.0.1, both) (rw o at h) in
+      | inl o ↦ (let r : TableGood v × (tokens v ≡ flat s ++ tokens (tailed (form_of (ahead ps)) ps w)) = whole-ok (tailed (form_of (ahead ps)) ps w) s v k.2 ((o, refl, k.0.0, g.0, within), k.0.1, both) (rw o at h) in
           (r.0, r.1 ∙ sym (append_assoc (flat s) (tokens_of ps) (tokens w))))
       | inr o ↦ absurd (none_is v (rw o at h))
     ]
@@ -274,20 +276,20 @@ whole-ok w (at_form ps ∷ s) v k g h =
     none_is : (u : Written) → None ≡ Some u → ⊥
     none_is u e = cc
 
-answer-ok : (st : State) (ts : List Tok) (v : Written) → Inv st ts → answer st ≡ Some v → Good v × (tokens v ≡ ts)
+answer-ok : (st : State) (ts : List Tok) (v : Written) → Inv st ts → answer st ≡ Some v → TableGood v × (tokens v ≡ ts)
 answer-ok (have w s) ts v i h =
-    let r : Good v × (tokens v ≡ flat s ++ tokens w) = whole-ok w s v i.0 i.1 h in
+    let r : TableGood v × (tokens v ≡ flat s ++ tokens w) = whole-ok w s v i.0 i.1 h in
     (r.0, r.1 ∙ i.3)
 answer-ok (want s) ts v i h = absurd (cc)
 answer-ok (heading ps s) ts v i h = absurd (cc)
 answer-ok stuck ts v i h = absurd (cc)
 
 -- What the parser gives is written by the rules, with just the tokens.
-pub found : (ts : List Tok) (v : Written) → parse_fn ts ≡ Some v → Good v × (tokens v ≡ ts)
+pub found : (ts : List Tok) (v : Written) → parse_fn ts ≡ Some v → TableGood v × (tokens v ≡ ts)
 found ts v h = answer-ok (run (want []) ts) ts v (run-ok (want []) [] ts (tt, refl)) h
 
 -- the tokens fix the derivation
-pub one_written : (v w : Written) → Good v → Good w → tokens v ≡ tokens w → v ≡ w
+pub one_written : (v w : Written) → TableGood v → TableGood w → tokens v ≡ tokens w → v ≡ w
 one_written v w g h e = some_is v w (sym (again v g) ∙ ap parse_fn e ∙ again w h)
 
 ended_is : (n : Next) → ended_module n ≡ true → n ≡ Reads Finished
@@ -299,11 +301,11 @@ ended_is (Last m) h = cc
 ended_is (Shut f) h = cc
 ended_is Fail h = cc
 
-module_ok : (st : State) (ts : List Tok) (ps : Parts) → Inv st ts → module_of st ≡ Some ps → IsModule ps × (tokens_of ps ≡ ts)
+module_ok : (st : State) (ts : List Tok) (ps : Parts) → Inv st ts → module_of st ≡ Some ps → IsTableModule ps × (tokens_of ps ≡ ts)
 module_ok (heading qs []) ts ps i h =
     elim (either (ended_module (ahead qs))) [
       | inl e ↦ (let q : qs ≡ ps = same_parts (rw e at h) in
-          subst (λ (x : Parts). IsModule x × (tokens_of x ≡ ts)) q
+          subst (λ (x : Parts). IsTableModule x × (tokens_of x ≡ ts)) q
           (record { good = i.1.0; begins = finished_parts qs (ended_is (ahead qs) e); ends = ended_is (ahead qs) e }, i.3))
       | inr e ↦ absurd (none_is ps (rw e at h))
     ]
@@ -319,11 +321,11 @@ module_ok (want s) ts ps i h = absurd (cc)
 module_ok stuck ts ps i h = absurd (cc)
 
 -- What the parser gives is a module that is written by the rules, with just the tokens.
-pub module_found : (ts : List Tok) (ps : Parts) → parse_module ts ≡ Some ps → IsModule ps × (tokens_of ps ≡ ts)
+pub module_found : (ts : List Tok) (ps : Parts) → parse_module ts ≡ Some ps → IsTableModule ps × (tokens_of ps ≡ ts)
 module_found ts ps h = module_ok (run (heading top []) ts) ts ps (run-ok (heading top []) [] ts (tt, (tt, tt, tt), (λ t. tt), refl)) h
 
 -- the tokens fix the module's derivation
-pub one_module : (ps qs : Parts) → IsModule ps → IsModule qs → tokens_of ps ≡ tokens_of qs → ps ≡ qs
+pub one_module : (ps qs : Parts) → IsTableModule ps → IsTableModule qs → tokens_of ps ≡ tokens_of qs → ps ≡ qs
 one_module ps qs g h e = some_parts ps qs (sym (module_again ps g) ∙ ap parse_module e ∙ module_again qs h)
   where
     some_parts : (x y : Parts) → Some x ≡ Some y → x ≡ y

@@ -1,16 +1,16 @@
 -- The table of forms is equal to the templates, from each place in a form: by computing, for every token.
-use Rattle.std.proofs.Common.{Bool, true, false, cond, ◌≡◌, List, [], ◌∷◌, refl}
+use Rattle.std.proofs.Common.{Bool, true, false, cond, ◌&&◌, ◌≡◌, List, [], ◌∷◌, refl}
 use Rattle.tla_parser.proofs.Templates.{behind_part, is_never}
-use Rattle.tla_parser.specs.Operators.{number_of}
-use Rattle.tla_parser.specs.inner.Moves.{opens, postfixes, rows, item_rows, bracket_rows, fold_rows, heads, insteads, found}
+use Rattle.tla_parser.specs.Operators.{is_bullet, number_of, same_sign}
+use Rattle.tla_parser.specs.inner.Moves.{body_rows, bracket_rows, fair_rows, fold_rows, found, heads, in_braces, in_brackets, insteads, listed_heads, local_heads, local_rows, module_heads, name_heads, opens, postfixes, recursive_heads, rows, subscript_heads, tuple_rows, unit_heads, update_heads, update_rows}
 use Rattle.tla_parser.specs.Forms.{FormPart, a_token, an_operand, Form, nothing, Template, templates}
 use Rattle.tla_parser.specs.declared.signs.Sign.{Sign}
-use Rattle.tla_parser.specs.declared.signs.Sign.TheVariants.{Number, Word, LeftParen, RightParen, LeftBracket, RightBracket, LeftBrace, LeftAngle, Comma, Colon, Dot, Bang, Defines, Arrow, MapsTo, BracketSub, Equals, Element, Square, ExistsSign, ChooseWord, IfWord, ThenWord, ElseWord, CaseWord, OtherWord, LetWord, InWord, LambdaWord, ExceptWord, FairWord}
+use Rattle.tla_parser.specs.declared.signs.Sign.TheVariants.{Number, Word, LeftParen, RightParen, LeftBracket, RightBracket, LeftBrace, LeftAngle, Comma, Colon, Dot, Bang, Defines, Arrow, MapsTo, BracketSub, Equals, Element, Square, ExistsSign, ChooseWord, IfWord, ThenWord, ElseWord, CaseWord, OtherWord, LetWord, InWord, LambdaWord, ExceptWord, FairWord, Wedge, Vee}
 use Rattle.tla_parser.specs.declared.moves.Construct.{Construct}
 use Rattle.tla_parser.specs.declared.moves.Class.{Class}
 use Rattle.tla_parser.specs.declared.moves.Class.TheVariants.{BareName, FoldName, Joined, Member, Other, PathName}
 use Rattle.tla_parser.specs.declared.moves.Mark.{Mark}
-use Rattle.tla_parser.specs.declared.moves.Mark.TheVariants.{ArgumentName, BangName, BehindArgument, BehindBoundName, BehindChosen, BehindFoldFirst, BehindFoldSecond, BehindLocalArgument, BehindMapped, BehindOther, BehindParameter, BehindQuantified, BehindSetName, BehindStep, BehindValueName, ChoiceBody, ChosenName, FairOpens, FairSubscript, FieldName, FoldFirst, FoldSecond, InArgumentSet, InArm, InBound, InBracket, InCall, InChoiceSet, InDefinition, InElse, InFair, InFairParen, InFairTuple, InFieldSet, InFieldValue, InFilter, InFold, InFoldBody, InFoldSequence, InFoldStart, InFunctionBody, InGuard, InIf, InIndex, InItems, InLocalSet, InMappedSet, InMoreFair, InMoreItems, InMoreSubscript, InMoreTuple, InNextGuard, InOther, InParen, InResultSet, InSubscriptParen, InSubscriptTuple, InThen, InTuple, InUpdateIndex, InUpdateValue, LocalArgument, LocalBody, LocalDefines, LocalHead, LocalName, LocalParameter, MappedName, NextBoundName, QuantifiedName, QuantifierBody, SetName, Subscript, UpdateBang, UpdateField, UpdatePath, ValueName}
+use Rattle.tla_parser.specs.declared.moves.Mark.TheVariants.{ArgumentName, BangName, BehindArgument, BehindBoundName, BehindChosen, BehindFoldFirst, BehindFoldSecond, BehindLocalArgument, BehindMapped, BehindOther, BehindParameter, BehindQuantified, BehindSetName, BehindStep, BehindValueName, Bullets, ChoiceBody, ChosenName, FairOpens, FairSubscript, FieldName, FoldFirst, FoldSecond, InArgumentSet, InArm, InBound, InBracket, InCall, InChoiceSet, InDefinition, InElse, InFair, InFairParen, InFairTuple, InFieldSet, InFieldValue, InFilter, InFold, InFoldBody, InFoldSequence, InFoldStart, InFunctionBody, InGuard, InIf, InIndex, InItems, InLocalSet, InMappedSet, InMoreFair, InMoreItems, InMoreSubscript, InMoreTuple, InNextGuard, InOther, InParen, InResultSet, InSubscriptParen, InSubscriptTuple, InThen, InTuple, InUpdateIndex, InUpdateValue, LocalArgument, LocalBody, LocalDefines, LocalHead, LocalName, LocalParameter, MappedName, NextBoundName, QuantifiedName, QuantifierBody, SetName, Subscript, UpdateBang, UpdateField, UpdatePath, ValueName}
 use Rattle.tla_parser.specs.declared.moves.Next.{Next}
 use Rattle.tla_parser.specs.declared.moves.Next.TheVariants.{Reads, Wants, Last, Shut, Fail}
 use Rattle.tla_parser.specs.declared.moves.Seen.{Seen}
@@ -189,6 +189,16 @@ residue InUpdateValue = along (way InUpdateValue) templates
 residue InFoldBody = along (way InFoldBody) templates
 residue _ = []
 
+-- what is left of a list behind a bullet of it
+unfoldable pub list_left : Sign → List Template
+list_left Wedge = behind_all (a_token Wedge) templates
+list_left Vee = behind_all (a_token Vee) templates
+list_left _ = []
+
+unfoldable pub bullets_left : Mark → List Template
+bullets_left (Bullets s n) = list_left s
+bullets_left _ = []
+
 unfoldable pub is_reading : Mark → Bool
 is_reading FairSubscript = true
 is_reading QuantifiedName = true
@@ -279,12 +289,12 @@ is_lasting _ = false
 abbrev pub left_of : Next → List Template
 left_of (Reads m) = cond (is_reading m) (residue m) []
 left_of (Wants m) = cond (is_wanting m) (residue m) []
-left_of (Last m) = cond (is_lasting m) (residue m) []
+left_of (Last m) = cond (is_lasting m) (residue m) (bullets_left m)
 left_of (Shut c) = record { construct = c; form = nothing } ∷ []
 left_of Fail = []
 
 all_open : Bool
-unfolding templates residue number_of opens postfixes rows item_rows bracket_rows fold_rows heads insteads is_reading is_wanting is_lasting
+unfolding templates residue list_left bullets_left number_of opens postfixes rows local_rows bracket_rows update_rows tuple_rows fair_rows fold_rows body_rows in_braces in_brackets heads listed_heads update_heads subscript_heads local_heads module_heads unit_heads name_heads recursive_heads insteads is_reading is_wanting is_lasting
 all_open = true
 
 -- ---- the table is equal to the templates, mark by mark
@@ -506,3 +516,28 @@ pub heads_BehindFoldSecond : (s : Sign) → behind_all (a_token s) (residue Behi
 unfolding all_open
 heads_BehindFoldSecond Number = refl
 heads_BehindFoldSecond _ = refl
+
+-- ---- lists of bullets
+
+pub bullet_token : (b s : Sign) → behind_all (a_token s) (list_left b) ≡ []
+unfolding all_open
+bullet_token Wedge s = refl
+bullet_token Vee s = refl
+bullet_token _ s = refl
+
+wedge_on : (s : Sign) (k : Class) → behind_all (a_token s) (behind_all (an_operand k) (list_left Wedge)) ≡ cond (is_bullet Wedge && same_sign Wedge s) (list_left s) []
+unfolding all_open is_bullet
+wedge_on Number k = refl
+wedge_on _ k = refl
+
+vee_on : (s : Sign) (k : Class) → behind_all (a_token s) (behind_all (an_operand k) (list_left Vee)) ≡ cond (is_bullet Vee && same_sign Vee s) (list_left s) []
+unfolding all_open is_bullet
+vee_on Number k = refl
+vee_on _ k = refl
+
+-- behind an item stands the same bullet
+pub bullet_on : (b s : Sign) (k : Class) → behind_all (a_token s) (behind_all (an_operand k) (list_left b)) ≡ cond (is_bullet b && same_sign b s) (list_left s) []
+unfolding list_left is_bullet
+bullet_on Wedge s k = wedge_on s k
+bullet_on Vee s k = vee_on s k
+bullet_on _ s k = refl

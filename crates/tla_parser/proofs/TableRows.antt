@@ -1,21 +1,20 @@
 -- The table of forms is equal to the templates, behind operands and in their place, and at every mark.
 use Rattle.std.proofs.Common.{Bool, true, false, cond, ◌≡◌, ◌&&◌, not, List, [], ◌∷◌, refl}
-use Rattle.tla_parser.proofs.Templates.{can_end}
 use Rattle.tla_parser.specs.Operators.{number_of}
-use Rattle.tla_parser.specs.inner.Moves.{opens, postfixes, rows, item_rows, bracket_rows, fold_rows, heads, insteads, found, in_units}
+use Rattle.tla_parser.specs.inner.Moves.{body_rows, bracket_rows, fair_rows, fold_rows, found, heads, in_braces, in_brackets, in_units, insteads, listed_heads, local_heads, local_rows, module_heads, name_heads, opens, postfixes, recursive_heads, rows, subscript_heads, tuple_rows, unit_heads, update_heads, update_rows}
 use Rattle.tla_parser.specs.Forms.{a_token, an_operand, Template, templates}
 use Rattle.tla_parser.specs.declared.signs.Sign.{Sign}
 use Rattle.tla_parser.specs.declared.signs.Sign.TheVariants.{Number}
 use Rattle.tla_parser.specs.declared.moves.Class.{Class}
 use Rattle.tla_parser.specs.declared.moves.Class.TheVariants.{BareName, FoldName, Joined, Member, Other, PathName}
 use Rattle.tla_parser.specs.declared.moves.Mark.{Mark}
-use Rattle.tla_parser.specs.declared.moves.Mark.TheVariants.{ArgumentName, AtTop, BangName, BehindArgument, BehindArity, BehindBlank, BehindBoundName, BehindChosen, BehindDeclared, BehindExtended, BehindFoldFirst, BehindFoldSecond, BehindHeader, BehindInstance, BehindLocalArgument, BehindMapped, BehindOther, BehindParameter, BehindQuantified, BehindRecursive, BehindSetName, BehindStep, BehindSubstituted, BehindUnitArgument, BehindUnitParameter, BehindValueName, BetweenUnits, ChoiceBody, ChosenName, DeclaredName, ExtendedName, FairOpens, FairSubscript, FieldName, Finished, FoldFirst, FoldSecond, InArgumentSet, InArm, InAssumption, InBody, InBound, InBracket, InCall, InChoiceSet, InDefinition, InElse, InFair, InFairParen, InFairTuple, InFieldSet, InFieldValue, InFilter, InFold, InFoldBody, InFoldSequence, InFoldStart, InFunctionBody, InGuard, InIf, InIndex, InItems, InLocalSet, InMappedSet, InMoreFair, InMoreItems, InMoreSubscript, InMoreTuple, InNamedAssumption, InNamedStatement, InNextGuard, InOther, InParen, InPlainBody, InReplacement, InResultSet, InStatement, InSubscriptParen, InSubscriptTuple, InThen, InTuple, InUnitSet, InUpdateIndex, InUpdateValue, InstanceName, LocalArgument, LocalBody, LocalDefines, LocalHead, LocalName, LocalParameter, LocalUnit, MappedName, ModuleHead, ModuleName, ModuleNamed, NextBoundName, QuantifiedName, QuantifierBody, RecursiveBlank, RecursiveName, SetName, Subscript, Substituted, UnitArgument, UnitDefines, UnitHead, UnitParameter, UpdateBang, UpdateField, UpdatePath, ValueName}
+use Rattle.tla_parser.specs.declared.moves.Mark.TheVariants.{ArgumentName, AtTop, BangName, BehindArgument, BehindArity, BehindBlank, BehindBoundName, BehindChosen, BehindDeclared, BehindExtended, BehindFoldFirst, BehindFoldSecond, BehindHeader, BehindInstance, BehindLocalArgument, BehindMapped, BehindOther, BehindParameter, BehindQuantified, BehindRecursive, BehindSetName, BehindStep, BehindSubstituted, BehindUnitArgument, BehindUnitParameter, BehindValueName, BetweenUnits, Bullets, ChoiceBody, ChosenName, DeclaredName, ExtendedName, FairOpens, FairSubscript, FieldName, Finished, FoldFirst, FoldSecond, InArgumentSet, InArm, InAssumption, InBody, InBound, InBracket, InCall, InChoiceSet, InDefinition, InElse, InFair, InFairParen, InFairTuple, InFieldSet, InFieldValue, InFilter, InFold, InFoldBody, InFoldSequence, InFoldStart, InFunctionBody, InGuard, InIf, InIndex, InItems, InLocalSet, InMappedSet, InMoreFair, InMoreItems, InMoreSubscript, InMoreTuple, InNamedAssumption, InNamedStatement, InNextGuard, InOther, InParen, InPlainBody, InReplacement, InResultSet, InStatement, InSubscriptParen, InSubscriptTuple, InThen, InTuple, InUnitSet, InUpdateIndex, InUpdateValue, InstanceName, LocalArgument, LocalBody, LocalDefines, LocalHead, LocalName, LocalParameter, LocalUnit, MappedName, ModuleHead, ModuleName, ModuleNamed, NextBoundName, QuantifiedName, QuantifierBody, RecursiveBlank, RecursiveName, SetName, Subscript, Substituted, UnitArgument, UnitDefines, UnitHead, UnitParameter, UpdateBang, UpdateField, UpdatePath, ValueName}
 use Rattle.tla_parser.specs.declared.moves.Next.{Next}
 use Rattle.tla_parser.specs.declared.moves.Next.TheVariants.{Reads, Wants, Last, Shut, Fail}
-use Rattle.tla_parser.proofs.TableLaw.{behind_all, residue, is_reading, is_wanting, is_lasting, left_of, heads_FairSubscript, heads_QuantifiedName, heads_ChosenName, heads_LocalName, heads_FieldName, heads_BangName, heads_MappedName, heads_ArgumentName, heads_UpdateBang, heads_Subscript, heads_FairOpens, heads_BehindQuantified, heads_BehindChosen, heads_LocalHead, heads_FoldFirst, heads_BehindMapped, heads_ValueName, heads_BehindArgument, heads_SetName, heads_UpdatePath, heads_LocalParameter, heads_LocalArgument, heads_BehindFoldFirst, heads_BehindValueName, heads_BehindSetName, heads_UpdateField, heads_NextBoundName, heads_BehindOther, heads_BehindParameter, heads_BehindLocalArgument, heads_FoldSecond, heads_BehindStep, heads_BehindBoundName, heads_LocalDefines, heads_BehindFoldSecond}
+use Rattle.tla_parser.proofs.TableLaw.{behind_all, residue, is_reading, is_wanting, is_lasting, left_of, list_left, bullets_left, bullet_token, heads_FairSubscript, heads_QuantifiedName, heads_ChosenName, heads_LocalName, heads_FieldName, heads_BangName, heads_MappedName, heads_ArgumentName, heads_UpdateBang, heads_Subscript, heads_FairOpens, heads_BehindQuantified, heads_BehindChosen, heads_LocalHead, heads_FoldFirst, heads_BehindMapped, heads_ValueName, heads_BehindArgument, heads_SetName, heads_UpdatePath, heads_LocalParameter, heads_LocalArgument, heads_BehindFoldFirst, heads_BehindValueName, heads_BehindSetName, heads_UpdateField, heads_NextBoundName, heads_BehindOther, heads_BehindParameter, heads_BehindLocalArgument, heads_FoldSecond, heads_BehindStep, heads_BehindBoundName, heads_LocalDefines, heads_BehindFoldSecond}
 
 all_open : Bool
-unfolding templates residue number_of opens postfixes rows item_rows bracket_rows fold_rows heads insteads is_reading is_wanting is_lasting
+unfolding templates residue list_left bullets_left number_of opens postfixes rows local_rows bracket_rows update_rows tuple_rows fair_rows fold_rows body_rows in_braces in_brackets heads listed_heads update_heads subscript_heads local_heads module_heads unit_heads name_heads recursive_heads insteads is_reading is_wanting is_lasting
 all_open = true
 
 rows_InParen : (s : Sign) (k : Class) → behind_all (a_token s) (behind_all (an_operand k) (residue InParen)) ≡ left_of (found s (rows InParen k))
@@ -540,7 +539,7 @@ insteads_InOther _ = refl
 -- ---- at every mark
 
 pub heads_law : (m : Mark) (s : Sign) → in_units m ≡ false → behind_all (a_token s) (left_of (Reads m)) ≡ left_of (found s (heads m))
-unfolding is_reading heads in_units
+unfolding is_reading heads listed_heads update_heads subscript_heads local_heads module_heads unit_heads name_heads recursive_heads in_units
 heads_law FairSubscript s h = heads_FairSubscript s
 heads_law QuantifiedName s h = heads_QuantifiedName s
 heads_law ChosenName s h = heads_ChosenName s
@@ -655,13 +654,14 @@ wants_law InBody s h = cc
 wants_law _ s h = refl
 
 pub last_law : (m : Mark) (s : Sign) → behind_all (a_token s) (left_of (Last m)) ≡ []
-unfolding is_lasting insteads
+unfolding is_lasting insteads bullets_left
 last_law InArm s = insteads_InArm s
 last_law QuantifierBody s = insteads_QuantifierBody s
 last_law ChoiceBody s = insteads_ChoiceBody s
 last_law InElse s = insteads_InElse s
 last_law LocalBody s = insteads_LocalBody s
 last_law InOther s = insteads_InOther s
+last_law (Bullets b n) s = bullet_token b s
 last_law _ s = refl
 
 pub wanted_law : (m : Mark) (s : Sign) (k : Class) → in_units m ≡ false → is_wanting m ≡ true → behind_all (a_token s) (behind_all (an_operand k) (left_of (Wants m))) ≡ left_of (found s (rows m k))
@@ -752,31 +752,3 @@ quiet_law BehindBoundName k = refl
 quiet_law LocalDefines k = refl
 quiet_law BehindFoldSecond k = refl
 quiet_law _ k = refl
-
-abbrev pub unended : List Template → Bool
-unended [] = true
-unended (r ∷ rs) = not (can_end r.form) && unended rs
-
-abbrev pub is_open : Next → Bool
-is_open (Reads m) = true
-is_open (Wants m) = true
-is_open (Last m) = true
-is_open (Shut c) = false
-is_open Fail = false
-
-unended_residue : (m : Mark) → unended (residue m) ≡ true
-unfolding all_open
-unended_residue InIf = refl
-unended_residue _ = refl
-
-unended_cond : (b : Bool) (rs : List Template) → unended rs ≡ true → unended (cond b rs []) ≡ true
-unended_cond true rs h = h
-unended_cond false rs h = refl
-
--- no form ends before an operand or a token of it that is to come
-pub unended_left : (n : Next) → is_open n ≡ true → unended (left_of n) ≡ true
-unended_left (Reads m) h = unended_cond (is_reading m) (residue m) (unended_residue m)
-unended_left (Wants m) h = unended_cond (is_wanting m) (residue m) (unended_residue m)
-unended_left (Last m) h = unended_cond (is_lasting m) (residue m) (unended_residue m)
-unended_left (Shut c) h = cc
-unended_left Fail h = cc

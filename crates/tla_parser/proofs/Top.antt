@@ -9,11 +9,10 @@ use Rattle.std.proofs.Common.{Result, Ok, Err, IfOk, IfErr}
 use Rattle.std.proofs.Common.{ℕ, Bool, true, false, List, Some, None, reverse, inl, inr, refl, sym, ap, subst, arith, append-nil, ◌≡◌, ◌<◌, ◌≤◌, ◌∷◌, ◌++◌, ◌∙◌, []}
 use Rattle.tla_parser.proofs.Basics.{either}
 use Rattle.tla_parser.proofs.Built.{posts_made}
-use Rattle.tla_parser.proofs.Complete.{module_again}
+use Rattle.tla_parser.proofs.ByTable.{module_parsed, module_written, one_written_module}
 use Rattle.tla_parser.proofs.Image.{capped, image, image_form, image_run, images}
 use Rattle.tla_parser.proofs.Laws.{clash}
 use Rattle.tla_parser.proofs.Machine.{Frame, State, at_bin, at_form, at_pre, have, heading, module_of, parse_module, run, stuck, want}
-use Rattle.tla_parser.proofs.Sound.{module_found, one_module}
 use Rattle.tla_parser.specs.Fields.{units_differ}
 use Rattle.tla_parser.specs.Grammar.{IsRefusal, IsWritten, NothingSpells, SpelledWithin, Spells}
 use Rattle.tla_parser.specs.Modules.{module_tree}
@@ -26,7 +25,9 @@ use Rattle.tla_parser.specs.declared.open.Open.{Open}
 use Rattle.tla_parser.specs.declared.open.Open.TheVariants.{Before, Between, Within}
 use Rattle.tla_parser.specs.inner.Building.{made, some_if}
 use Rattle.tla_parser.specs.inner.Checked.{IsChecked}
-use Rattle.tla_parser.specs.inner.Derivations.{IsModule, Parts, ahead, deepest, posts, tokens_of, top}
+use Rattle.tla_parser.specs.Written.{Parts, deepest, tokens_of, top}
+use Rattle.tla_parser.specs.Rules.{IsModule}
+use Rattle.tla_parser.specs.inner.Derivations.{ahead, posts}
 use Rattle.tla_parser.specs.inner.Recognition.{advances, code_read, ended_module, ended_stack, finished, is_of_grammar, levels_read, module_start, outcome_mode, status}
 
 pub record IsRead (ts : List Tok) : Type 0 where
@@ -55,7 +56,7 @@ pub read_module : (ts : List Tok) → finished (advances module_start ts) ≡ tr
 read_module ts h =
     let e : image (run (heading top []) ts) ≡ advances module_start ts = read_as ts in
     let r : (ps : Parts) × (module_of (run (heading top []) ts) ≡ Some ps) × (code_read (image (run (heading top []) ts)) ≡ posts ps) × (levels_read (image (run (heading top []) ts)) ≡ capped (deepest ps)) = state_read (run (heading top []) ts) (ap finished e ∙ h) in
-    let f : IsModule r.0 × (tokens_of r.0 ≡ ts) = module_found ts r.0 r.1 in
+    let f : IsModule r.0 × (tokens_of r.0 ≡ ts) = module_written ts r.0 r.1 in
     record { written = r.0; by_rules = f.0; tokens_so = f.1; code_so = ap code_read (sym e) ∙ r.2; levels_so = ap levels_read (sym e) ∙ r.3 }
 
 finished_state : (st : State) (ps : Parts) → module_of st ≡ Some ps → finished (image st) ≡ true
@@ -71,7 +72,7 @@ finished_state stuck ps h = absurd (cc)
 
 pub module_reads : (ts : List Tok) (ps : Parts) → IsModule ps → tokens_of ps ≡ ts → finished (advances module_start ts) ≡ true
 module_reads ts ps i e =
-    ap finished (sym (read_as ts)) ∙ finished_state (run (heading top []) ts) ps (ap parse_module (sym e) ∙ module_again ps i)
+    ap finished (sym (read_as ts)) ∙ finished_state (run (heading top []) ts) ps (ap parse_module (sym e) ∙ module_parsed ps i)
 
 -- nothing spells what is not read as a whole
 pub unread : (ts : List Tok) → finished (advances module_start ts) ≡ false → NothingSpells ts
@@ -84,12 +85,12 @@ read_spells ts m r e d = record { written = r.written; by_rules = r.by_rules; to
 -- where a record of what is read names a field twice, nothing is spelled
 pub read_repeats : (ts : List Tok) (m : Module) (r : IsRead ts) → m ≡ module_tree (items r.written) → units_differ m.units ≡ false → NothingSpells ts
 read_repeats ts m r e d n s =
-    let q : n ≡ m = sym s.module_so ∙ ap (λ (ps : Parts). module_tree (items ps)) (one_module s.written r.written s.by_rules r.by_rules (s.tokens_so ∙ sym r.tokens_so)) ∙ sym e in
+    let q : n ≡ m = sym s.module_so ∙ ap (λ (ps : Parts). module_tree (items ps)) (one_written_module s.written r.written s.by_rules r.by_rules (s.tokens_so ∙ sym r.tokens_so)) ∙ sym e in
     clash (units_differ m.units) (ap (λ (x : Module). units_differ x.units) (sym q) ∙ s.fields_so) d
 
 pub one_spelling : (ts : List Tok) (m n : Module) → Spells m ts → Spells n ts → m ≡ n
 one_spelling ts m n s r =
-    sym s.module_so ∙ ap (λ (ps : Parts). module_tree (items ps)) (one_module s.written r.written s.by_rules r.by_rules (s.tokens_so ∙ sym r.tokens_so)) ∙ r.module_so
+    sym s.module_so ∙ ap (λ (ps : Parts). module_tree (items ps)) (one_written_module s.written r.written s.by_rules r.by_rules (s.tokens_so ∙ sym r.tokens_so)) ∙ r.module_so
 
 capped_past : (n : ℕ) → 400 < capped n → n ≤ 400 → ⊥
 capped_past n h k = omega arith
@@ -100,7 +101,7 @@ too_deep ts h k =
     let r : IsRead ts = read_module ts h in (
       record { written = r.written; by_rules = r.by_rules; tokens_so = r.tokens_so },
       (λ (s : SpelledWithin 400 ts).
-          let e : s.written ≡ r.written = one_module s.written r.written s.by_rules r.by_rules (s.tokens_so ∙ sym r.tokens_so) in
+          let e : s.written ≡ r.written = one_written_module s.written r.written s.by_rules r.by_rules (s.tokens_so ∙ sym r.tokens_so) in
           let d : deepest s.written ≡ deepest r.written = ap deepest e in
           capped_past (deepest r.written) (omega (arith, r.levels_so)) (omega (arith, d, s.levels_so))),
     )

@@ -1,12 +1,11 @@
--- The forms of expressions as templates of tokens and operands. Source: Specifying Systems, sections 15.1 and 16.1.
---
--- Junction lists are not among them: their bullets stand in one column.
+-- The forms of expressions, and of a module, as templates of tokens and operands. Source: Specifying Systems, sections
+-- 15.1, 16.1 and 17.
 use Rattle.std.specs.Prelude.{Bool, true, false, not, ◌≡◌, ◌⊎◌, List, [], ◌∷◌, ◌++◌}
 use Rattle.tla_parser.specs.Operators.{same_sign}
 use Rattle.tla_parser.specs.declared.signs.Sign.{Sign}
-use Rattle.tla_parser.specs.declared.signs.Sign.TheVariants.{Number, Quotation, Word, FoldWord, TrueWord, FalseWord, BooleanWord, StringWord, At, LeftParen, RightParen, LeftBracket, RightBracket, LeftBrace, RightBrace, LeftAngle, RightAngle, Comma, Colon, Dot, Bang, Tick, Defines, Arrow, MapsTo, BracketSub, AngleSub, Equals, Element, Square, ExistsSign, ForallSign, ChooseWord, IfWord, ThenWord, ElseWord, CaseWord, OtherWord, LetWord, InWord, LambdaWord, ExceptWord, FairWord}
+use Rattle.tla_parser.specs.declared.signs.Sign.TheVariants.{Number, Quotation, Word, FoldWord, TrueWord, FalseWord, BooleanWord, StringWord, At, LeftParen, RightParen, LeftBracket, RightBracket, LeftBrace, RightBrace, LeftAngle, RightAngle, Comma, Colon, Dot, Bang, Tick, Defines, Arrow, MapsTo, BracketSub, AngleSub, Equals, Element, Square, Wedge, Vee, ExistsSign, ForallSign, ChooseWord, IfWord, ThenWord, ElseWord, CaseWord, OtherWord, LetWord, InWord, LambdaWord, ExceptWord, FairWord, Underscore, Replaces, Dashes, EndSign, ModuleWord, ExtendsWord, VariableWord, ConstantWord, AssumeWord, TheoremWord, InstanceWord, WithWord, RecursiveWord, LocalWord}
 use Rattle.tla_parser.specs.declared.moves.Construct.{Construct}
-use Rattle.tla_parser.specs.declared.moves.Construct.TheVariants.{NumberLiteral, TextLiteral, TrueLiteral, FalseLiteral, Booleans, Strings, OldValue, NameUse, FoldUse, Parenthesis, Enumeration, Filter, Mapping, FunctionSet, Function, RecordValue, RecordSet, Exception, SquareAction, TupleValue, Fairness, Call, FoldCall, Application, FieldAccess, Primed, Instanced, Quantifier, Choice, Conditional, Cases, CasesOther, Local}
+use Rattle.tla_parser.specs.declared.moves.Construct.TheVariants.{NumberLiteral, TextLiteral, TrueLiteral, FalseLiteral, Booleans, Strings, OldValue, NameUse, FoldUse, Parenthesis, Enumeration, Filter, Mapping, FunctionSet, Function, RecordValue, RecordSet, Exception, SquareAction, TupleValue, Fairness, Call, FoldCall, Application, FieldAccess, Primed, Instanced, Quantifier, Choice, Conditional, Cases, CasesOther, Local, Junction}
 use Rattle.tla_parser.specs.declared.moves.Class.{Class}
 use Rattle.tla_parser.specs.declared.moves.Class.TheVariants.{Other, BareName, FoldName, PathName, Member, Joined}
 
@@ -117,6 +116,16 @@ run_of [] = nothing
 run_of (f ∷ []) = f
 run_of (f ∷ g ∷ fs) = then_form f (run_of (g ∷ fs))
 
+-- one of them
+abbrev pub any_of : List Form → Form
+any_of [] = never
+any_of (f ∷ []) = f
+any_of (f ∷ g ∷ fs) = either_of f (any_of (g ∷ fs))
+
+-- f, or nothing
+abbrev pub optional : Form → Form
+optional f = either_of nothing f
+
 -- f , f , ..
 abbrev pub listed : Form → Form
 listed f = then_form f (many (then_form (tk Comma) f))
@@ -150,11 +159,13 @@ arm = run_of (expr ∷ tk Arrow ∷ expr ∷ [])
 abbrev pub arms : Form
 arms = then_form arm (many (then_form (tk Square) arm))
 
-abbrev pub local_definition : Form
-local_definition =
-    then_form (tk Word) (either_of (run_of (tk Defines ∷ expr ∷ []))
-    (either_of (run_of (tk LeftParen ∷ names ∷ tk RightParen ∷ tk Defines ∷ expr ∷ []))
-    (run_of (tk LeftBracket ∷ groups ∷ tk RightBracket ∷ tk Defines ∷ expr ∷ []))))
+-- a == e, f(x) == e, f[x \in S] == e
+abbrev pub definition : Form
+definition =
+    any_of (run_of (tk Word ∷ tk Defines ∷ expr ∷ [])
+    ∷ run_of (tk Word ∷ tk LeftParen ∷ names ∷ tk RightParen ∷ tk Defines ∷ expr ∷ [])
+    ∷ run_of (tk Word ∷ tk LeftBracket ∷ groups ∷ tk RightBracket ∷ tk Defines ∷ expr ∷ [])
+    ∷ [])
 
 pub record Template : Type 0 where
   pub construct : Construct
@@ -207,10 +218,47 @@ templates =
     ∷ is_written Conditional (tk IfWord ∷ expr ∷ tk ThenWord ∷ expr ∷ tk ElseWord ∷ expr ∷ [])
     ∷ is_written Cases (tk CaseWord ∷ arms ∷ [])
     ∷ is_written CasesOther (tk CaseWord ∷ arms ∷ tk Square ∷ tk OtherWord ∷ tk Arrow ∷ expr ∷ [])
-    ∷ is_written Local (tk LetWord ∷ local_definition ∷ many local_definition ∷ tk InWord ∷ expr ∷ [])
+    ∷ is_written Local (tk LetWord ∷ definition ∷ many definition ∷ tk InWord ∷ expr ∷ [])
+    ∷ is_written Junction (tk Wedge ∷ expr ∷ many (run_of (tk Wedge ∷ expr ∷ [])) ∷ [])
+    ∷ is_written Junction (tk Vee ∷ expr ∷ many (run_of (tk Vee ∷ expr ∷ [])) ∷ [])
     ∷ []
 
 -- The parts are written as a form of this construct.
 abbrev pub Spelled : List Template → Construct → List FormPart → Type 0
 Spelled [] c xs = ⊥
 Spelled (r ∷ rs) c xs = ((r.construct ≡ c) × Matches r.form xs) ⊎ Spelled rs c xs
+
+-- ---- a module
+
+-- INSTANCE M WITH x <- e, y <- f
+abbrev pub instance_form : Form
+instance_form =
+    run_of (tk InstanceWord ∷ tk Word
+    ∷ optional (run_of (tk WithWord ∷ listed (run_of (tk Word ∷ tk Replaces ∷ expr ∷ [])) ∷ [])) ∷ [])
+
+-- f, or f(_, _)
+abbrev pub recursive_name : Form
+recursive_name =
+    any_of (tk Word ∷ run_of (tk Word ∷ tk LeftParen ∷ listed (tk Underscore) ∷ tk RightParen ∷ []) ∷ [])
+
+abbrev pub defining : Form
+defining = any_of (definition ∷ run_of (tk Word ∷ tk Defines ∷ instance_form ∷ []) ∷ instance_form ∷ [])
+
+abbrev pub unit_form : Form
+unit_form =
+    any_of (tk Dashes
+    ∷ run_of (tk VariableWord ∷ names ∷ [])
+    ∷ run_of (tk ConstantWord ∷ names ∷ [])
+    ∷ run_of (tk RecursiveWord ∷ listed recursive_name ∷ [])
+    ∷ run_of (tk AssumeWord ∷ expr ∷ [])
+    ∷ run_of (tk AssumeWord ∷ bare ∷ tk Defines ∷ expr ∷ [])
+    ∷ run_of (tk TheoremWord ∷ expr ∷ [])
+    ∷ run_of (tk TheoremWord ∷ bare ∷ tk Defines ∷ expr ∷ [])
+    ∷ defining
+    ∷ run_of (tk LocalWord ∷ defining ∷ [])
+    ∷ [])
+
+unfoldable pub module_form : Form
+module_form =
+    run_of (tk Dashes ∷ tk ModuleWord ∷ tk Word ∷ tk Dashes ∷ optional (run_of (tk ExtendsWord ∷ names ∷ []))
+    ∷ many unit_form ∷ tk EndSign ∷ [])

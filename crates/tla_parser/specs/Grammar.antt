@@ -7,8 +7,8 @@ use Rattle.std.specs.Prelude.{ℕ, true, List, ◌≡◌, ◌≤◌}
 use Rattle.tla_parser.specs.Fields.{units_differ}
 use Rattle.tla_parser.specs.Modules.{module_tree}
 use Rattle.tla_parser.specs.Spelling.{items}
-use Rattle.tla_parser.specs.inner.Derivations.{IsModule, Parts, deepest, tokens_of}
-use Rattle.tla_parser.specs.inner.Recognition.{form}
+use Rattle.tla_parser.specs.Rules.{IsModule}
+use Rattle.tla_parser.specs.Written.{Parts, deepest, tokens_of}
 
 -- The module is what the tokens spell: they are the tokens of a module that is written by the rules, and it is the
 -- module of its tokens and expressions.

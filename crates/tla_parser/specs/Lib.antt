@@ -5,5 +5,7 @@ pub mod Spelling
 pub mod Modules
 pub mod Fields
 pub mod Forms
+pub mod Written
+pub mod Rules
 pub mod Grammar
 pub mod inner

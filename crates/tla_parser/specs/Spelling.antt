@@ -5,12 +5,12 @@ use Rattle.tla_parser.specs.declared.items.Item.TheVariants.{Piece, Tree}
 use Rattle.std.specs.Prelude.{List, ◌∷◌, ◌++◌, []}
 use Rattle.tla_parser.specs.Signs.{sign}
 use Rattle.tla_parser.specs.Trees.{build, infix_node, prefix_node}
-use Rattle.tla_parser.specs.inner.Derivations.{Parts, Written, ahead, bin, class, closed, continues, exp, form_of, from, pre, start, tailed, tok, top}
+use Rattle.tla_parser.specs.Written.{Parts, Written, bin, class, closed, continues, exp, from, pre, start, tailed, tok, top}
 
 abbrev mutual
   pub tree : Written → Expr
-  tree (closed ps) = build (form_of (ahead ps)) (items ps)
-  tree (tailed ps w) = build (form_of (ahead ps)) (items ps ++ (Tree (tree w) ∷ []))
+  tree (closed c ps) = build c (items ps)
+  tree (tailed c ps w) = build c (items ps ++ (Tree (tree w) ∷ []))
   tree (pre p w) = prefix_node p (tree w)
   tree (bin a t b) = infix_node (continues (class a) (sign t)) t (tree a) (tree b)
 

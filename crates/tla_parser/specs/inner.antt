@@ -3,4 +3,3 @@ pub mod Derivations
 pub mod Recognition
 pub mod Building
 pub mod Checked
-pub mod Elements

@@ -1,34 +1,18 @@
 // Where a form goes on behind one of its tokens, or in the place of an operand.
-ghost use Rattle.std.specs.Prelude.{◌≡◌, true, false};
-ghost use Rattle.tla_parser.specs.inner.Moves.{found, heads, in_units, insteads};
+ghost use Rattle.std.specs.Prelude.{◌≡◌};
+ghost use Rattle.tla_parser.specs.inner.Moves.{found, heads, insteads, listed_heads, local_heads, module_heads, name_heads, recursive_heads, subscript_heads, unit_heads, update_heads};
 
 use crate::moves::{Construct, Mark, Next};
-use crate::rules::{in_units, on, unit};
+use crate::rules::{on, only, unit};
 use crate::signs::Sign;
 
 /// What a token of a form leads to, behind another.
+#[tactic(auto, unfolding(crate::specs::inner::Moves::heads))]
 pub(crate) fn heads(mark: Mark, sign: Sign) -> Next
     ensures { result ≡ found sign (heads mark) }
 {
-    if in_units(mark) {
-        unit_heads(mark, sign)
-    } else {
-        form_heads(mark, sign)
-    }
-}
-
-#[tactic(auto, unfolding(crate::specs::inner::Moves::heads, crate::specs::inner::Moves::in_units))]
-fn form_heads(mark: Mark, sign: Sign) -> Next
-    requires { in_units mark ≡ false }
-    ensures { result ≡ found sign (heads mark) }
-{
     match mark {
-        Mark::QuantifiedName => on(
-            sign,
-            Sign::Word,
-            Next::Reads(Mark::BehindQuantified),
-            Next::Fail,
-        ),
+        Mark::QuantifiedName => only(sign, Sign::Word, Next::Reads(Mark::BehindQuantified)),
         Mark::BehindQuantified => on(
             sign,
             Sign::Comma,
@@ -37,99 +21,69 @@ fn form_heads(mark: Mark, sign: Sign) -> Next
                 sign,
                 Sign::Element,
                 Next::Wants(Mark::InBound),
-                on(
-                    sign,
-                    Sign::Colon,
-                    Next::Last(Mark::QuantifierBody),
-                    Next::Fail,
-                ),
+                only(sign, Sign::Colon, Next::Last(Mark::QuantifierBody)),
             ),
         ),
-        Mark::NextBoundName => on(
-            sign,
-            Sign::Word,
-            Next::Reads(Mark::BehindBoundName),
-            Next::Fail,
-        ),
+        Mark::NextBoundName => only(sign, Sign::Word, Next::Reads(Mark::BehindBoundName)),
         Mark::BehindBoundName => on(
             sign,
             Sign::Comma,
             Next::Reads(Mark::NextBoundName),
-            on(sign, Sign::Element, Next::Wants(Mark::InBound), Next::Fail),
+            only(sign, Sign::Element, Next::Wants(Mark::InBound)),
         ),
-        Mark::ChosenName => on(
-            sign,
-            Sign::Word,
-            Next::Reads(Mark::BehindChosen),
-            Next::Fail,
-        ),
+        Mark::ChosenName => only(sign, Sign::Word, Next::Reads(Mark::BehindChosen)),
         Mark::BehindChosen => on(
             sign,
             Sign::Element,
             Next::Wants(Mark::InChoiceSet),
-            on(sign, Sign::Colon, Next::Last(Mark::ChoiceBody), Next::Fail),
+            only(sign, Sign::Colon, Next::Last(Mark::ChoiceBody)),
         ),
-        Mark::MappedName => on(
-            sign,
-            Sign::Word,
-            Next::Reads(Mark::BehindMapped),
-            Next::Fail,
-        ),
+        _ => listed_heads(mark, sign),
+    }
+}
+
+// Names in braces and brackets.
+#[tactic(auto, unfolding(crate::specs::inner::Moves::listed_heads))]
+fn listed_heads(mark: Mark, sign: Sign) -> Next
+    ensures { result ≡ found sign (listed_heads mark) }
+{
+    match mark {
+        Mark::MappedName => only(sign, Sign::Word, Next::Reads(Mark::BehindMapped)),
         Mark::BehindMapped => on(
             sign,
             Sign::Comma,
             Next::Reads(Mark::MappedName),
-            on(
-                sign,
-                Sign::Element,
-                Next::Wants(Mark::InMappedSet),
-                Next::Fail,
-            ),
+            only(sign, Sign::Element, Next::Wants(Mark::InMappedSet)),
         ),
-        Mark::ArgumentName => on(
-            sign,
-            Sign::Word,
-            Next::Reads(Mark::BehindArgument),
-            Next::Fail,
-        ),
+        Mark::ArgumentName => only(sign, Sign::Word, Next::Reads(Mark::BehindArgument)),
         Mark::BehindArgument => on(
             sign,
             Sign::Comma,
             Next::Reads(Mark::ArgumentName),
-            on(
-                sign,
-                Sign::Element,
-                Next::Wants(Mark::InArgumentSet),
-                Next::Fail,
-            ),
+            only(sign, Sign::Element, Next::Wants(Mark::InArgumentSet)),
         ),
-        Mark::ValueName => on(
-            sign,
-            Sign::Word,
-            Next::Reads(Mark::BehindValueName),
-            Next::Fail,
-        ),
-        Mark::BehindValueName => on(
-            sign,
-            Sign::MapsTo,
-            Next::Wants(Mark::InFieldValue),
-            Next::Fail,
-        ),
-        Mark::SetName => on(
-            sign,
-            Sign::Word,
-            Next::Reads(Mark::BehindSetName),
-            Next::Fail,
-        ),
-        Mark::BehindSetName => on(sign, Sign::Colon, Next::Wants(Mark::InFieldSet), Next::Fail),
-        Mark::UpdateBang => on(sign, Sign::Bang, Next::Reads(Mark::UpdatePath), Next::Fail),
+        Mark::ValueName => only(sign, Sign::Word, Next::Reads(Mark::BehindValueName)),
+        Mark::BehindValueName => only(sign, Sign::MapsTo, Next::Wants(Mark::InFieldValue)),
+        Mark::SetName => only(sign, Sign::Word, Next::Reads(Mark::BehindSetName)),
+        Mark::BehindSetName => only(sign, Sign::Colon, Next::Wants(Mark::InFieldSet)),
+        _ => update_heads(mark, sign),
+    }
+}
+
+// The path of an update, names behind an operand.
+#[tactic(auto, unfolding(crate::specs::inner::Moves::update_heads))]
+fn update_heads(mark: Mark, sign: Sign) -> Next
+    ensures { result ≡ found sign (update_heads mark) }
+{
+    match mark {
+        Mark::UpdateBang => only(sign, Sign::Bang, Next::Reads(Mark::UpdatePath)),
         Mark::UpdatePath => on(
             sign,
             Sign::LeftBracket,
             Next::Wants(Mark::InUpdateIndex),
-            on(sign, Sign::Dot, Next::Reads(Mark::UpdateField), Next::Fail),
+            only(sign, Sign::Dot, Next::Reads(Mark::UpdateField)),
         ),
-        Mark::UpdateField => on(sign, Sign::Word, Next::Reads(Mark::BehindStep), Next::Fail),
+        Mark::UpdateField => only(sign, Sign::Word, Next::Reads(Mark::BehindStep)),
         Mark::BehindStep => on(
             sign,
             Sign::LeftBracket,
@@ -138,14 +92,22 @@ fn form_heads(mark: Mark, sign: Sign) -> Next
                 sign,
                 Sign::Dot,
                 Next::Reads(Mark::UpdateField),
-                on(
-                    sign,
-                    Sign::Equals,
-                    Next::Wants(Mark::InUpdateValue),
-                    Next::Fail,
-                ),
+                only(sign, Sign::Equals, Next::Wants(Mark::InUpdateValue)),
             ),
         ),
+        Mark::FieldName => only(sign, Sign::Word, Next::Shut(Construct::FieldAccess)),
+        Mark::BangName => only(sign, Sign::Word, Next::Shut(Construct::Instanced)),
+        Mark::BehindOther => only(sign, Sign::Arrow, Next::Last(Mark::InOther)),
+        _ => subscript_heads(mark, sign),
+    }
+}
+
+// Subscripts, the LAMBDA of a fold.
+#[tactic(auto, unfolding(crate::specs::inner::Moves::subscript_heads))]
+fn subscript_heads(mark: Mark, sign: Sign) -> Next
+    ensures { result ≡ found sign (subscript_heads mark) }
+{
+    match mark {
         Mark::Subscript => on(
             sign,
             Sign::Word,
@@ -154,12 +116,7 @@ fn form_heads(mark: Mark, sign: Sign) -> Next
                 sign,
                 Sign::LeftAngle,
                 Next::Wants(Mark::InSubscriptTuple),
-                on(
-                    sign,
-                    Sign::LeftParen,
-                    Next::Wants(Mark::InSubscriptParen),
-                    Next::Fail,
-                ),
+                only(sign, Sign::LeftParen, Next::Wants(Mark::InSubscriptParen)),
             ),
         ),
         Mark::FairSubscript => on(
@@ -170,17 +127,25 @@ fn form_heads(mark: Mark, sign: Sign) -> Next
                 sign,
                 Sign::LeftAngle,
                 Next::Wants(Mark::InFairTuple),
-                on(
-                    sign,
-                    Sign::LeftParen,
-                    Next::Wants(Mark::InFairParen),
-                    Next::Fail,
-                ),
+                only(sign, Sign::LeftParen, Next::Wants(Mark::InFairParen)),
             ),
         ),
-        Mark::FairOpens => on(sign, Sign::LeftParen, Next::Wants(Mark::InFair), Next::Fail),
-        Mark::BehindOther => on(sign, Sign::Arrow, Next::Last(Mark::InOther), Next::Fail),
-        Mark::LocalName => on(sign, Sign::Word, Next::Reads(Mark::LocalHead), Next::Fail),
+        Mark::FairOpens => only(sign, Sign::LeftParen, Next::Wants(Mark::InFair)),
+        Mark::FoldFirst => only(sign, Sign::Word, Next::Reads(Mark::BehindFoldFirst)),
+        Mark::BehindFoldFirst => only(sign, Sign::Comma, Next::Reads(Mark::FoldSecond)),
+        Mark::FoldSecond => only(sign, Sign::Word, Next::Reads(Mark::BehindFoldSecond)),
+        Mark::BehindFoldSecond => only(sign, Sign::Colon, Next::Wants(Mark::InFoldBody)),
+        _ => local_heads(mark, sign),
+    }
+}
+
+// Definitions of a LET.
+#[tactic(auto, unfolding(crate::specs::inner::Moves::local_heads))]
+fn local_heads(mark: Mark, sign: Sign) -> Next
+    ensures { result ≡ found sign (local_heads mark) }
+{
+    match mark {
+        Mark::LocalName => only(sign, Sign::Word, Next::Reads(Mark::LocalHead)),
         Mark::LocalHead => on(
             sign,
             Sign::Defines,
@@ -189,121 +154,45 @@ fn form_heads(mark: Mark, sign: Sign) -> Next
                 sign,
                 Sign::LeftParen,
                 Next::Reads(Mark::LocalParameter),
-                on(
-                    sign,
-                    Sign::LeftBracket,
-                    Next::Reads(Mark::LocalArgument),
-                    Next::Fail,
-                ),
+                only(sign, Sign::LeftBracket, Next::Reads(Mark::LocalArgument)),
             ),
         ),
-        Mark::LocalParameter => on(
-            sign,
-            Sign::Word,
-            Next::Reads(Mark::BehindParameter),
-            Next::Fail,
-        ),
+        Mark::LocalParameter => only(sign, Sign::Word, Next::Reads(Mark::BehindParameter)),
         Mark::BehindParameter => on(
             sign,
             Sign::Comma,
             Next::Reads(Mark::LocalParameter),
-            on(
-                sign,
-                Sign::RightParen,
-                Next::Reads(Mark::LocalDefines),
-                Next::Fail,
-            ),
+            only(sign, Sign::RightParen, Next::Reads(Mark::LocalDefines)),
         ),
-        Mark::LocalArgument => on(
-            sign,
-            Sign::Word,
-            Next::Reads(Mark::BehindLocalArgument),
-            Next::Fail,
-        ),
+        Mark::LocalArgument => only(sign, Sign::Word, Next::Reads(Mark::BehindLocalArgument)),
         Mark::BehindLocalArgument => on(
             sign,
             Sign::Comma,
             Next::Reads(Mark::LocalArgument),
-            on(
-                sign,
-                Sign::Element,
-                Next::Wants(Mark::InLocalSet),
-                Next::Fail,
-            ),
+            only(sign, Sign::Element, Next::Wants(Mark::InLocalSet)),
         ),
-        Mark::LocalDefines => on(
-            sign,
-            Sign::Defines,
-            Next::Wants(Mark::InDefinition),
-            Next::Fail,
-        ),
-        Mark::FoldFirst => on(
-            sign,
-            Sign::Word,
-            Next::Reads(Mark::BehindFoldFirst),
-            Next::Fail,
-        ),
-        Mark::BehindFoldFirst => on(sign, Sign::Comma, Next::Reads(Mark::FoldSecond), Next::Fail),
-        Mark::FoldSecond => on(
-            sign,
-            Sign::Word,
-            Next::Reads(Mark::BehindFoldSecond),
-            Next::Fail,
-        ),
-        Mark::BehindFoldSecond => on(sign, Sign::Colon, Next::Wants(Mark::InFoldBody), Next::Fail),
-        Mark::FieldName => on(
-            sign,
-            Sign::Word,
-            Next::Shut(Construct::FieldAccess),
-            Next::Fail,
-        ),
-        Mark::BangName => on(
-            sign,
-            Sign::Word,
-            Next::Shut(Construct::Instanced),
-            Next::Fail,
-        ),
-        _ => Next::Fail,
+        Mark::LocalDefines => only(sign, Sign::Defines, Next::Wants(Mark::InDefinition)),
+        _ => module_heads(mark, sign),
     }
 }
 
-#[tactic(auto, unfolding(crate::specs::inner::Moves::heads, crate::specs::inner::Moves::in_units))]
-fn unit_heads(mark: Mark, sign: Sign) -> Next
-    requires { in_units mark ≡ true }
-    ensures { result ≡ found sign (heads mark) }
+// The header of a module, and what stands before its units.
+#[tactic(auto, unfolding(crate::specs::inner::Moves::module_heads))]
+fn module_heads(mark: Mark, sign: Sign) -> Next
+    ensures { result ≡ found sign (module_heads mark) }
 {
     match mark {
-        Mark::AtTop => on(
-            sign,
-            Sign::Dashes,
-            Next::Reads(Mark::ModuleHead),
-            Next::Fail,
-        ),
-        Mark::ModuleHead => on(
-            sign,
-            Sign::ModuleWord,
-            Next::Reads(Mark::ModuleName),
-            Next::Fail,
-        ),
-        Mark::ModuleName => on(sign, Sign::Word, Next::Reads(Mark::ModuleNamed), Next::Fail),
-        Mark::ModuleNamed => on(
-            sign,
-            Sign::Dashes,
-            Next::Reads(Mark::BehindHeader),
-            Next::Fail,
-        ),
+        Mark::AtTop => only(sign, Sign::Dashes, Next::Reads(Mark::ModuleHead)),
+        Mark::ModuleHead => only(sign, Sign::ModuleWord, Next::Reads(Mark::ModuleName)),
+        Mark::ModuleName => only(sign, Sign::Word, Next::Reads(Mark::ModuleNamed)),
+        Mark::ModuleNamed => only(sign, Sign::Dashes, Next::Reads(Mark::BehindHeader)),
         Mark::BehindHeader => on(
             sign,
             Sign::ExtendsWord,
             Next::Reads(Mark::ExtendedName),
             unit(sign),
         ),
-        Mark::ExtendedName => on(
-            sign,
-            Sign::Word,
-            Next::Reads(Mark::BehindExtended),
-            Next::Fail,
-        ),
+        Mark::ExtendedName => only(sign, Sign::Word, Next::Reads(Mark::BehindExtended)),
         Mark::BehindExtended => on(
             sign,
             Sign::Comma,
@@ -311,18 +200,22 @@ fn unit_heads(mark: Mark, sign: Sign) -> Next
             unit(sign),
         ),
         Mark::BetweenUnits => unit(sign),
-        Mark::DeclaredName => on(
+        Mark::LocalUnit => on(
             sign,
             Sign::Word,
-            Next::Reads(Mark::BehindDeclared),
-            Next::Fail,
+            Next::Reads(Mark::UnitHead),
+            only(sign, Sign::InstanceWord, Next::Reads(Mark::InstanceName)),
         ),
-        Mark::BehindDeclared => on(
-            sign,
-            Sign::Comma,
-            Next::Reads(Mark::DeclaredName),
-            unit(sign),
-        ),
+        _ => unit_heads(mark, sign),
+    }
+}
+
+// Definitions of a module.
+#[tactic(auto, unfolding(crate::specs::inner::Moves::unit_heads))]
+fn unit_heads(mark: Mark, sign: Sign) -> Next
+    ensures { result ≡ found sign (unit_heads mark) }
+{
+    match mark {
         Mark::UnitHead => on(
             sign,
             Sign::Defines,
@@ -331,84 +224,61 @@ fn unit_heads(mark: Mark, sign: Sign) -> Next
                 sign,
                 Sign::LeftParen,
                 Next::Reads(Mark::UnitParameter),
-                on(
-                    sign,
-                    Sign::LeftBracket,
-                    Next::Reads(Mark::UnitArgument),
-                    Next::Fail,
-                ),
+                only(sign, Sign::LeftBracket, Next::Reads(Mark::UnitArgument)),
             ),
         ),
-        Mark::UnitParameter => on(
-            sign,
-            Sign::Word,
-            Next::Reads(Mark::BehindUnitParameter),
-            Next::Fail,
-        ),
+        Mark::UnitParameter => only(sign, Sign::Word, Next::Reads(Mark::BehindUnitParameter)),
         Mark::BehindUnitParameter => on(
             sign,
             Sign::Comma,
             Next::Reads(Mark::UnitParameter),
-            on(
-                sign,
-                Sign::RightParen,
-                Next::Reads(Mark::UnitDefines),
-                Next::Fail,
-            ),
+            only(sign, Sign::RightParen, Next::Reads(Mark::UnitDefines)),
         ),
-        Mark::UnitArgument => on(
-            sign,
-            Sign::Word,
-            Next::Reads(Mark::BehindUnitArgument),
-            Next::Fail,
-        ),
+        Mark::UnitArgument => only(sign, Sign::Word, Next::Reads(Mark::BehindUnitArgument)),
         Mark::BehindUnitArgument => on(
             sign,
             Sign::Comma,
             Next::Reads(Mark::UnitArgument),
-            on(
-                sign,
-                Sign::Element,
-                Next::Wants(Mark::InUnitSet),
-                Next::Fail,
-            ),
+            only(sign, Sign::Element, Next::Wants(Mark::InUnitSet)),
         ),
-        Mark::UnitDefines => on(
+        Mark::UnitDefines => only(sign, Sign::Defines, Next::Wants(Mark::InPlainBody)),
+        _ => name_heads(mark, sign),
+    }
+}
+
+// Declared names, instances.
+#[tactic(auto, unfolding(crate::specs::inner::Moves::name_heads))]
+fn name_heads(mark: Mark, sign: Sign) -> Next
+    ensures { result ≡ found sign (name_heads mark) }
+{
+    match mark {
+        Mark::DeclaredName => only(sign, Sign::Word, Next::Reads(Mark::BehindDeclared)),
+        Mark::BehindDeclared => on(
             sign,
-            Sign::Defines,
-            Next::Wants(Mark::InPlainBody),
-            Next::Fail,
+            Sign::Comma,
+            Next::Reads(Mark::DeclaredName),
+            unit(sign),
         ),
-        Mark::InstanceName => on(
-            sign,
-            Sign::Word,
-            Next::Reads(Mark::BehindInstance),
-            Next::Fail,
-        ),
+        Mark::InstanceName => only(sign, Sign::Word, Next::Reads(Mark::BehindInstance)),
         Mark::BehindInstance => on(
             sign,
             Sign::WithWord,
             Next::Reads(Mark::Substituted),
             unit(sign),
         ),
-        Mark::Substituted => on(
-            sign,
-            Sign::Word,
-            Next::Reads(Mark::BehindSubstituted),
-            Next::Fail,
-        ),
-        Mark::BehindSubstituted => on(
-            sign,
-            Sign::Replaces,
-            Next::Wants(Mark::InReplacement),
-            Next::Fail,
-        ),
-        Mark::RecursiveName => on(
-            sign,
-            Sign::Word,
-            Next::Reads(Mark::BehindRecursive),
-            Next::Fail,
-        ),
+        Mark::Substituted => only(sign, Sign::Word, Next::Reads(Mark::BehindSubstituted)),
+        Mark::BehindSubstituted => only(sign, Sign::Replaces, Next::Wants(Mark::InReplacement)),
+        _ => recursive_heads(mark, sign),
+    }
+}
+
+// Recursive names.
+#[tactic(auto, unfolding(crate::specs::inner::Moves::recursive_heads))]
+fn recursive_heads(mark: Mark, sign: Sign) -> Next
+    ensures { result ≡ found sign (recursive_heads mark) }
+{
+    match mark {
+        Mark::RecursiveName => only(sign, Sign::Word, Next::Reads(Mark::BehindRecursive)),
         Mark::BehindRecursive => on(
             sign,
             Sign::Comma,
@@ -420,39 +290,18 @@ fn unit_heads(mark: Mark, sign: Sign) -> Next
                 unit(sign),
             ),
         ),
-        Mark::RecursiveBlank => on(
-            sign,
-            Sign::Underscore,
-            Next::Reads(Mark::BehindBlank),
-            Next::Fail,
-        ),
+        Mark::RecursiveBlank => only(sign, Sign::Underscore, Next::Reads(Mark::BehindBlank)),
         Mark::BehindBlank => on(
             sign,
             Sign::Comma,
             Next::Reads(Mark::RecursiveBlank),
-            on(
-                sign,
-                Sign::RightParen,
-                Next::Reads(Mark::BehindArity),
-                Next::Fail,
-            ),
+            only(sign, Sign::RightParen, Next::Reads(Mark::BehindArity)),
         ),
         Mark::BehindArity => on(
             sign,
             Sign::Comma,
             Next::Reads(Mark::RecursiveName),
             unit(sign),
-        ),
-        Mark::LocalUnit => on(
-            sign,
-            Sign::Word,
-            Next::Reads(Mark::UnitHead),
-            on(
-                sign,
-                Sign::InstanceWord,
-                Next::Reads(Mark::InstanceName),
-                Next::Fail,
-            ),
         ),
         _ => Next::Fail,
     }
@@ -464,48 +313,13 @@ pub(crate) fn insteads(mark: Mark, sign: Sign) -> Next
     ensures { result ≡ found sign (insteads mark) }
 {
     match mark {
-        Mark::InItems => on(
-            sign,
-            Sign::RightBrace,
-            Next::Shut(Construct::Enumeration),
-            Next::Fail,
-        ),
-        Mark::InTuple => on(
-            sign,
-            Sign::RightAngle,
-            Next::Shut(Construct::TupleValue),
-            Next::Fail,
-        ),
-        Mark::InSubscriptTuple => on(
-            sign,
-            Sign::RightAngle,
-            Next::Shut(Construct::SquareAction),
-            Next::Fail,
-        ),
-        Mark::InFairTuple => on(
-            sign,
-            Sign::RightAngle,
-            Next::Reads(Mark::FairOpens),
-            Next::Fail,
-        ),
-        Mark::InNextGuard => on(
-            sign,
-            Sign::OtherWord,
-            Next::Reads(Mark::BehindOther),
-            Next::Fail,
-        ),
-        Mark::InFold => on(
-            sign,
-            Sign::LambdaWord,
-            Next::Reads(Mark::FoldFirst),
-            Next::Fail,
-        ),
-        Mark::InBody => on(
-            sign,
-            Sign::InstanceWord,
-            Next::Reads(Mark::InstanceName),
-            Next::Fail,
-        ),
+        Mark::InItems => only(sign, Sign::RightBrace, Next::Shut(Construct::Enumeration)),
+        Mark::InTuple => only(sign, Sign::RightAngle, Next::Shut(Construct::TupleValue)),
+        Mark::InSubscriptTuple => only(sign, Sign::RightAngle, Next::Shut(Construct::SquareAction)),
+        Mark::InFairTuple => only(sign, Sign::RightAngle, Next::Reads(Mark::FairOpens)),
+        Mark::InNextGuard => only(sign, Sign::OtherWord, Next::Reads(Mark::BehindOther)),
+        Mark::InFold => only(sign, Sign::LambdaWord, Next::Reads(Mark::FoldFirst)),
+        Mark::InBody => only(sign, Sign::InstanceWord, Next::Reads(Mark::InstanceName)),
         _ => Next::Fail,
     }
 }

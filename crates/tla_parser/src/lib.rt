@@ -21,11 +21,9 @@ mod ranges;
 mod recognizer;
 mod rules;
 mod signs;
-mod theorems;
 mod trees;
 mod units;
 mod updates;
 
 pub use fault::{ParseFault, Syntax};
 pub use parsing::parse;
-pub use theorems::forms_are_as_their_templates;

@@ -5,7 +5,8 @@ ghost use Rattle.tla_parser.specs.Grammar.{IsRefusal, NothingSpells, SpelledWith
 ghost use Rattle.tla_parser.specs.inner.Checked.{IsChecked};
 ghost use Rattle.tla_parser.specs.Modules.{module_tree};
 ghost use Rattle.tla_parser.specs.Spelling.{items};
-ghost use Rattle.tla_parser.specs.inner.Derivations.{Parts, posts};
+ghost use Rattle.tla_parser.specs.Written.{Parts};
+ghost use Rattle.tla_parser.specs.inner.Derivations.{posts};
 ghost use Rattle.tla_parser.specs.inner.Moves.{is_finished};
 ghost use Rattle.tla_parser.specs.inner.Recognition.{advance, advances, ended_module, module_start, outcome_mode, outcome_stack, stood};
 

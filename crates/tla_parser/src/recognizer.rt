@@ -140,23 +140,19 @@ impl Recognizer {
             ≡ entered next count levels (reverse self.old.stack.items) self.old.code.items outer) }
     {
         self.margin = outer;
+        let form = Form {
+            next,
+            count,
+            levels,
+            outer,
+        };
         match next {
             Next::Reads(_) => {
-                self.stack.push(Open::Within(Form {
-                    next,
-                    count,
-                    levels,
-                    outer,
-                }))?;
+                self.stack.push(Open::Within(form))?;
                 Ok(Mode::Read)
             }
             Next::Wants(mark) | Next::Last(mark) => {
-                self.stack.push(Open::Within(Form {
-                    next,
-                    count,
-                    levels,
-                    outer,
-                }))?;
+                self.stack.push(Open::Within(form))?;
                 self.margin = mark_column(mark).max(outer);
                 Ok(Mode::Want)
             }

@@ -1,8 +1,9 @@
 // Where a form goes on: behind a token, behind an operand, in the place of an operand.
 ghost use Rattle.std.specs.Prelude.{◌≡◌, cond, true, false};
 ghost use Rattle.tla_parser.specs.Operators.{same_sign};
-ghost use Rattle.tla_parser.specs.inner.Derivations.{continues};
-ghost use Rattle.tla_parser.specs.inner.Moves.{braced, bracketed, calls, class_infix, class_of, ends_as, found, goes_on, heads, in_units, insteads, mapped, member, next_bullet, of_name, opens, postfixes, rows, unit_rows};
+ghost use Rattle.tla_parser.specs.declared.moves.Next.TheVariants.{Fail};
+ghost use Rattle.tla_parser.specs.Written.{class_infix, class_of, continues, member};
+ghost use Rattle.tla_parser.specs.inner.Moves.{braced, bracketed, calls, ends_as, found, goes_on, heads, in_units, insteads, mapped, next_bullet, of_name, opens, postfixes, rows, unit_rows};
 
 use crate::moves::{Class, Construct, Mark, Next, Seen};
 use crate::signs::Sign;
@@ -44,6 +45,13 @@ pub(crate) fn on(sign: Sign, expected: Sign, next: Next, otherwise: Next) -> Nex
     ensures { result ≡ cond (same_sign sign expected) next otherwise }
 {
     if sign.is(expected) { next } else { otherwise }
+}
+
+/// The next for the expected sign alone.
+pub(crate) fn only(sign: Sign, expected: Sign, next: Next) -> Next
+    ensures { result ≡ cond (same_sign sign expected) next Fail }
+{
+    on(sign, expected, next, Next::Fail)
 }
 
 fn calls(class: Class) -> Next
@@ -126,107 +134,23 @@ pub(crate) fn postfixes(class: Class, sign: Sign) -> Next
     )
 }
 
-/// Whether the mark is a module's, outside its expressions.
-#[tactic(auto, unfolding(crate::specs::inner::Moves::in_units))]
-pub(crate) fn in_units(mark: Mark) -> bool
-    ensures { result ≡ in_units mark }
-{
-    match mark {
-        Mark::AtTop
-        | Mark::ModuleHead
-        | Mark::ModuleName
-        | Mark::ModuleNamed
-        | Mark::BehindHeader
-        | Mark::ExtendedName
-        | Mark::BehindExtended
-        | Mark::BetweenUnits
-        | Mark::DeclaredName => true,
-        Mark::BehindDeclared
-        | Mark::InAssumption
-        | Mark::InNamedAssumption
-        | Mark::InStatement
-        | Mark::InNamedStatement
-        | Mark::UnitHead
-        | Mark::UnitParameter
-        | Mark::BehindUnitParameter
-        | Mark::UnitArgument => true,
-        Mark::BehindUnitArgument
-        | Mark::InUnitSet
-        | Mark::UnitDefines
-        | Mark::InBody
-        | Mark::InPlainBody
-        | Mark::InstanceName
-        | Mark::BehindInstance
-        | Mark::Substituted
-        | Mark::BehindSubstituted => true,
-        Mark::InReplacement
-        | Mark::RecursiveName
-        | Mark::BehindRecursive
-        | Mark::RecursiveBlank
-        | Mark::BehindBlank
-        | Mark::BehindArity
-        | Mark::LocalUnit
-        | Mark::Finished => true,
-        _ => false,
-    }
-}
-
 /// What a unit begins with, or the module's end.
-#[tactic(auto, unfolding(crate::specs::inner::Moves::unit_rows))]
+#[tactic(auto, unfolding(crate::specs::inner::Moves::unit_rows, crate::specs::Operators::number_of))]
 pub(crate) fn unit(sign: Sign) -> Next
     ensures { result ≡ found sign unit_rows }
 {
-    on(
-        sign,
-        Sign::Word,
-        Next::Reads(Mark::UnitHead),
-        on(
-            sign,
-            Sign::VariableWord,
-            Next::Reads(Mark::DeclaredName),
-            on(
-                sign,
-                Sign::ConstantWord,
-                Next::Reads(Mark::DeclaredName),
-                on(
-                    sign,
-                    Sign::AssumeWord,
-                    Next::Wants(Mark::InAssumption),
-                    on(
-                        sign,
-                        Sign::TheoremWord,
-                        Next::Wants(Mark::InStatement),
-                        on(
-                            sign,
-                            Sign::InstanceWord,
-                            Next::Reads(Mark::InstanceName),
-                            on(
-                                sign,
-                                Sign::RecursiveWord,
-                                Next::Reads(Mark::RecursiveName),
-                                on(
-                                    sign,
-                                    Sign::LocalWord,
-                                    Next::Reads(Mark::LocalUnit),
-                                    on(
-                                        sign,
-                                        Sign::Dashes,
-                                        Next::Reads(Mark::BetweenUnits),
-                                        on(
-                                            sign,
-                                            Sign::EndSign,
-                                            Next::Reads(Mark::Finished),
-                                            Next::Fail,
-                                        ),
-                                    ),
-                                ),
-                            ),
-                        ),
-                    ),
-                ),
-            ),
-        ),
-    )
+    match sign {
+        Sign::Word => Next::Reads(Mark::UnitHead),
+        Sign::VariableWord | Sign::ConstantWord => Next::Reads(Mark::DeclaredName),
+        Sign::AssumeWord => Next::Wants(Mark::InAssumption),
+        Sign::TheoremWord => Next::Wants(Mark::InStatement),
+        Sign::InstanceWord => Next::Reads(Mark::InstanceName),
+        Sign::RecursiveWord => Next::Reads(Mark::RecursiveName),
+        Sign::LocalWord => Next::Reads(Mark::LocalUnit),
+        Sign::Dashes => Next::Reads(Mark::BetweenUnits),
+        Sign::EndSign => Next::Reads(Mark::Finished),
+        _ => Next::Fail,
+    }
 }
 
 /// The form that ends in an operand behind this mark.
@@ -246,7 +170,7 @@ pub(crate) fn ends_as(mark: Mark) -> Construct
 }
 
 /// What the operand is that a whole form makes.
-#[tactic(auto, unfolding(crate::specs::inner::Moves::class_of))]
+#[tactic(auto, unfolding(crate::specs::Written::class_of))]
 pub(crate) fn class_of(construct: Construct) -> Class
     ensures { result ≡ class_of construct }
 {
@@ -259,7 +183,7 @@ pub(crate) fn class_of(construct: Construct) -> Class
 }
 
 /// What an infix operator makes of its left operand.
-#[tactic(auto, unfolding(crate::specs::inner::Moves::class_infix))]
+#[tactic(auto, unfolding(crate::specs::Written::class_infix))]
 pub(crate) fn class_infix(class: Class, sign: Sign) -> Class
     ensures { result ≡ class_infix class sign }
 {

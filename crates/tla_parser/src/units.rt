@@ -3,7 +3,7 @@ ghost use Rattle.std.specs.Prelude.{◌≡◌, ◌++◌, ◌∷◌, [], cond, tr
 ghost use Rattle.tla_meaning.specs.declared.modules.Unit.TheVariants.{Assume, Define, Theorem};
 ghost use Rattle.tla_parser.specs.declared.items.Item.TheVariants.{Piece};
 ghost use Rattle.tla_parser.specs.Trees.{name_of};
-ghost use Rattle.tla_parser.specs.Modules.{begun_definition, body_tree, bracket_token, declared_name, definition_of, flushed, head_on, in_head, instance_token, instance_unit, instance_word, is_defining, is_listing, is_naming, is_outside, joined_notes, listed_name, module_node, module_tree, named_token, no_units, opened_section, unit_item, unit_of, unit_token, unit_tree, with_blank, word_token};
+ghost use Rattle.tla_parser.specs.Modules.{begun_definition, body_tree, bracket_token, declared_name, definition_of, flushed, head_on, in_head, instance_token, instance_unit, instance_word, is_defining, is_listing, is_naming, is_outside, joined_notes, listed_name, module_node, module_tree, named_token, no_units, of_operand, opened_section, unit_item, unit_of, unit_token, unit_tree, with_blank, word_token};
 
 use crate::binders::Copies;
 use crate::copies::copy_kind;
@@ -151,6 +151,25 @@ fn definition_of(alloc: Global, head: Head, note: Text, body: Expr) -> Result<De
     })
 }
 
+fn defined_unit(
+    alloc: Global,
+    head: Head,
+    note: Text,
+    operand: Option<Expr>,
+    local: bool,
+) -> Result<List<Unit>, AllocError>
+    ensures { IfOk result (λ us. us ≡ of_operand (λ e. Define (definition_of head note e) local) operand) }
+{
+    let none = List::new(alloc);
+    match operand {
+        Some(e) => added(
+            none,
+            Unit::Define(definition_of(alloc, head, note, e)?, local),
+        ),
+        None => Ok(none),
+    }
+}
+
 // The unit that was read, where there is one.
 #[tactic(auto, unfolding(crate::specs::Modules::unit_of))]
 fn unit_of(alloc: Global, read: Units) -> Result<List<Unit>, AllocError>
@@ -158,11 +177,7 @@ fn unit_of(alloc: Global, read: Units) -> Result<List<Unit>, AllocError>
 {
     let none = List::new(alloc);
     let Units {
-        name: _,
-        extends: _,
-        units: _,
         section,
-        expects: _,
         local,
         note,
         place,
@@ -170,9 +185,9 @@ fn unit_of(alloc: Global, read: Units) -> Result<List<Unit>, AllocError>
         head,
         operand,
         instance,
-        replaced: _,
         pairs,
         recursive,
+        ..
     } = read;
     match section {
         Section::Declaring(_) => added(none, Unit::Declare(decls)),
@@ -185,13 +200,7 @@ fn unit_of(alloc: Global, read: Units) -> Result<List<Unit>, AllocError>
             Some(e) => added(none, Unit::Theorem(e)),
             None => Ok(none),
         },
-        Section::Defining => match operand {
-            Some(e) => added(
-                none,
-                Unit::Define(definition_of(alloc, head, note, e)?, local),
-            ),
-            None => Ok(none),
-        },
+        Section::Defining => defined_unit(alloc, head, note, operand, local),
         Section::Instancing => match instance {
             Some(module) => added(
                 none,

@@ -1,12 +1,13 @@
--- How tokens are written as an expression: operators with their operands, and forms, which are tokens and operands.
+-- Expressions and modules token by token, by the parser's table, and what the parser reads of them.
 use Rattle.tla_lexer.specs.declared.token.Token.{Token as Tok}
 use Rattle.std.specs.Prelude.{ℕ, suc, Bool, true, false, cond, max, List, ◌≡◌, ◌+◌, ◌<◌, ◌≤◌, ◌⊎◌, ◌∷◌, ◌++◌, []}
-use Rattle.tla_parser.specs.Operators.{after, hi, is_prefix, lo, prefix_hi, prefix_lo, same, same_sign}
+use Rattle.tla_parser.specs.Operators.{after, hi, is_prefix, lo, prefix_hi, prefix_lo, same}
+use Rattle.tla_parser.specs.Rules.{Above}
 use Rattle.tla_parser.specs.Signs.{column, sign}
+use Rattle.tla_parser.specs.Written.{From, Parts, Written, bin, class, closed, continues, exp, from, of_module, pre, start, tailed, tok, tokens, top}
 use Rattle.tla_parser.specs.declared.moves.Class.{Class}
-use Rattle.tla_parser.specs.declared.moves.Class.TheVariants.{BareName, FoldName, Joined, Member, Other, PathName}
 use Rattle.tla_parser.specs.declared.moves.Construct.{Construct}
-use Rattle.tla_parser.specs.declared.moves.Construct.TheVariants.{Instanced, Junction, Parenthesis}
+use Rattle.tla_parser.specs.declared.moves.Construct.TheVariants.{Junction}
 use Rattle.tla_parser.specs.declared.moves.Mark.{Mark}
 use Rattle.tla_parser.specs.declared.moves.Mark.TheVariants.{AtTop, Bullets, Finished}
 use Rattle.tla_parser.specs.declared.moves.Next.{Next}
@@ -15,45 +16,7 @@ use Rattle.tla_parser.specs.declared.moves.Seen.{Seen}
 use Rattle.tla_parser.specs.declared.open.Code.{Code}
 use Rattle.tla_parser.specs.declared.open.Code.TheVariants.{Close, Infix, Part, Prefix}
 use Rattle.tla_parser.specs.declared.signs.Role.TheVariants.{InfixRole, PostfixRole}
-use Rattle.tla_parser.specs.declared.signs.Sign.{Sign}
-use Rattle.tla_parser.specs.inner.Moves.{Point, begin, behind_op, class_infix, class_of, ends_as, filled, hungry, moved, off, reading}
-
-mutual
-  pub data Written : Type 0 where
-    -- a form that ends in a token
-    closed : Parts → Written
-    -- a form that ends in an operand: an open expression or a junction list
-    tailed : Parts → Written → Written
-    pre : Tok → Written → Written
-    bin : Written → Tok → Written → Written
-
-  pub data Parts : Type 0 where
-    start : Parts
-    -- a module begins
-    top : Parts
-    -- a postfix form begins with its operand
-    from : Written → Parts
-    tok : Parts → Tok → Parts
-    exp : Parts → Written → Parts
-
-abbrev mutual
-  pub tokens : Written → List Tok
-  tokens (closed ps) = tokens_of ps
-  tokens (tailed ps w) = tokens_of ps ++ tokens w
-  tokens (pre p w) = p ∷ tokens w
-  tokens (bin a t b) = tokens a ++ (t ∷ tokens b)
-
-  pub tokens_of : Parts → List Tok
-  tokens_of start = []
-  tokens_of top = []
-  tokens_of (from w) = tokens w
-  tokens_of (tok ps t) = tokens_of ps ++ (t ∷ [])
-  tokens_of (exp ps w) = tokens_of ps ++ tokens w
-
--- each token stands in column n or right of it
-abbrev pub From : ℕ → List Tok → Type 0
-From n [] = Unit {0}
-From n (t ∷ ts) = (n ≤ column t) × From n ts
+use Rattle.tla_parser.specs.inner.Moves.{Point, begin, behind_op, ends_as, filled, hungry, moved, off, reading}
 
 abbrev pub look : Tok → Seen
 look t = record { sign = sign t; column = column t }
@@ -82,21 +45,7 @@ given (Reads m) c = off
 given (Shut f) c = off
 given Fail c = off
 
-abbrev pub class_next : Next → Class
-class_next (Shut c) = class_of c
-class_next (Reads m) = Other
-class_next (Wants m) = Other
-class_next (Last m) = Other
-class_next Fail = Other
-
 abbrev mutual
-  -- what an operand is, as far as a form asks
-  pub class : Written → Class
-  class (closed ps) = class_next (ahead ps)
-  class (tailed ps w) = Other
-  class (pre p w) = Other
-  class (bin a t b) = class_infix (class a) (sign t)
-
   pub point : Parts → Point
   point start = begin
   point top = reading AtTop
@@ -138,73 +87,6 @@ inner (Wants m) = mark_column m
 inner (Shut c) = 0
 inner Fail = 0
 
--- The edges: the operator t behind w can be no part of w.
-abbrev pub Ends : Written → Tok → Type 0
-Ends (closed ps) t = Unit {0}
-Ends (tailed ps w) t = (column t < inner (ahead ps)) × (delta (given (ahead ps) (class w)) t ≡ Fail)
-Ends (pre p w) t = (hi (sign t) < prefix_lo (sign p)) × Ends w t
-Ends (bin a o b) t = ((hi (sign t) < lo (sign o)) ⊎ (same (sign o) (sign t) ≡ true)) × Ends b t
-
--- The token t of a form behind w goes on with no form in w.
-abbrev pub Leaves : Written → Tok → Type 0
-Leaves (closed ps) t = Unit {0}
-Leaves (tailed ps w) t = (delta (given (ahead ps) (class w)) t ≡ Fail) × ((column t < inner (ahead ps)) ⊎ Leaves w t)
-Leaves (pre p w) t = Leaves w t
-Leaves (bin a o b) t = Leaves b t
-
--- Each infix operator on the left edge, before any prefix operator, has a range from n on.
-abbrev mutual
-  pub Above : ℕ → Written → Type 0
-  Above n (closed ps) = AboveParts n ps
-  Above n (tailed ps w) = AboveParts n ps
-  Above n (pre p w) = Unit {0}
-  Above n (bin a o b) = (n ≤ lo (sign o)) × Above n a
-
-  pub AboveParts : ℕ → Parts → Type 0
-  AboveParts n start = Unit {0}
-  AboveParts n top = Unit {0}
-  AboveParts n (from w) = Above n w
-  AboveParts n (tok ps t) = AboveParts n ps
-  AboveParts n (exp ps w) = AboveParts n ps
-
--- t may stand behind the parts
-abbrev pub Fine : Parts → Tok → Type 0
-Fine start t = Unit {0}
-Fine top t = Unit {0}
-Fine (from w) t = (after (sign t) ≡ PostfixRole) × Ends w t
-Fine (tok ps u) t = Unit {0}
-Fine (exp ps w) t = (column t < inner (ahead ps)) ⊎ Leaves w t
-
-abbrev mutual
-  pub Good : Written → Type 0
-  Good (closed ps) = (is_shut (ahead ps) ≡ true) × GoodParts ps
-  Good (tailed ps w) = (is_last (ahead ps) ≡ true) × GoodParts ps × Good w × From (inner (ahead ps)) (tokens w)
-  Good (pre p w) = (is_prefix (sign p) ≡ true) × Good w × Above (suc (prefix_hi (sign p))) w
-  Good (bin a t b) = Good a × (after (sign t) ≡ InfixRole) × Ends a t × Good b × Above (suc (hi (sign t))) b
-
-  pub GoodParts : Parts → Type 0
-  GoodParts start = Unit {0}
-  GoodParts top = Unit {0}
-  GoodParts (from w) = Good w
-  GoodParts (tok ps t) = GoodParts ps × Fine ps t
-  GoodParts (exp ps w) = GoodParts ps × Good w × From (inner (ahead ps)) (tokens w)
-
--- the parts are a module's, as far as it goes
-abbrev pub of_module : Parts → Bool
-of_module start = false
-of_module top = true
-of_module (from w) = false
-of_module (tok ps t) = of_module ps
-of_module (exp ps w) = of_module ps
-
--- The parts are a whole module.
-pub record IsModule (ps : Parts) : Type 0 where
-  pub good : GoodParts ps
-  pub begins : of_module ps ≡ true
-  pub ends : ahead ps ≡ Reads Finished
-
--- ---- what is read, each construct behind its parts
-
 -- the form that the parts make, at its end or with an operand as its last
 abbrev pub form_of : Next → Construct
 form_of (Shut f) = f
@@ -213,14 +95,49 @@ form_of (Reads m) = Junction
 form_of (Wants m) = Junction
 form_of Fail = Junction
 
--- a chain of this operator goes on with it
-abbrev pub continues : Class → Sign → Bool
-continues (Joined s) t = same_sign s t
-continues Other t = false
-continues BareName t = false
-continues FoldName t = false
-continues PathName t = false
-continues Member t = false
+-- what the rules say, by the table
+abbrev pub TableEnds : Written → Tok → Type 0
+TableEnds (closed c ps) t = Unit {0}
+TableEnds (tailed c ps w) t = (column t < inner (ahead ps)) × (delta (given (ahead ps) (class w)) t ≡ Fail)
+TableEnds (pre p w) t = (hi (sign t) < prefix_lo (sign p)) × TableEnds w t
+TableEnds (bin a o b) t = ((hi (sign t) < lo (sign o)) ⊎ (same (sign o) (sign t) ≡ true)) × TableEnds b t
+
+-- The token t of a form behind w goes on with no form in w.
+abbrev pub TableLeaves : Written → Tok → Type 0
+TableLeaves (closed c ps) t = Unit {0}
+TableLeaves (tailed c ps w) t = (delta (given (ahead ps) (class w)) t ≡ Fail) × ((column t < inner (ahead ps)) ⊎ TableLeaves w t)
+TableLeaves (pre p w) t = TableLeaves w t
+TableLeaves (bin a o b) t = TableLeaves b t
+
+-- t may stand behind the parts
+abbrev pub TableFine : Parts → Tok → Type 0
+TableFine start t = Unit {0}
+TableFine top t = Unit {0}
+TableFine (from w) t = (after (sign t) ≡ PostfixRole) × TableEnds w t
+TableFine (tok ps u) t = Unit {0}
+TableFine (exp ps w) t = (column t < inner (ahead ps)) ⊎ TableLeaves w t
+
+abbrev mutual
+  pub TableGood : Written → Type 0
+  TableGood (closed c ps) = (is_shut (ahead ps) ≡ true) × (form_of (ahead ps) ≡ c) × TableParts ps
+  TableGood (tailed c ps w) = (is_last (ahead ps) ≡ true) × (form_of (ahead ps) ≡ c) × TableParts ps × TableGood w × From (inner (ahead ps)) (tokens w)
+  TableGood (pre p w) = (is_prefix (sign p) ≡ true) × TableGood w × Above (suc (prefix_hi (sign p))) w
+  TableGood (bin a t b) = TableGood a × (after (sign t) ≡ InfixRole) × TableEnds a t × TableGood b × Above (suc (hi (sign t))) b
+
+  pub TableParts : Parts → Type 0
+  TableParts start = Unit {0}
+  TableParts top = Unit {0}
+  TableParts (from w) = TableGood w
+  TableParts (tok ps t) = TableParts ps × TableFine ps t
+  TableParts (exp ps w) = TableParts ps × TableGood w × From (inner (ahead ps)) (tokens w)
+
+-- The parts are a whole module.
+pub record IsTableModule (ps : Parts) : Type 0 where
+  pub good : TableParts ps
+  pub begins : of_module ps ≡ true
+  pub ends : ahead ps ≡ Reads Finished
+
+-- ---- what is read, each construct behind its parts
 
 abbrev pub parts : Parts → ℕ
 parts start = 0
@@ -231,8 +148,8 @@ parts (exp ps w) = parts ps + 1
 
 abbrev mutual
   pub post : Written → List Code
-  post (closed ps) = posts ps ++ (Close (form_of (ahead ps)) (parts ps) ∷ [])
-  post (tailed ps w) = (posts ps ++ post w) ++ (Close (form_of (ahead ps)) (parts ps + 1) ∷ [])
+  post (closed c ps) = posts ps ++ (Close c (parts ps) ∷ [])
+  post (tailed c ps w) = (posts ps ++ post w) ++ (Close c (parts ps + 1) ∷ [])
   post (pre p w) = post w ++ (Prefix p ∷ [])
   post (bin a t b) = (post a ++ post b) ++ (Infix t (continues (class a) (sign t)) ∷ [])
 
@@ -242,24 +159,3 @@ abbrev mutual
   posts (from w) = post w
   posts (tok ps t) = posts ps ++ (Part t ∷ [])
   posts (exp ps w) = posts ps ++ post w
-
--- ---- levels: a leaf is one level, and parentheses make none
-
-unfoldable pub form_levels : Construct → ℕ → ℕ
-form_levels Parenthesis n = n
-form_levels Instanced n = n
-form_levels _ n = n + 1
-
-abbrev mutual
-  pub levels : Written → ℕ
-  levels (closed ps) = form_levels (form_of (ahead ps)) (deepest ps)
-  levels (tailed ps w) = max (deepest ps) (levels w) + 1
-  levels (pre p w) = levels w + 1
-  levels (bin a t b) = cond (continues (class a) (sign t)) (max (levels a) (levels b + 1)) (max (levels a) (levels b) + 1)
-
-  pub deepest : Parts → ℕ
-  deepest start = 0
-  deepest top = 0
-  deepest (from w) = levels w
-  deepest (tok ps t) = deepest ps
-  deepest (exp ps w) = max (deepest ps) (levels w)

@@ -1,5 +1,5 @@
--- What may come in a form, token by token, told by where in a form one is. That this is equal to the templates of
--- `specs/Forms` is a law (`forms_are_as_their_templates`).
+-- What may come in a form, token by token, told by where in a form one is: the parser's own table. That it is equal to
+-- the templates of `specs/Forms` is proved in `proofs/FormLaw` and `proofs/ModuleLaw`.
 use Rattle.std.specs.Prelude.{ℕ, Bool, true, false, cond, List, ◌∷◌, ◌&&◌, ◌==◌, []}
 use Rattle.tla_parser.specs.Operators.{is_bullet, same_sign}
 use Rattle.tla_parser.specs.declared.moves.Class.{Class}
@@ -101,16 +101,15 @@ bracketed FoldName = Fail
 bracketed Other = Fail
 bracketed (Joined s) = Fail
 
-unfoldable pub item_rows : Class → List Row
-item_rows c = on Comma (Wants InMoreItems) ∷ on RightBrace (Shut Enumeration) ∷ on Colon (braced c) ∷ []
+-- behind the first operand in braces
+unfoldable pub in_braces : Class → List Row
+in_braces c = on Comma (Wants InMoreItems) ∷ on RightBrace (Shut Enumeration) ∷ on Colon (braced c) ∷ []
 
-unfoldable pub bracket_rows : Class → List Row
-bracket_rows c =
+-- behind the first operand in brackets
+unfoldable pub in_brackets : Class → List Row
+in_brackets c =
     on Arrow (Wants InResultSet) ∷ on MapsTo (mapped c) ∷ on Comma (bracketed c)
     ∷ on Colon (of_name c (Wants InFieldSet)) ∷ on ExceptWord (Reads UpdateBang) ∷ on BracketSub (Reads Subscript) ∷ []
-
-unfoldable pub fold_rows : Class → List Row
-fold_rows c = on Comma (of_name c (Wants InFoldStart)) ∷ []
 
 -- the next bullet of a list: the same in the same column
 abbrev pub next_bullet : Sign → ℕ → Seen → Next
@@ -124,60 +123,175 @@ unit_rows =
     ∷ on RecursiveWord (Reads RecursiveName) ∷ on LocalWord (Reads LocalUnit) ∷ on Dashes (Reads BetweenUnits)
     ∷ on EndSign (Reads Finished) ∷ []
 
--- behind an operand of a form
+-- of a definition or an instance
+unfoldable pub body_rows : Mark → Class → List Row
+body_rows InUnitSet c = on Comma (Reads UnitArgument) ∷ on RightBracket (Reads UnitDefines) ∷ []
+body_rows InBody c = unit_rows
+body_rows InPlainBody c = unit_rows
+body_rows InReplacement c = on Comma (Reads Substituted) ∷ unit_rows
+body_rows _ c = []
+
+-- in a fold, of an assumption or a theorem
+unfoldable pub fold_rows : Mark → Class → List Row
+fold_rows InFold c = on Comma (of_name c (Wants InFoldStart)) ∷ []
+fold_rows InFoldBody c = on Comma (Wants InFoldStart) ∷ []
+fold_rows InFoldStart c = on Comma (Wants InFoldSequence) ∷ []
+fold_rows InFoldSequence c = on RightParen (Shut FoldCall) ∷ []
+fold_rows InAssumption c = on Defines (of_name c (Wants InNamedAssumption)) ∷ unit_rows
+fold_rows InNamedAssumption c = unit_rows
+fold_rows InStatement c = on Defines (of_name c (Wants InNamedStatement)) ∷ unit_rows
+fold_rows InNamedStatement c = unit_rows
+fold_rows m c = body_rows m c
+
+-- in a subscript
+unfoldable pub fair_rows : Mark → Class → List Row
+fair_rows InSubscriptParen c = on RightParen (Shut SquareAction) ∷ []
+fair_rows InFairTuple c = on Comma (Wants InMoreFair) ∷ on RightAngle (Reads FairOpens) ∷ []
+fair_rows InMoreFair c = on Comma (Wants InMoreFair) ∷ on RightAngle (Reads FairOpens) ∷ []
+fair_rows InFairParen c = on RightParen (Reads FairOpens) ∷ []
+fair_rows InFair c = on RightParen (Shut Fairness) ∷ []
+fair_rows m c = fold_rows m c
+
+-- in a tuple
+unfoldable pub tuple_rows : Mark → Class → List Row
+tuple_rows InTuple c = on Comma (Wants InMoreTuple) ∷ on RightAngle (Shut TupleValue) ∷ on AngleSub (Reads Subscript) ∷ []
+tuple_rows InMoreTuple c = on Comma (Wants InMoreTuple) ∷ on RightAngle (Shut TupleValue) ∷ []
+tuple_rows InSubscriptTuple c = on Comma (Wants InMoreSubscript) ∷ on RightAngle (Shut SquareAction) ∷ []
+tuple_rows InMoreSubscript c = on Comma (Wants InMoreSubscript) ∷ on RightAngle (Shut SquareAction) ∷ []
+tuple_rows m c = fair_rows m c
+
+-- of an update, in an application
+unfoldable pub update_rows : Mark → Class → List Row
+update_rows InUpdateIndex c = on Comma (Wants InUpdateIndex) ∷ on RightBracket (Reads BehindStep) ∷ []
+update_rows InUpdateValue c = on Comma (Reads UpdateBang) ∷ on RightBracket (Shut Exception) ∷ []
+update_rows InIndex c = on Comma (Wants InIndex) ∷ on RightBracket (Shut Application) ∷ []
+update_rows InCall c = on Comma (Wants InCall) ∷ on RightParen (Shut Call) ∷ []
+update_rows m c = tuple_rows m c
+
+-- in brackets
+unfoldable pub bracket_rows : Mark → Class → List Row
+bracket_rows InBracket c = in_brackets c
+bracket_rows InResultSet c = on RightBracket (Shut FunctionSet) ∷ []
+bracket_rows InFunctionBody c = on RightBracket (Shut Function) ∷ []
+bracket_rows InArgumentSet c = on Comma (Reads ArgumentName) ∷ on MapsTo (Wants InFunctionBody) ∷ []
+bracket_rows InFieldValue c = on Comma (Reads ValueName) ∷ on RightBracket (Shut RecordValue) ∷ []
+bracket_rows InFieldSet c = on Comma (Reads SetName) ∷ on RightBracket (Shut RecordSet) ∷ []
+bracket_rows m c = update_rows m c
+
+-- of a LET, in braces
+unfoldable pub local_rows : Mark → Class → List Row
+local_rows InDefinition c = on Word (Reads LocalHead) ∷ on InWord (Last LocalBody) ∷ []
+local_rows InLocalSet c = on Comma (Reads LocalArgument) ∷ on RightBracket (Reads LocalDefines) ∷ []
+local_rows InItems c = in_braces c
+local_rows InMoreItems c = on Comma (Wants InMoreItems) ∷ on RightBrace (Shut Enumeration) ∷ []
+local_rows InFilter c = on RightBrace (Shut Filter) ∷ []
+local_rows InMappedSet c = on Comma (Reads MappedName) ∷ on RightBrace (Shut Mapping) ∷ []
+local_rows m c = bracket_rows m c
+
+-- behind an operand of a form: of one that begins with a word or a parenthesis
 unfoldable pub rows : Mark → Class → List Row
 rows InParen c = on RightParen (Shut Parenthesis) ∷ []
 rows InIf c = on ThenWord (Wants InThen) ∷ []
 rows InThen c = on ElseWord (Last InElse) ∷ []
 rows InBound c = on Comma (Reads NextBoundName) ∷ on Colon (Last QuantifierBody) ∷ []
 rows InChoiceSet c = on Colon (Last ChoiceBody) ∷ []
-rows InItems c = item_rows c
-rows InMoreItems c = on Comma (Wants InMoreItems) ∷ on RightBrace (Shut Enumeration) ∷ []
-rows InFilter c = on RightBrace (Shut Filter) ∷ []
-rows InMappedSet c = on Comma (Reads MappedName) ∷ on RightBrace (Shut Mapping) ∷ []
-rows InBracket c = bracket_rows c
-rows InResultSet c = on RightBracket (Shut FunctionSet) ∷ []
-rows InArgumentSet c = on Comma (Reads ArgumentName) ∷ on MapsTo (Wants InFunctionBody) ∷ []
-rows InFunctionBody c = on RightBracket (Shut Function) ∷ []
-rows InFieldValue c = on Comma (Reads ValueName) ∷ on RightBracket (Shut RecordValue) ∷ []
-rows InFieldSet c = on Comma (Reads SetName) ∷ on RightBracket (Shut RecordSet) ∷ []
-rows InUpdateIndex c = on Comma (Wants InUpdateIndex) ∷ on RightBracket (Reads BehindStep) ∷ []
-rows InUpdateValue c = on Comma (Reads UpdateBang) ∷ on RightBracket (Shut Exception) ∷ []
-rows InTuple c = on Comma (Wants InMoreTuple) ∷ on RightAngle (Shut TupleValue) ∷ on AngleSub (Reads Subscript) ∷ []
-rows InMoreTuple c = on Comma (Wants InMoreTuple) ∷ on RightAngle (Shut TupleValue) ∷ []
-rows InSubscriptTuple c = on Comma (Wants InMoreSubscript) ∷ on RightAngle (Shut SquareAction) ∷ []
-rows InMoreSubscript c = on Comma (Wants InMoreSubscript) ∷ on RightAngle (Shut SquareAction) ∷ []
-rows InSubscriptParen c = on RightParen (Shut SquareAction) ∷ []
-rows InFairTuple c = on Comma (Wants InMoreFair) ∷ on RightAngle (Reads FairOpens) ∷ []
-rows InMoreFair c = on Comma (Wants InMoreFair) ∷ on RightAngle (Reads FairOpens) ∷ []
-rows InFairParen c = on RightParen (Reads FairOpens) ∷ []
-rows InFair c = on RightParen (Shut Fairness) ∷ []
 rows InGuard c = on Arrow (Last InArm) ∷ []
 rows InArm c = on Square (Wants InNextGuard) ∷ []
 rows InNextGuard c = on Arrow (Last InArm) ∷ []
-rows InLocalSet c = on Comma (Reads LocalArgument) ∷ on RightBracket (Reads LocalDefines) ∷ []
-rows InDefinition c = on Word (Reads LocalHead) ∷ on InWord (Last LocalBody) ∷ []
-rows InCall c = on Comma (Wants InCall) ∷ on RightParen (Shut Call) ∷ []
-rows InFold c = fold_rows c
-rows InFoldBody c = on Comma (Wants InFoldStart) ∷ []
-rows InFoldStart c = on Comma (Wants InFoldSequence) ∷ []
-rows InFoldSequence c = on RightParen (Shut FoldCall) ∷ []
-rows InIndex c = on Comma (Wants InIndex) ∷ on RightBracket (Shut Application) ∷ []
-rows InAssumption c = on Defines (of_name c (Wants InNamedAssumption)) ∷ unit_rows
-rows InNamedAssumption c = unit_rows
-rows InStatement c = on Defines (of_name c (Wants InNamedStatement)) ∷ unit_rows
-rows InNamedStatement c = unit_rows
-rows InUnitSet c = on Comma (Reads UnitArgument) ∷ on RightBracket (Reads UnitDefines) ∷ []
-rows InBody c = unit_rows
-rows InPlainBody c = unit_rows
-rows InReplacement c = on Comma (Reads Substituted) ∷ unit_rows
-rows _ c = []
+rows m c = local_rows m c
 
 unfoldable pub goes_on : Mark → Class → Seen → Next
 goes_on (Bullets s n) c t = next_bullet s n t
 goes_on m c t = found t.sign (rows m c)
 
--- between the tokens of a form
+-- recursive names
+unfoldable pub recursive_heads : Mark → List Row
+recursive_heads RecursiveName = on Word (Reads BehindRecursive) ∷ []
+recursive_heads BehindRecursive = on Comma (Reads RecursiveName) ∷ on LeftParen (Reads RecursiveBlank) ∷ unit_rows
+recursive_heads RecursiveBlank = on Underscore (Reads BehindBlank) ∷ []
+recursive_heads BehindBlank = on Comma (Reads RecursiveBlank) ∷ on RightParen (Reads BehindArity) ∷ []
+recursive_heads BehindArity = on Comma (Reads RecursiveName) ∷ unit_rows
+recursive_heads _ = []
+
+-- declared names, instances
+unfoldable pub name_heads : Mark → List Row
+name_heads DeclaredName = on Word (Reads BehindDeclared) ∷ []
+name_heads BehindDeclared = on Comma (Reads DeclaredName) ∷ unit_rows
+name_heads InstanceName = on Word (Reads BehindInstance) ∷ []
+name_heads BehindInstance = on WithWord (Reads Substituted) ∷ unit_rows
+name_heads Substituted = on Word (Reads BehindSubstituted) ∷ []
+name_heads BehindSubstituted = on Replaces (Wants InReplacement) ∷ []
+name_heads m = recursive_heads m
+
+-- definitions of a module
+unfoldable pub unit_heads : Mark → List Row
+unit_heads UnitHead = on Defines (Wants InBody) ∷ on LeftParen (Reads UnitParameter) ∷ on LeftBracket (Reads UnitArgument) ∷ []
+unit_heads UnitParameter = on Word (Reads BehindUnitParameter) ∷ []
+unit_heads BehindUnitParameter = on Comma (Reads UnitParameter) ∷ on RightParen (Reads UnitDefines) ∷ []
+unit_heads UnitArgument = on Word (Reads BehindUnitArgument) ∷ []
+unit_heads BehindUnitArgument = on Comma (Reads UnitArgument) ∷ on Element (Wants InUnitSet) ∷ []
+unit_heads UnitDefines = on Defines (Wants InPlainBody) ∷ []
+unit_heads m = name_heads m
+
+-- the header of a module, and what stands before its units
+unfoldable pub module_heads : Mark → List Row
+module_heads AtTop = on Dashes (Reads ModuleHead) ∷ []
+module_heads ModuleHead = on ModuleWord (Reads ModuleName) ∷ []
+module_heads ModuleName = on Word (Reads ModuleNamed) ∷ []
+module_heads ModuleNamed = on Dashes (Reads BehindHeader) ∷ []
+module_heads BehindHeader = on ExtendsWord (Reads ExtendedName) ∷ unit_rows
+module_heads ExtendedName = on Word (Reads BehindExtended) ∷ []
+module_heads BehindExtended = on Comma (Reads ExtendedName) ∷ unit_rows
+module_heads BetweenUnits = unit_rows
+module_heads LocalUnit = on Word (Reads UnitHead) ∷ on InstanceWord (Reads InstanceName) ∷ []
+module_heads m = unit_heads m
+
+-- definitions of a LET
+unfoldable pub local_heads : Mark → List Row
+local_heads LocalName = on Word (Reads LocalHead) ∷ []
+local_heads LocalHead = on Defines (Wants InDefinition) ∷ on LeftParen (Reads LocalParameter) ∷ on LeftBracket (Reads LocalArgument) ∷ []
+local_heads LocalParameter = on Word (Reads BehindParameter) ∷ []
+local_heads BehindParameter = on Comma (Reads LocalParameter) ∷ on RightParen (Reads LocalDefines) ∷ []
+local_heads LocalArgument = on Word (Reads BehindLocalArgument) ∷ []
+local_heads BehindLocalArgument = on Comma (Reads LocalArgument) ∷ on Element (Wants InLocalSet) ∷ []
+local_heads LocalDefines = on Defines (Wants InDefinition) ∷ []
+local_heads m = module_heads m
+
+-- subscripts, the LAMBDA of a fold
+unfoldable pub subscript_heads : Mark → List Row
+subscript_heads Subscript = on Word (Shut SquareAction) ∷ on LeftAngle (Wants InSubscriptTuple) ∷ on LeftParen (Wants InSubscriptParen) ∷ []
+subscript_heads FairSubscript = on Word (Reads FairOpens) ∷ on LeftAngle (Wants InFairTuple) ∷ on LeftParen (Wants InFairParen) ∷ []
+subscript_heads FairOpens = on LeftParen (Wants InFair) ∷ []
+subscript_heads FoldFirst = on Word (Reads BehindFoldFirst) ∷ []
+subscript_heads BehindFoldFirst = on Comma (Reads FoldSecond) ∷ []
+subscript_heads FoldSecond = on Word (Reads BehindFoldSecond) ∷ []
+subscript_heads BehindFoldSecond = on Colon (Wants InFoldBody) ∷ []
+subscript_heads m = local_heads m
+
+-- the path of an update, names behind an operand
+unfoldable pub update_heads : Mark → List Row
+update_heads UpdateBang = on Bang (Reads UpdatePath) ∷ []
+update_heads UpdatePath = on LeftBracket (Wants InUpdateIndex) ∷ on Dot (Reads UpdateField) ∷ []
+update_heads UpdateField = on Word (Reads BehindStep) ∷ []
+update_heads BehindStep = on LeftBracket (Wants InUpdateIndex) ∷ on Dot (Reads UpdateField) ∷ on Equals (Wants InUpdateValue) ∷ []
+update_heads FieldName = on Word (Shut FieldAccess) ∷ []
+update_heads BangName = on Word (Shut Instanced) ∷ []
+update_heads BehindOther = on Arrow (Last InOther) ∷ []
+update_heads m = subscript_heads m
+
+-- names in braces and brackets
+unfoldable pub listed_heads : Mark → List Row
+listed_heads MappedName = on Word (Reads BehindMapped) ∷ []
+listed_heads BehindMapped = on Comma (Reads MappedName) ∷ on Element (Wants InMappedSet) ∷ []
+listed_heads ArgumentName = on Word (Reads BehindArgument) ∷ []
+listed_heads BehindArgument = on Comma (Reads ArgumentName) ∷ on Element (Wants InArgumentSet) ∷ []
+listed_heads ValueName = on Word (Reads BehindValueName) ∷ []
+listed_heads BehindValueName = on MapsTo (Wants InFieldValue) ∷ []
+listed_heads SetName = on Word (Reads BehindSetName) ∷ []
+listed_heads BehindSetName = on Colon (Wants InFieldSet) ∷ []
+listed_heads m = update_heads m
+
+-- between the tokens of a form: names that are bound
 unfoldable pub heads : Mark → List Row
 heads QuantifiedName = on Word (Reads BehindQuantified) ∷ []
 heads BehindQuantified = on Comma (Reads QuantifiedName) ∷ on Element (Wants InBound) ∷ on Colon (Last QuantifierBody) ∷ []
@@ -185,62 +299,7 @@ heads NextBoundName = on Word (Reads BehindBoundName) ∷ []
 heads BehindBoundName = on Comma (Reads NextBoundName) ∷ on Element (Wants InBound) ∷ []
 heads ChosenName = on Word (Reads BehindChosen) ∷ []
 heads BehindChosen = on Element (Wants InChoiceSet) ∷ on Colon (Last ChoiceBody) ∷ []
-heads MappedName = on Word (Reads BehindMapped) ∷ []
-heads BehindMapped = on Comma (Reads MappedName) ∷ on Element (Wants InMappedSet) ∷ []
-heads ArgumentName = on Word (Reads BehindArgument) ∷ []
-heads BehindArgument = on Comma (Reads ArgumentName) ∷ on Element (Wants InArgumentSet) ∷ []
-heads ValueName = on Word (Reads BehindValueName) ∷ []
-heads BehindValueName = on MapsTo (Wants InFieldValue) ∷ []
-heads SetName = on Word (Reads BehindSetName) ∷ []
-heads BehindSetName = on Colon (Wants InFieldSet) ∷ []
-heads UpdateBang = on Bang (Reads UpdatePath) ∷ []
-heads UpdatePath = on LeftBracket (Wants InUpdateIndex) ∷ on Dot (Reads UpdateField) ∷ []
-heads UpdateField = on Word (Reads BehindStep) ∷ []
-heads BehindStep = on LeftBracket (Wants InUpdateIndex) ∷ on Dot (Reads UpdateField) ∷ on Equals (Wants InUpdateValue) ∷ []
-heads Subscript = on Word (Shut SquareAction) ∷ on LeftAngle (Wants InSubscriptTuple) ∷ on LeftParen (Wants InSubscriptParen) ∷ []
-heads FairSubscript = on Word (Reads FairOpens) ∷ on LeftAngle (Wants InFairTuple) ∷ on LeftParen (Wants InFairParen) ∷ []
-heads FairOpens = on LeftParen (Wants InFair) ∷ []
-heads BehindOther = on Arrow (Last InOther) ∷ []
-heads LocalName = on Word (Reads LocalHead) ∷ []
-heads LocalHead = on Defines (Wants InDefinition) ∷ on LeftParen (Reads LocalParameter) ∷ on LeftBracket (Reads LocalArgument) ∷ []
-heads LocalParameter = on Word (Reads BehindParameter) ∷ []
-heads BehindParameter = on Comma (Reads LocalParameter) ∷ on RightParen (Reads LocalDefines) ∷ []
-heads LocalArgument = on Word (Reads BehindLocalArgument) ∷ []
-heads BehindLocalArgument = on Comma (Reads LocalArgument) ∷ on Element (Wants InLocalSet) ∷ []
-heads LocalDefines = on Defines (Wants InDefinition) ∷ []
-heads FoldFirst = on Word (Reads BehindFoldFirst) ∷ []
-heads BehindFoldFirst = on Comma (Reads FoldSecond) ∷ []
-heads FoldSecond = on Word (Reads BehindFoldSecond) ∷ []
-heads BehindFoldSecond = on Colon (Wants InFoldBody) ∷ []
-heads FieldName = on Word (Shut FieldAccess) ∷ []
-heads BangName = on Word (Shut Instanced) ∷ []
-heads AtTop = on Dashes (Reads ModuleHead) ∷ []
-heads ModuleHead = on ModuleWord (Reads ModuleName) ∷ []
-heads ModuleName = on Word (Reads ModuleNamed) ∷ []
-heads ModuleNamed = on Dashes (Reads BehindHeader) ∷ []
-heads BehindHeader = on ExtendsWord (Reads ExtendedName) ∷ unit_rows
-heads ExtendedName = on Word (Reads BehindExtended) ∷ []
-heads BehindExtended = on Comma (Reads ExtendedName) ∷ unit_rows
-heads BetweenUnits = unit_rows
-heads DeclaredName = on Word (Reads BehindDeclared) ∷ []
-heads BehindDeclared = on Comma (Reads DeclaredName) ∷ unit_rows
-heads UnitHead = on Defines (Wants InBody) ∷ on LeftParen (Reads UnitParameter) ∷ on LeftBracket (Reads UnitArgument) ∷ []
-heads UnitParameter = on Word (Reads BehindUnitParameter) ∷ []
-heads BehindUnitParameter = on Comma (Reads UnitParameter) ∷ on RightParen (Reads UnitDefines) ∷ []
-heads UnitArgument = on Word (Reads BehindUnitArgument) ∷ []
-heads BehindUnitArgument = on Comma (Reads UnitArgument) ∷ on Element (Wants InUnitSet) ∷ []
-heads UnitDefines = on Defines (Wants InPlainBody) ∷ []
-heads InstanceName = on Word (Reads BehindInstance) ∷ []
-heads BehindInstance = on WithWord (Reads Substituted) ∷ unit_rows
-heads Substituted = on Word (Reads BehindSubstituted) ∷ []
-heads BehindSubstituted = on Replaces (Wants InReplacement) ∷ []
-heads RecursiveName = on Word (Reads BehindRecursive) ∷ []
-heads BehindRecursive = on Comma (Reads RecursiveName) ∷ on LeftParen (Reads RecursiveBlank) ∷ unit_rows
-heads RecursiveBlank = on Underscore (Reads BehindBlank) ∷ []
-heads BehindBlank = on Comma (Reads RecursiveBlank) ∷ on RightParen (Reads BehindArity) ∷ []
-heads BehindArity = on Comma (Reads RecursiveName) ∷ unit_rows
-heads LocalUnit = on Word (Reads UnitHead) ∷ on InstanceWord (Reads InstanceName) ∷ []
-heads _ = []
+heads m = listed_heads m
 
 -- in the place of an operand
 unfoldable pub insteads : Mark → List Row
@@ -280,29 +339,6 @@ ends_as InArm = Cases
 ends_as InOther = CasesOther
 ends_as LocalBody = Local
 ends_as _ = Junction
-
--- what the operand is that a whole form makes
-unfoldable pub class_of : Construct → Class
-class_of NameUse = BareName
-class_of FoldUse = FoldName
-class_of Instanced = PathName
-class_of _ = Other
-
--- what an infix operator makes of a left operand
-abbrev pub member : Class → Class
-member BareName = Member
-member PathName = Other
-member FoldName = Other
-member Other = Other
-member Member = Other
-member (Joined s) = Other
-
-unfoldable pub class_infix : Class → Sign → Class
-class_infix c Element = member c
-class_infix c Wedge = Joined Wedge
-class_infix c Vee = Joined Vee
-class_infix c Times = Joined Times
-class_infix c _ = Other
 
 -- the marks of a module, outside its expressions
 unfoldable pub in_units : Mark → Bool

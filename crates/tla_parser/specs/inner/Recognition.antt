@@ -24,8 +24,9 @@ use Rattle.tla_parser.specs.declared.open.Open.TheVariants.{Before, Between, Wit
 use Rattle.tla_parser.specs.declared.open.Operand.{Operand}
 use Rattle.tla_parser.specs.declared.signs.Role.{Role}
 use Rattle.tla_parser.specs.declared.signs.Role.TheVariants.{InfixRole, NoRole, PostfixRole}
-use Rattle.tla_parser.specs.inner.Derivations.{continues, delta, form_of, given, idle, is_last, mark_column}
-use Rattle.tla_parser.specs.inner.Moves.{Point, begin, behind_op, class_infix, class_of, is_finished, off, reading}
+use Rattle.tla_parser.specs.Written.{class_infix, class_of, continues}
+use Rattle.tla_parser.specs.inner.Derivations.{delta, form_of, given, idle, is_last, mark_column}
+use Rattle.tla_parser.specs.inner.Moves.{Point, begin, behind_op, is_finished, off, reading}
 
 pub data Status : Type 0 where
   lost : Status
