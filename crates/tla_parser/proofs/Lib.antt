@@ -17,5 +17,6 @@ pub mod ModuleRows
 pub mod ModuleLaw
 pub mod ByTable
 pub mod Top
+pub mod Refused
 pub mod FieldLemmas
 pub mod Examples

@@ -28,6 +28,7 @@ use Rattle.tla_parser.specs.inner.Checked.{IsChecked}
 use Rattle.tla_parser.specs.Written.{Parts, deepest, tokens_of, top}
 use Rattle.tla_parser.specs.Rules.{IsModule}
 use Rattle.tla_parser.specs.inner.Derivations.{ahead, posts}
+use Rattle.tla_parser.specs.inner.Refusals.{IsStanding, is_bad}
 use Rattle.tla_parser.specs.inner.Recognition.{advances, code_read, ended_module, ended_stack, finished, is_of_grammar, levels_read, module_start, outcome_mode, status}
 
 pub record IsRead (ts : List Tok) : Type 0 where
@@ -181,11 +182,17 @@ made_so ts m s c k n x e h made_of =
     let q : x ≡ module_tree (items i.written) = made_of i.written (sym r.2 ∙ ap code_read e ∙ i.code_so) in
     (read_spells ts x i q, read_repeats ts x i q)
 
-pub refusal_so : (e : ParseFault) (ts : List Tok) → is_of_grammar e ≡ true → NothingSpells ts → IsRefusal e ts
-refusal_so (BadGrammar p) ts h n = n
-refusal_so (NotSupported p s) ts h n = n
-refusal_so (TooDeep p) ts h n = absurd (cc)
-refusal_so (Memory e) ts h n = tt
+refusal_so : (e : ParseFault) (ts : List Tok) → is_of_grammar e ≡ true → IsStanding e ts → NothingSpells ts → IsRefusal e ts
+refusal_so (BadGrammar p) ts h s n = n
+refusal_so (NotSupported p form) ts h s n = (n, s)
+refusal_so (TooDeep p) ts h s n = absurd (cc)
+refusal_so (Memory e) ts h s n = tt
+
+bad_so : (e : ParseFault) (ts : List Tok) → is_bad e ≡ true → NothingSpells ts → IsRefusal e ts
+bad_so (BadGrammar p) ts h n = n
+bad_so (NotSupported p form) ts h n = absurd (cc)
+bad_so (TooDeep p) ts h n = absurd (cc)
+bad_so (Memory e) ts h n = absurd (cc)
 
 -- what the answer of the code says of the recognizer
 pub record Reached (ts : List Tok) : Type 0 where
@@ -195,8 +202,8 @@ pub record Reached (ts : List Tok) : Type 0 where
   pub margin : ℕ
   pub so : status mode stack code margin ≡ advances module_start ts
 
-pub reached_none : (ts : List Tok) (r : Reached ts) (e : ParseFault) → is_of_grammar e ≡ true → outcome_mode r.mode r.stack ≡ None → IsRefusal e ts
-reached_none ts r e g h = refusal_so e ts g (refused_so ts r.mode r.stack r.code r.margin r.so h)
+pub reached_none : (ts : List Tok) (r : Reached ts) (e : ParseFault) → is_of_grammar e ≡ true → IsStanding e ts → outcome_mode r.mode r.stack ≡ None → IsRefusal e ts
+reached_none ts r e g s h = refusal_so e ts g s (refused_so ts r.mode r.stack r.code r.margin r.so h)
 
 pub reached_deep : (ts : List Tok) (r : Reached ts) (n : ℕ) → outcome_mode r.mode r.stack ≡ Some n → 400 < n → IsWritten ts × (SpelledWithin 400 ts → ⊥)
 reached_deep ts r n h l = deep_so ts r.mode r.stack r.code r.margin n r.so h l
@@ -227,7 +234,7 @@ answer_levels ts x (Err e) h = tt
 
 pub answer_fault : (ts : List Tok) (x : Module) (r : Result Module ParseFault) → Answered ts x → IsChecked x r → IfErr r (λ e. IsRefusal e ts)
 answer_fault ts x (Ok m) a h = tt
-answer_fault ts x (Err e) a h = refusal_so e ts h.0 (a.repeats h.1)
+answer_fault ts x (Err e) a h = bad_so e ts h.0 (a.repeats h.1)
 
 pub answered : (ts : List Tok) (r : Reached ts) (n : ℕ) (x : Module) → outcome_mode r.mode r.stack ≡ Some n → ((ps : Parts) → r.code ≡ posts ps → x ≡ module_tree (items ps)) → Answered ts x
 answered ts r n x h m =

@@ -7,6 +7,7 @@ use Rattle.std.specs.Prelude.{ℕ, true, List, ◌≡◌, ◌≤◌}
 use Rattle.tla_parser.specs.Fields.{units_differ}
 use Rattle.tla_parser.specs.Modules.{module_tree}
 use Rattle.tla_parser.specs.Spelling.{items}
+use Rattle.tla_parser.specs.Refused.{Stands}
 use Rattle.tla_parser.specs.Rules.{IsModule}
 use Rattle.tla_parser.specs.Written.{Parts, deepest, tokens_of}
 
@@ -39,6 +40,6 @@ pub record SpelledWithin (n : ℕ) (ts : List Token) : Type 0 where
 
 abbrev pub IsRefusal : ParseFault → List Token → Type 0
 IsRefusal (BadGrammar place) ts = NothingSpells ts
-IsRefusal (NotSupported place form) ts = NothingSpells ts
+IsRefusal (NotSupported place form) ts = NothingSpells ts × Stands form place ts
 IsRefusal (TooDeep place) ts = IsWritten ts × (SpelledWithin 400 ts → ⊥)
 IsRefusal (Memory e) ts = Unit {0}

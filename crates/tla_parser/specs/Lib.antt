@@ -7,5 +7,6 @@ pub mod Fields
 pub mod Forms
 pub mod Written
 pub mod Rules
+pub mod Refused
 pub mod Grammar
 pub mod inner

@@ -3,3 +3,4 @@ pub mod Derivations
 pub mod Recognition
 pub mod Building
 pub mod Checked
+pub mod Refusals

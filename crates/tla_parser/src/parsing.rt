@@ -1,5 +1,6 @@
 // The module of its tokens.
-ghost use Rattle.std.specs.Prelude.{◌≡◌, ◌<◌, ◌≤◌, length, reverse, IfOk, IfErr};
+ghost use Rattle.std.specs.Prelude.{◌≡◌, ◌<◌, ◌≤◌, ◌∷◌, ◌++◌, [], List, length, reverse, IfOk, IfErr};
+ghost use Rattle.tla_lexer.specs.declared.token.Token.{Token as Tok};
 ghost use Rattle.tla_meaning.specs.declared.modules.Module.{Module as Tree};
 ghost use Rattle.tla_parser.specs.Grammar.{IsRefusal, NothingSpells, SpelledWithin, Spells};
 ghost use Rattle.tla_parser.specs.inner.Checked.{IsChecked};
@@ -8,6 +9,7 @@ ghost use Rattle.tla_parser.specs.Spelling.{items};
 ghost use Rattle.tla_parser.specs.Written.{Parts};
 ghost use Rattle.tla_parser.specs.inner.Derivations.{posts};
 ghost use Rattle.tla_parser.specs.inner.Moves.{is_finished};
+ghost use Rattle.tla_parser.specs.inner.Refusals.{HasRead};
 ghost use Rattle.tla_parser.specs.inner.Recognition.{advance, advances, ended_module, module_start, outcome_mode, outcome_stack, stood};
 
 use crate::binders::Copies;
@@ -54,7 +56,8 @@ fn read(
     mode: Mode,
     token: &Token,
 ) -> Result<Mode, AllocError>
-    ensures { IfOk result (λ next. stood next recognizer.new ≡ advance token.now (stood mode recognizer.old)) }
+    ensures state { IfOk result (λ next. stood next recognizer.new ≡ advance token.now (stood mode recognizer.old)) }
+    ensures places { (ts : List Tok) → HasRead ts places.old → IfOk result (λ _. HasRead (ts ++ (token.now ∷ [])) places.new) }
 {
     places.before(recognizer.stack.as_slice(), mode);
     let next = recognizer.step(alloc, mode, token)?;
@@ -70,7 +73,8 @@ fn read_all(
     places: &mut Places,
     tokens: &[Token],
 ) -> Result<Mode, AllocError>
-    ensures { IfOk result (λ mode. stood mode recognizer.new ≡ advances (stood Mode.Read recognizer.old) tokens.now) }
+    ensures state { IfOk result (λ mode. stood mode recognizer.new ≡ advances (stood Mode.Read recognizer.old) tokens.now) }
+    ensures places { HasRead [] places.old → IfOk result (λ _. HasRead tokens.now places.new) }
 {
     let mut mode = Mode::Read;
     for token in tokens {

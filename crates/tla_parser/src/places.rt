@@ -1,6 +1,14 @@
 // Where units begin, and where reading sticks.
-ghost use Rattle.std.specs.Prelude.{◌≡◌, true};
+ghost use Rattle.std.specs.Prelude.{◌≡◌, ◌⊎◌, ◌++◌, ◌∷◌, [], true, List, Option, IfOk, IfSome};
+ghost use Rattle.tla_lexer.specs.declared.token.Token.{Token as Tok};
+ghost use Rattle.tla_parser.specs.Operators.{after, is_prefix};
+ghost use Rattle.tla_parser.specs.Refused.{Shows, before_names};
+ghost use Rattle.tla_parser.specs.Signs.{sign as sign_of};
+ghost use Rattle.tla_parser.specs.declared.signs.Role.TheVariants.{InfixRole};
+ghost use Rattle.tla_parser.specs.declared.signs.Sign.TheVariants.{Dashes};
+ghost use Rattle.tla_parser.specs.inner.Derivations.{look};
 ghost use Rattle.tla_parser.specs.inner.Recognition.{is_of_grammar};
+ghost use Rattle.tla_parser.specs.inner.Refusals.{HasRead, IsBefore, IsShown, IsStanding};
 
 use crate::fault::{ParseFault, Syntax};
 use crate::moves::{Mark, Next, Seen};
@@ -91,19 +99,34 @@ fn begins(sign: Sign, mark: Option<Mark>) -> bool {
     }
 }
 
-// Whether names are to be bound, at the front of a list or behind a comma of it.
-fn binds_names(mark: Option<Mark>, previous: Sign) -> bool {
+// Whether names are to be bound.
+fn binds_names(mark: Option<Mark>) -> bool {
     match mark {
-        Some(Mark::QuantifiedName) | Some(Mark::NextBoundName) | Some(Mark::ChosenName) => true,
-        Some(Mark::MappedName)
+        Some(Mark::QuantifiedName)
+        | Some(Mark::NextBoundName)
+        | Some(Mark::ChosenName)
+        | Some(Mark::MappedName)
         | Some(Mark::ArgumentName)
         | Some(Mark::UnitArgument)
-        | Some(Mark::LocalArgument) => previous.is(Sign::Comma),
+        | Some(Mark::LocalArgument) => true,
         _ => false,
     }
 }
 
-fn is_infix(sign: Sign) -> bool {
+// Whether a name that is bound stands behind the sign: at the front of a list, or behind a comma of it.
+#[tactic(auto, unfolding(crate::specs::Refused::before_names))]
+fn before_names(sign: Sign) -> bool
+    ensures { result ≡ before_names sign }
+{
+    match sign {
+        Sign::ExistsSign | Sign::ForallSign | Sign::ChooseWord | Sign::Comma => true,
+        _ => false,
+    }
+}
+
+fn is_infix(sign: Sign) -> bool
+    ensures { result ≡ true → after sign ≡ InfixRole }
+{
     match after(sign) {
         Role::InfixRole => true,
         _ => false,
@@ -119,6 +142,14 @@ fn takes_parameters(mark: Option<Mark>) -> bool {
     }
 }
 
+// Whether the body of a definition with parameters is to come.
+fn is_plain_body(mark: Option<Mark>) -> bool {
+    match mark {
+        Some(Mark::InPlainBody) => true,
+        _ => false,
+    }
+}
+
 fn is_parameter(mark: Option<Mark>) -> bool {
     match mark {
         Some(Mark::UnitParameter) | Some(Mark::LocalParameter) => true,
@@ -127,7 +158,9 @@ fn is_parameter(mark: Option<Mark>) -> bool {
 }
 
 impl Places {
-    pub(crate) fn new(alloc: Global, first: Place) -> Places {
+    pub(crate) fn new(alloc: Global, first: Place) -> Places
+        ensures { HasRead [] result }
+    {
         Places {
             start: first,
             starts: Vec::new(alloc),
@@ -143,7 +176,9 @@ impl Places {
     }
 
     /// Looks at what is open before a token.
-    pub(crate) fn before(&mut self, stack: &[Open], mode: Mode) {
+    pub(crate) fn before(&mut self, stack: &[Open], mode: Mode)
+        ensures { (ts : List Tok) → HasRead ts self.old → HasRead ts self.new }
+    {
         self.mark = match mode {
             Mode::Have(_) => None,
             _ => top_mark(stack.last()),
@@ -158,7 +193,10 @@ impl Places {
         mode: Mode,
         seen: Seen,
         place: Place,
-    ) -> Result<(), AllocError> {
+    ) -> Result<(), AllocError>
+        ensures { (ts : List Tok) (t : Tok) → seen ≡ look t → place ≡ t.place → HasRead ts self.old
+            → IfOk result (λ _. HasRead (ts ++ (t ∷ [])) self.new) }
+    {
         if let Mode::Stuck = mode {
             self.sticks(seen.sign, place);
         } else {
@@ -169,7 +207,9 @@ impl Places {
         Ok(())
     }
 
-    fn goes_on(&mut self, stack: &[Open], sign: Sign, place: Place) -> Result<(), AllocError> {
+    fn goes_on(&mut self, stack: &[Open], sign: Sign, place: Place) -> Result<(), AllocError>
+        ensures refused { self.new.refused ≡ self.old.refused }
+    {
         if self.deep.is_none() && is_deep(stack.first()) {
             self.deep = Some(self.start);
         }
@@ -183,68 +223,90 @@ impl Places {
         Ok(())
     }
 
-    fn sticks(&mut self, sign: Sign, place: Place) {
+    fn sticks(&mut self, sign: Sign, place: Place)
+        ensures { (ts : List Tok) (t : Tok) → sign ≡ sign_of t → place ≡ t.place → HasRead ts self.old
+            → IsShown (ts ++ (t ∷ [])) self.new.refused }
+    {
         if self.stuck.is_some() {
-            if self.awaits_blank && sign.is(Sign::Underscore) {
-                self.refused = Some((place, Syntax::OperatorParameter));
-            }
+            self.refused = self.behind_parameter(sign, place);
             self.awaits_blank = false;
             return;
         }
+        self.refused = self.form(sign, place);
         self.stuck = Some(if is_header(self.mark) {
             place
         } else {
             self.start
         });
         self.awaits_blank = takes_parameters(self.mark) && sign.is(Sign::LeftParen);
-        if let Some(form) = self.form(sign) {
-            self.refused = Some((self.place_of(form, place), form));
+    }
+
+    // What is refused where reading stuck before.
+    fn behind_parameter(&self, sign: Sign, place: Place) -> Option<(Place, Syntax)>
+        ensures { (ts : List Tok) (t : Tok) → sign ≡ sign_of t → place ≡ t.place → HasRead ts self.now
+            → IsShown (ts ++ (t ∷ [])) result }
+    {
+        if self.awaits_blank && sign.is(Sign::Underscore) {
+            Some((place, Syntax::OperatorParameter))
+        } else {
+            self.refused
         }
     }
 
-    // The form that is read nowhere and that the token shows.
-    fn form(&self, sign: Sign) -> Option<Syntax> {
+    // The form that is read nowhere and that the token shows; a nested module begins with its dashes.
+    fn form(&self, sign: Sign, place: Place) -> Option<(Place, Syntax)>
+        ensures { (t : Tok) (o : Option Tok) → sign ≡ sign_of t → place ≡ t.place → IsBefore o self.now.previous self.now.last
+            → IfSome result (λ r. Shows r.1 r.0 o t) }
+    {
         match sign {
-            Sign::ProofWord => Some(Syntax::Proof),
-            Sign::LeftAngle if binds_names(self.mark, self.previous) => Some(Syntax::TuplePattern),
-            Sign::Underscore if is_parameter(self.mark) => Some(Syntax::OperatorParameter),
-            Sign::ModuleWord => match self.mark {
-                Some(Mark::BetweenUnits) => Some(Syntax::NestedModule),
-                _ => None,
-            },
-            Sign::InstanceWord => match self.mark {
-                Some(Mark::InPlainBody) => Some(Syntax::ParametrizedInstance),
-                _ => None,
-            },
-            _ => self.symbol(sign),
+            Sign::ProofWord => Some((place, Syntax::Proof)),
+            Sign::LeftAngle if self.binds_names() => Some((place, Syntax::TuplePattern)),
+            Sign::Underscore if is_parameter(self.mark) => {
+                Some((place, Syntax::OperatorParameter))
+            }
+            Sign::ModuleWord if self.is_between_units() => {
+                Some((self.last, Syntax::NestedModule))
+            }
+            Sign::InstanceWord if is_plain_body(self.mark) => {
+                Some((place, Syntax::ParametrizedInstance))
+            }
+            _ if self.defines_symbol(sign) => Some((place, Syntax::SymbolDefinition)),
+            _ => None,
         }
     }
 
-    // An operator that is defined by its symbol.
-    fn symbol(&self, sign: Sign) -> Option<Syntax> {
+    // Whether a name that is bound is to come.
+    fn binds_names(&self) -> bool
+        ensures { result ≡ true → before_names self.now.previous ≡ true }
+    {
+        binds_names(self.mark) && before_names(self.previous)
+    }
+
+    // Whether dashes were read between units.
+    fn is_between_units(&self) -> bool
+        ensures { result ≡ true → self.now.previous ≡ Dashes }
+    {
+        match self.mark {
+            Some(Mark::BetweenUnits) => self.previous.is(Sign::Dashes),
+            _ => false,
+        }
+    }
+
+    // Whether an operator is defined by its symbol.
+    fn defines_symbol(&self, sign: Sign) -> bool
+        ensures { result ≡ true → (after sign ≡ InfixRole) ⊎ (is_prefix sign ≡ true) }
+    {
         let infix = match self.mark {
             Some(Mark::UnitHead) | Some(Mark::LocalHead) => is_infix(sign),
             _ => false,
         };
-        let prefix = self.alone && is_unit_end(self.mark) && is_prefix(sign);
-        if infix || prefix {
-            Some(Syntax::SymbolDefinition)
-        } else {
-            None
-        }
-    }
-
-    // A nested module begins with its dashes.
-    fn place_of(&self, form: Syntax, place: Place) -> Place {
-        match form {
-            Syntax::NestedModule => self.start,
-            _ => place,
-        }
+        infix || (self.alone && is_unit_end(self.mark) && is_prefix(sign))
     }
 
     /// Why the tokens are refused.
     pub(crate) fn refusal(&self) -> ParseFault
-        ensures { is_of_grammar result ≡ true }
+        ensures of_grammar { is_of_grammar result ≡ true }
+        ensures standing { (ts : List Tok) → HasRead ts self.now → IsStanding result ts }
     {
         if let Some((place, form)) = self.refused {
             return ParseFault::NotSupported(place, form);

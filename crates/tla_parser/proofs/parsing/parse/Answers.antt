@@ -1,4 +1,6 @@
-use Rattle.std.proofs.Common.{◌∙◌, ap, sym, arith, reverse}
+use Rattle.std.proofs.Common.{List, ◌∙◌, ap, sym, subst, arith, reverse}
+use Rattle.tla_lexer.specs.declared.token.Token.{Token as Tok}
+use Rattle.tla_parser.specs.inner.Refusals.{HasRead}
 use Rattle.tla_parser.specs.inner.Recognition.{Status, advances, module_start}
 use Rattle.tla_parser.proofs.Top.{Answered, Reached, answer_fault, answer_levels, answer_one, answer_spells, answered, reached_deep, reached_none, reached_within}
 use Rattle.tla_parser.proofs.parsing.parse.Goals as goal
@@ -10,9 +12,9 @@ returns-in-None-clause-fault c =
       stack = reverse c.read_all.new.recognizer.stack.items;
       code = c.read_all.new.recognizer.code.items;
       margin = c.read_all.new.recognizer.margin;
-      so = c.in_ok-mode.ensures ∙ ap (λ (st : Status). advances st c.as_slice-source.result.now) c.in_ok-recognizer.ensures ∙ ap (advances module_start) c.as_slice-source.ensures;
+      so = c.in_ok-mode.ensures.state ∙ ap (λ (st : Status). advances st c.as_slice-source.result.now) c.in_ok-recognizer.ensures ∙ ap (advances module_start) c.as_slice-source.ensures;
     } in
-    reached_none c.args.tokens.now r c.refusal.result c.refusal.ensures (sym c.outcome.ensures ∙ c.in-None.is)
+    reached_none c.args.tokens.now r c.refusal.result c.refusal.ensures.of_grammar (c.refusal.ensures.standing c.args.tokens.now (subst (λ (ts : List Tok). HasRead ts c.read_all.new.places) c.as_slice-source.ensures (c.in_ok-mode.ensures.places c.new-places.ensures))) (sym c.outcome.ensures ∙ c.in-None.is)
 
 pub returns-then-levels-gt-LEVELS-clause-fault : goal.returns-then-levels-gt-LEVELS-clause-fault
 returns-then-levels-gt-LEVELS-clause-fault c =
@@ -21,7 +23,7 @@ returns-then-levels-gt-LEVELS-clause-fault c =
       stack = reverse c.read_all.new.recognizer.stack.items;
       code = c.read_all.new.recognizer.code.items;
       margin = c.read_all.new.recognizer.margin;
-      so = c.in_ok-mode.ensures ∙ ap (λ (st : Status). advances st c.as_slice-source.result.now) c.in_ok-recognizer.ensures ∙ ap (advances module_start) c.as_slice-source.ensures;
+      so = c.in_ok-mode.ensures.state ∙ ap (λ (st : Status). advances st c.as_slice-source.result.now) c.in_ok-recognizer.ensures ∙ ap (advances module_start) c.as_slice-source.ensures;
     } in
     reached_deep c.args.tokens.now r c.in-Some.levels (sym c.outcome.ensures ∙ c.in-Some.is) (omega (arith, c.if-levels-gt-LEVELS.true))
 
@@ -32,7 +34,7 @@ returns-clause-spells c =
       stack = reverse c.read_all.new.recognizer.stack.items;
       code = c.read_all.new.recognizer.code.items;
       margin = c.read_all.new.recognizer.margin;
-      so = c.in_ok-mode.ensures ∙ ap (λ (st : Status). advances st c.as_slice-source.result.now) c.in_ok-recognizer.ensures ∙ ap (advances module_start) c.as_slice-source.ensures;
+      so = c.in_ok-mode.ensures.state ∙ ap (λ (st : Status). advances st c.as_slice-source.result.now) c.in_ok-recognizer.ensures ∙ ap (advances module_start) c.as_slice-source.ensures;
     } in
     let a : Answered c.args.tokens.now c.in_ok-module-in-Some.module = answered c.args.tokens.now r c.in-Some.levels c.in_ok-module-in-Some.module (sym c.outcome.ensures ∙ c.in-Some.is) c.in_ok-module-in-Some.ensures in
     answer_spells c.args.tokens.now c.in_ok-module-in-Some.module c.checked.result a c.checked.ensures
@@ -44,7 +46,7 @@ returns-clause-one c = λ m s.
       stack = reverse c.read_all.new.recognizer.stack.items;
       code = c.read_all.new.recognizer.code.items;
       margin = c.read_all.new.recognizer.margin;
-      so = c.in_ok-mode.ensures ∙ ap (λ (st : Status). advances st c.as_slice-source.result.now) c.in_ok-recognizer.ensures ∙ ap (advances module_start) c.as_slice-source.ensures;
+      so = c.in_ok-mode.ensures.state ∙ ap (λ (st : Status). advances st c.as_slice-source.result.now) c.in_ok-recognizer.ensures ∙ ap (advances module_start) c.as_slice-source.ensures;
     } in
     let a : Answered c.args.tokens.now c.in_ok-module-in-Some.module = answered c.args.tokens.now r c.in-Some.levels c.in_ok-module-in-Some.module (sym c.outcome.ensures ∙ c.in-Some.is) c.in_ok-module-in-Some.ensures in
     answer_one c.args.tokens.now c.in_ok-module-in-Some.module c.checked.result a c.checked.ensures m s
@@ -56,7 +58,7 @@ returns-clause-levels c =
       stack = reverse c.read_all.new.recognizer.stack.items;
       code = c.read_all.new.recognizer.code.items;
       margin = c.read_all.new.recognizer.margin;
-      so = c.in_ok-mode.ensures ∙ ap (λ (st : Status). advances st c.as_slice-source.result.now) c.in_ok-recognizer.ensures ∙ ap (advances module_start) c.as_slice-source.ensures;
+      so = c.in_ok-mode.ensures.state ∙ ap (λ (st : Status). advances st c.as_slice-source.result.now) c.in_ok-recognizer.ensures ∙ ap (advances module_start) c.as_slice-source.ensures;
     } in
     answer_levels c.args.tokens.now c.in_ok-module-in-Some.module c.checked.result (reached_within c.args.tokens.now r c.in-Some.levels (sym c.outcome.ensures ∙ c.in-Some.is) (omega (arith, c.if-levels-gt-LEVELS.false)))
 
@@ -67,7 +69,7 @@ returns-clause-fault c =
       stack = reverse c.read_all.new.recognizer.stack.items;
       code = c.read_all.new.recognizer.code.items;
       margin = c.read_all.new.recognizer.margin;
-      so = c.in_ok-mode.ensures ∙ ap (λ (st : Status). advances st c.as_slice-source.result.now) c.in_ok-recognizer.ensures ∙ ap (advances module_start) c.as_slice-source.ensures;
+      so = c.in_ok-mode.ensures.state ∙ ap (λ (st : Status). advances st c.as_slice-source.result.now) c.in_ok-recognizer.ensures ∙ ap (advances module_start) c.as_slice-source.ensures;
     } in
     let a : Answered c.args.tokens.now c.in_ok-module-in-Some.module = answered c.args.tokens.now r c.in-Some.levels c.in_ok-module-in-Some.module (sym c.outcome.ensures ∙ c.in-Some.is) c.in_ok-module-in-Some.ensures in
     answer_fault c.args.tokens.now c.in_ok-module-in-Some.module c.checked.result a c.checked.ensures
