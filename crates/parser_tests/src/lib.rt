@@ -10,4 +10,8 @@ mod modules;
 #[cfg(test)]
 mod outside;
 #[cfg(test)]
+mod pluscal;
+#[cfg(test)]
 mod showing;
+#[cfg(test)]
+mod trees;

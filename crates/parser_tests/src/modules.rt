@@ -5,7 +5,7 @@ use std::alloc::Global;
 use std::test::Fail;
 
 // What the module's text is parsed to.
-fn shown(alloc: Global, text: &str) -> Result<Vec<u8>, Fail> {
+pub(crate) fn shown(alloc: Global, text: &str) -> Result<Vec<u8>, Fail> {
     let mut out = Vec::new(alloc);
     match answer(alloc, text.as_bytes())? {
         Ok(module) => put_module(alloc, &mut out, &module)?,

@@ -1,8 +1,9 @@
 // Modules as engineers write them.
 use crate::asking::answer;
+use crate::pluscal::{CALLS, MUTEX};
 use std::test::Fail;
 
-const TOGGLE: &str = r#"---- MODULE Toggle ----
+pub(crate) const TOGGLE: &str = r#"---- MODULE Toggle ----
 VARIABLE
   \* @type: Bool;
   x
@@ -12,7 +13,7 @@ Next == \/ x = FALSE /\ x' = TRUE
 Inv == x = FALSE
 ===="#;
 
-const DIE_HARD: &str = r#"---- MODULE DieHard ----
+pub(crate) const DIE_HARD: &str = r#"---- MODULE DieHard ----
 EXTENDS Integers
 VARIABLES
   \* @type: Int;
@@ -35,7 +36,7 @@ Next == \/ big' = 5 /\ small' = small
 Inv == big # 4
 ===="#;
 
-const TWO_PHASE: &str = r#"---- MODULE TwoPhase ----
+pub(crate) const TWO_PHASE: &str = r#"---- MODULE TwoPhase ----
 VARIABLES
   \* @type: Str -> Str;
   rm,
@@ -59,6 +60,12 @@ Prepare(r) == /\ rm[r] = "working"
               /\ rm' = [rm EXCEPT ![r] = "prepared"]
               /\ msgs' = msgs \cup {Msg("Prepared", r)}
               /\ UNCHANGED <<tm, ready>>
+Give(r) == /\ rm[r] = "working"
+           /\ rm' = [rm EXCEPT ![r] = "aborted"]
+           /\ UNCHANGED <<tm, ready, msgs>>
+Obey(r, k, s) == /\ Msg(k, "") \in msgs
+                 /\ rm' = [rm EXCEPT ![r] = s]
+                 /\ UNCHANGED <<tm, ready, msgs>>
 Next == \/ ready = RM /\ Decide("Commit", "committed")
         \/ Decide("Abort", "aborted")
         \/ \E r \in RM: \/ Receive(r) \/ Prepare(r) \/ Give(r)
@@ -68,7 +75,7 @@ Inv == \A a \in RM: \A b \in RM:
          ~(rm[a] = "aborted" /\ rm[b] = "committed")
 ===="#;
 
-const PLUS: &str = r#"---- MODULE Plus ----
+pub(crate) const PLUS: &str = r#"---- MODULE Plus ----
 EXTENDS Integers, TLC
 \* BEGIN TRANSLATION
 VARIABLES
@@ -95,7 +102,7 @@ Termination == <>(\A self \in ProcSet: pc[self] = "Done")
 Inv == x <= 2
 ===="#;
 
-const RING: &str = r#"---- MODULE Ring ----
+pub(crate) const RING: &str = r#"---- MODULE Ring ----
 EXTENDS Integers
 VARIABLE
   \* @type: Int -> Bool;
@@ -106,7 +113,7 @@ Next == \E i \in 1..N: token[i] /\ token' = [token EXCEPT
 Inv == \A i \in 1..N: \A j \in 1..N: token[i] /\ token[j] => i = j
 ===="#;
 
-const INC: &str = r#"---- MODULE Inc ----
+pub(crate) const INC: &str = r#"---- MODULE Inc ----
 EXTENDS Integers
 CONSTANT
   \* @type: Int;
@@ -322,9 +329,9 @@ Unit == [x \in {} |-> x] @@ (1 :> 2 @@ 3 :> 4)
 Trace == LET n == 3 m == n^2 IN [k \in 1..m |-> k % n]
 ===="#;
 
-const GOOD: [&str; 14] = [
+const GOOD: [&str; 16] = [
     TOGGLE, DIE_HARD, TWO_PHASE, PLUS, RING, INC, PETERSON, QUEUE, CACHE, ELECTION, CLOCK, CHANNEL,
-    LOCKS, RECURSION,
+    LOCKS, RECURSION, MUTEX, CALLS,
 ];
 
 #[test]

@@ -1,6 +1,6 @@
 // The text of trees, for tests: a node as `(label binds : operands)`, uses and literals bare.
 use std::alloc::{AllocError, Global};
-use tla_meaning::{Expr, Form, Module, Op, Unit};
+use tla_meaning::{Decl, Def, Expr, Form, Module, Op, Unit};
 use tla_values::{List, Text};
 
 fn form_label(form: Form) -> &'static str {
@@ -195,26 +195,64 @@ pub(crate) fn put_tree(
     put(out, ")")
 }
 
+fn put_decls(out: &mut Vec<u8>, decls: &[Decl]) -> Result<(), AllocError> {
+    put(out, "declare")?;
+    for decl in decls {
+        let kind = if decl.constant {
+            " constant "
+        } else {
+            " variable "
+        };
+        put(out, kind)?;
+        out.extend_from_slice(decl.name.bytes())?;
+        put(out, " <")?;
+        out.extend_from_slice(decl.note.bytes())?;
+        put(out, ">")?;
+    }
+    Ok(())
+}
+
+fn put_definition(alloc: Global, out: &mut Vec<u8>, def: &Def) -> Result<(), AllocError> {
+    out.extend_from_slice(def.name.bytes())?;
+    put_texts(out, &def.params)?;
+    put(out, " <")?;
+    out.extend_from_slice(def.note.bytes())?;
+    put(out, "> ")?;
+    put_tree(alloc, out, &def.body, false)
+}
+
+fn put_replacements(
+    alloc: Global,
+    out: &mut Vec<u8>,
+    pairs: &[(Text, Expr)],
+) -> Result<(), AllocError> {
+    for (name, e) in pairs {
+        put(out, " ")?;
+        out.extend_from_slice(name.bytes())?;
+        put(out, " <- ")?;
+        put_tree(alloc, out, e, false)?;
+    }
+    Ok(())
+}
+
+fn put_recursive(
+    alloc: Global,
+    out: &mut Vec<u8>,
+    rows: &[(Text, usize)],
+) -> Result<(), AllocError> {
+    put(out, "recursive")?;
+    for (name, count) in rows {
+        put(out, " ")?;
+        out.extend_from_slice(name.bytes())?;
+        put(out, "/")?;
+        put_number(alloc, out, *count as i128)?;
+    }
+    Ok(())
+}
+
 fn put_unit(alloc: Global, out: &mut Vec<u8>, unit: &Unit) -> Result<(), AllocError> {
     match unit {
-        Unit::Declare(decls) => {
-            put(out, "declare")?;
-            for decl in decls.as_slice() {
-                put(
-                    out,
-                    if decl.constant {
-                        " constant "
-                    } else {
-                        " variable "
-                    },
-                )?;
-                out.extend_from_slice(decl.name.bytes())?;
-                put(out, " <")?;
-                out.extend_from_slice(decl.note.bytes())?;
-                put(out, ">")?;
-            }
-            Ok(())
-        }
+        Unit::Declare(decls) => put_decls(out, decls.as_slice()),
         Unit::Assume(e) => {
             put(out, "assume ")?;
             put_tree(alloc, out, e, false)
@@ -225,45 +263,23 @@ fn put_unit(alloc: Global, out: &mut Vec<u8>, unit: &Unit) -> Result<(), AllocEr
         }
         Unit::Define(def, local) => {
             put(out, if *local { "local " } else { "define " })?;
-            out.extend_from_slice(def.name.bytes())?;
-            put_texts(out, &def.params)?;
-            put(out, " <")?;
-            out.extend_from_slice(def.note.bytes())?;
-            put(out, "> ")?;
-            put_tree(alloc, out, &def.body, false)
+            put_definition(alloc, out, def)
         }
         Unit::Instance(name, module, pairs, local, _) => {
-            put(
-                out,
-                if *local {
-                    "local instance "
-                } else {
-                    "instance "
-                },
-            )?;
+            let kind = if *local {
+                "local instance "
+            } else {
+                "instance "
+            };
+            put(out, kind)?;
             if let Some(name) = name {
                 out.extend_from_slice(name.bytes())?;
                 put(out, " ")?;
             }
             out.extend_from_slice(module.bytes())?;
-            for (name, e) in pairs.as_slice() {
-                put(out, " ")?;
-                out.extend_from_slice(name.bytes())?;
-                put(out, " <- ")?;
-                put_tree(alloc, out, e, false)?;
-            }
-            Ok(())
+            put_replacements(alloc, out, pairs.as_slice())
         }
-        Unit::Recursive(rows) => {
-            put(out, "recursive")?;
-            for (name, count) in rows.as_slice() {
-                put(out, " ")?;
-                out.extend_from_slice(name.bytes())?;
-                put(out, "/")?;
-                put_number(alloc, out, *count as i128)?;
-            }
-            Ok(())
-        }
+        Unit::Recursive(rows) => put_recursive(alloc, out, rows.as_slice()),
     }
 }
 
