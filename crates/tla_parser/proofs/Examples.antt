@@ -3,14 +3,20 @@ use Rattle.std.proofs.Common.{codes}
 use Rattle.tla_lexer.specs.declared.token.Token.{Token as Tok}
 use Rattle.tla_lexer.specs.declared.token.TokenKind.{TokenKind}
 use Rattle.tla_lexer.specs.declared.token.TokenKind.TheVariants.{Name, Reserved, Symbol}
-use Rattle.std.proofs.Common.{ℕ, Bool, true, List, Option, Some, None, refl, ◌≡◌, ◌+◌, ◌∷◌, []}
+use Rattle.std.proofs.Common.{ℕ, Bool, true, false, List, Option, Some, None, refl, ◌≡◌, ◌+◌, ◌∷◌, []}
+use Rattle.tla_parser.proofs.Endings.{ending}
 use Rattle.tla_parser.proofs.Machine.{parse_fn}
+use Rattle.tla_parser.proofs.ModuleRows.{through}
+use Rattle.tla_parser.proofs.TableLaw.{along}
+use Rattle.tla_parser.proofs.Templates.{can_end}
+use Rattle.tla_parser.specs.Forms.{FormPart, a_token, an_operand, module_form, templates}
+use Rattle.tla_parser.specs.declared.moves.Class.TheVariants.{Member, Other}
 use Rattle.tla_parser.specs.Operators.{after, hi, is_associative, is_bullet, is_prefix, lo, number_of, prefix_hi, prefix_lo, same}
 use Rattle.tla_parser.specs.Signs.{fold_name, sign, symbol_signs, word_signs}
 use Rattle.tla_parser.specs.declared.moves.Construct.{Construct}
-use Rattle.tla_parser.specs.declared.moves.Construct.TheVariants.{Conditional, Filter, Junction, Mapping, Parenthesis}
+use Rattle.tla_parser.specs.declared.moves.Construct.TheVariants.{CasesOther, Conditional, Filter, Junction, Mapping, Parenthesis, Quantifier}
 use Rattle.tla_parser.specs.declared.signs.Sign.{Sign}
-use Rattle.tla_parser.specs.declared.signs.Sign.TheVariants.{Plus, Vee, Wedge}
+use Rattle.tla_parser.specs.declared.signs.Sign.TheVariants.{Arrow, CaseWord, Colon, Comma, Dashes, Defines, Element, EndSign, ExistsSign, ExtendsWord, InstanceWord, LeftBrace, LeftParen, LocalWord, ModuleWord, OtherWord, Plus, Replaces, RightBrace, RightParen, Square, VariableWord, Vee, Wedge, WithWord, Word}
 use Rattle.tla_parser.specs.Written.{Written, bin, class_infix, class_of, closed, form_levels, levels, pre, tailed}
 use Rattle.tla_parser.specs.inner.Derivations.{ahead, delta, form_of, mark_column}
 use Rattle.tla_parser.specs.inner.Moves.{body_rows, bracket_rows, ends_as, fair_rows, fold_rows, goes_on, heads, in_braces, in_brackets, insteads, listed_heads, local_heads, local_rows, module_heads, moved, name_heads, opens, postfixes, recursive_heads, rows, subscript_heads, tuple_rows, unit_heads, unit_rows, update_heads, update_rows}
@@ -102,3 +108,55 @@ columns = refl
 other_bullets : root (parse_fn (token_at 1 (mark (codes "/\\")) ∷ token_at 3 a ∷ token_at 1 (mark (codes "\\/")) ∷ token_at 3 b ∷ [])) ≡ Some (of_sign Vee, 3)
 unfolding all_open
 other_bullets = refl
+
+-- ---- templates
+
+-- the constructs that have the parts
+forms_of : List FormPart → List Construct
+forms_of xs = ending (along xs templates)
+
+templates_open : Bool
+unfolding templates number_of
+templates_open = true
+
+-- CASE p -> e [] OTHER -> e
+other_cases : forms_of (a_token CaseWord ∷ an_operand Other ∷ a_token Arrow ∷ an_operand Other ∷ a_token Square ∷ a_token OtherWord ∷ a_token Arrow ∷ an_operand Other ∷ []) ≡ CasesOther ∷ []
+unfolding forms_of templates_open
+other_cases = refl
+
+-- \E x, y \in S, z \in T : e
+quantifiers : forms_of (a_token ExistsSign ∷ a_token Word ∷ a_token Comma ∷ a_token Word ∷ a_token Element ∷ an_operand Other ∷ a_token Comma ∷ a_token Word ∷ a_token Element ∷ an_operand Other ∷ a_token Colon ∷ an_operand Other ∷ []) ≡ Quantifier ∷ []
+unfolding forms_of templates_open
+quantifiers = refl
+
+-- \E x, y \in S, z : e is none
+unset : forms_of (a_token ExistsSign ∷ a_token Word ∷ a_token Element ∷ an_operand Other ∷ a_token Comma ∷ a_token Word ∷ a_token Colon ∷ an_operand Other ∷ []) ≡ []
+unfolding forms_of templates_open
+unset = refl
+
+-- {x \in S : p} is a filter and no mapping
+only_filters : forms_of (a_token LeftBrace ∷ an_operand Member ∷ a_token Colon ∷ an_operand Other ∷ a_token RightBrace ∷ []) ≡ Filter ∷ []
+unfolding forms_of templates_open
+only_filters = refl
+
+-- bullets of two kinds are no list
+mixed_bullets : forms_of (a_token Wedge ∷ an_operand Other ∷ a_token Vee ∷ an_operand Other ∷ []) ≡ []
+unfolding forms_of templates_open
+mixed_bullets = refl
+
+is_module : List FormPart → Bool
+is_module xs = can_end (through xs module_form)
+
+modules_open : Bool
+unfolding module_form number_of
+modules_open = true
+
+-- ---- MODULE M ---- EXTENDS N VARIABLES x, y LOCAL f(a) == e I == INSTANCE M WITH c <- e ====
+modules : is_module (a_token Dashes ∷ a_token ModuleWord ∷ a_token Word ∷ a_token Dashes ∷ a_token ExtendsWord ∷ a_token Word ∷ a_token VariableWord ∷ a_token Word ∷ a_token Comma ∷ a_token Word ∷ a_token LocalWord ∷ a_token Word ∷ a_token LeftParen ∷ a_token Word ∷ a_token RightParen ∷ a_token Defines ∷ an_operand Other ∷ a_token Word ∷ a_token Defines ∷ a_token InstanceWord ∷ a_token Word ∷ a_token WithWord ∷ a_token Word ∷ a_token Replaces ∷ an_operand Other ∷ a_token EndSign ∷ []) ≡ true
+unfolding is_module modules_open
+modules = refl
+
+-- an instance behind parameters is none
+no_parameters : is_module (a_token Dashes ∷ a_token ModuleWord ∷ a_token Word ∷ a_token Dashes ∷ a_token Word ∷ a_token LeftParen ∷ a_token Word ∷ a_token RightParen ∷ a_token Defines ∷ a_token InstanceWord ∷ a_token Word ∷ a_token EndSign ∷ []) ≡ false
+unfolding is_module modules_open
+no_parameters = refl
