@@ -13,8 +13,9 @@ use Rattle.tla_parser.proofs.ByTable.{module_parsed, module_written, one_written
 use Rattle.tla_parser.proofs.Image.{capped, image, image_form, image_run, images}
 use Rattle.tla_parser.proofs.Laws.{clash}
 use Rattle.tla_parser.proofs.Machine.{Frame, State, at_bin, at_form, at_pre, have, heading, module_of, parse_module, run, stuck, want}
+use Rattle.tla_parser.specs.Aliases.{Alias, aliases_of}
 use Rattle.tla_parser.specs.Fields.{units_differ}
-use Rattle.tla_parser.specs.Grammar.{IsRefusal, IsWritten, NothingSpells, SpelledWithin, Spells}
+use Rattle.tla_parser.specs.Grammar.{IsRefusal, IsWritten, NothingSpells, SpelledWithin, Spells, module_for}
 use Rattle.tla_parser.specs.Modules.{module_tree}
 use Rattle.tla_parser.specs.Spelling.{items}
 use Rattle.tla_parser.specs.declared.moves.Mark.TheVariants.{AtTop}
@@ -24,6 +25,7 @@ use Rattle.tla_parser.specs.declared.open.Mode.TheVariants.{Have, Read, Stuck, W
 use Rattle.tla_parser.specs.declared.open.Open.{Open}
 use Rattle.tla_parser.specs.declared.open.Open.TheVariants.{Before, Between, Within}
 use Rattle.tla_parser.specs.inner.Building.{made, some_if}
+use Rattle.tla_parser.specs.inner.Notes.{noted}
 use Rattle.tla_parser.specs.inner.Checked.{IsChecked}
 use Rattle.tla_parser.specs.Written.{Parts, deepest, tokens_of, top}
 use Rattle.tla_parser.specs.Rules.{IsModule}
@@ -80,18 +82,18 @@ pub unread : (ts : List Tok) → finished (advances module_start ts) ≡ false �
 unread ts h m s = clash (finished (advances module_start ts)) (module_reads ts s.written s.by_rules s.tokens_so) h
 
 -- what is read is spelled, and by nothing else
-pub read_spells : (ts : List Tok) (m : Module) (r : IsRead ts) → m ≡ module_tree (items r.written) → units_differ m.units ≡ true → Spells m ts
+pub read_spells : (ts : List Tok) (m : Module) (r : IsRead ts) → m ≡ module_for ts r.written → units_differ m.units ≡ true → Spells m ts
 read_spells ts m r e d = record { written = r.written; by_rules = r.by_rules; tokens_so = r.tokens_so; module_so = sym e; fields_so = d }
 
 -- where a record of what is read names a field twice, nothing is spelled
-pub read_repeats : (ts : List Tok) (m : Module) (r : IsRead ts) → m ≡ module_tree (items r.written) → units_differ m.units ≡ false → NothingSpells ts
+pub read_repeats : (ts : List Tok) (m : Module) (r : IsRead ts) → m ≡ module_for ts r.written → units_differ m.units ≡ false → NothingSpells ts
 read_repeats ts m r e d n s =
-    let q : n ≡ m = sym s.module_so ∙ ap (λ (ps : Parts). module_tree (items ps)) (one_written_module s.written r.written s.by_rules r.by_rules (s.tokens_so ∙ sym r.tokens_so)) ∙ sym e in
+    let q : n ≡ m = sym s.module_so ∙ ap (λ (ps : Parts). module_for ts ps) (one_written_module s.written r.written s.by_rules r.by_rules (s.tokens_so ∙ sym r.tokens_so)) ∙ sym e in
     clash (units_differ m.units) (ap (λ (x : Module). units_differ x.units) (sym q) ∙ s.fields_so) d
 
 pub one_spelling : (ts : List Tok) (m n : Module) → Spells m ts → Spells n ts → m ≡ n
 one_spelling ts m n s r =
-    sym s.module_so ∙ ap (λ (ps : Parts). module_tree (items ps)) (one_written_module s.written r.written s.by_rules r.by_rules (s.tokens_so ∙ sym r.tokens_so)) ∙ r.module_so
+    sym s.module_so ∙ ap (λ (ps : Parts). module_for ts ps) (one_written_module s.written r.written s.by_rules r.by_rules (s.tokens_so ∙ sym r.tokens_so)) ∙ r.module_so
 
 capped_past : (n : ℕ) → 400 < capped n → n ≤ 400 → ⊥
 capped_past n h k = omega arith
@@ -175,11 +177,11 @@ within_so ts m s c k n e h l =
     within_levels ts (ap finished (sym e) ∙ r.0) (omega (arith, ap levels_read e, r.1))
 
 -- the module of what was read
-pub made_so : (ts : List Tok) (m : Mode) (s : List Open) (c : List Code) (k n : ℕ) (x : Module) → status m s c k ≡ advances module_start ts → outcome_mode m s ≡ Some n → ((ps : Parts) → c ≡ posts ps → x ≡ module_tree (items ps)) → (units_differ x.units ≡ true → Spells x ts) × (units_differ x.units ≡ false → NothingSpells ts)
+pub made_so : (ts : List Tok) (m : Mode) (s : List Open) (c : List Code) (k n : ℕ) (x : Module) → status m s c k ≡ advances module_start ts → outcome_mode m s ≡ Some n → ((ps : Parts) → c ≡ posts ps → x ≡ module_for ts ps) → (units_differ x.units ≡ true → Spells x ts) × (units_differ x.units ≡ false → NothingSpells ts)
 made_so ts m s c k n x e h made_of =
     let r : (finished (status m s c k) ≡ true) × (levels_read (status m s c k) ≡ n) × (code_read (status m s c k) ≡ c) = outcome_some m s c k n h in
     let i : IsRead ts = read_module ts (ap finished (sym e) ∙ r.0) in
-    let q : x ≡ module_tree (items i.written) = made_of i.written (sym r.2 ∙ ap code_read e ∙ i.code_so) in
+    let q : x ≡ module_for ts i.written = made_of i.written (sym r.2 ∙ ap code_read e ∙ i.code_so) in
     (read_spells ts x i q, read_repeats ts x i q)
 
 refusal_so : (e : ParseFault) (ts : List Tok) → is_of_grammar e ≡ true → IsStanding e ts → NothingSpells ts → IsRefusal e ts
@@ -211,7 +213,7 @@ reached_deep ts r n h l = deep_so ts r.mode r.stack r.code r.margin n r.so h l
 pub reached_within : (ts : List Tok) (r : Reached ts) (n : ℕ) → outcome_mode r.mode r.stack ≡ Some n → n ≤ 400 → SpelledWithin 400 ts
 reached_within ts r n h l = within_so ts r.mode r.stack r.code r.margin n r.so h l
 
-pub reached_module : (ts : List Tok) (r : Reached ts) (n : ℕ) (x : Module) → outcome_mode r.mode r.stack ≡ Some n → ((ps : Parts) → r.code ≡ posts ps → x ≡ module_tree (items ps)) → (units_differ x.units ≡ true → Spells x ts) × (units_differ x.units ≡ false → NothingSpells ts)
+pub reached_module : (ts : List Tok) (r : Reached ts) (n : ℕ) (x : Module) → outcome_mode r.mode r.stack ≡ Some n → ((ps : Parts) → r.code ≡ posts ps → x ≡ module_for ts ps) → (units_differ x.units ≡ true → Spells x ts) × (units_differ x.units ≡ false → NothingSpells ts)
 reached_module ts r n x h m = made_so ts r.mode r.stack r.code r.margin n x r.so h m
 
 -- ---- the answer where a whole module was read
@@ -236,7 +238,11 @@ pub answer_fault : (ts : List Tok) (x : Module) (r : Result Module ParseFault) �
 answer_fault ts x (Ok m) a h = tt
 answer_fault ts x (Err e) a h = bad_so e ts h.0 (a.repeats h.1)
 
-pub answered : (ts : List Tok) (r : Reached ts) (n : ℕ) (x : Module) → outcome_mode r.mode r.stack ≡ Some n → ((ps : Parts) → r.code ≡ posts ps → x ≡ module_tree (items ps)) → Answered ts x
+pub answered : (ts : List Tok) (r : Reached ts) (n : ℕ) (x : Module) → outcome_mode r.mode r.stack ≡ Some n → ((ps : Parts) → r.code ≡ posts ps → x ≡ module_for ts ps) → Answered ts x
 answered ts r n x h m =
     let p : (units_differ x.units ≡ true → Spells x ts) × (units_differ x.units ≡ false → NothingSpells ts) = reached_module ts r n x h m in
     record { differs = p.0; repeats = p.1 }
+
+-- the module with the aliases that were read
+pub noted_so : (ts us : List Tok) (x tree : Module) (found : List Alias) (ps : Parts) → x ≡ noted found tree → found ≡ aliases_of us → us ≡ ts → tree ≡ module_tree (items ps) → x ≡ module_for ts ps
+noted_so ts us x tree found ps e f u q = e ∙ ap (λ (xs : List Alias). noted xs tree) (f ∙ ap aliases_of u) ∙ ap (noted (aliases_of ts)) q

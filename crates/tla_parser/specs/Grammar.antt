@@ -4,6 +4,7 @@ use Rattle.tla_meaning.specs.declared.modules.Module.{Module}
 use Rattle.tla_parser.specs.declared.fault.ParseFault.{ParseFault}
 use Rattle.tla_parser.specs.declared.fault.ParseFault.TheVariants.{BadGrammar, TooDeep, NotSupported, Memory}
 use Rattle.std.specs.Prelude.{ℕ, true, List, ◌≡◌, ◌≤◌}
+use Rattle.tla_parser.specs.Aliases.{aliases_of}
 use Rattle.tla_parser.specs.Fields.{units_differ}
 use Rattle.tla_parser.specs.Modules.{module_tree}
 use Rattle.tla_parser.specs.Spelling.{items}
@@ -11,13 +12,17 @@ use Rattle.tla_parser.specs.Refused.{Stands}
 use Rattle.tla_parser.specs.Rules.{IsModule}
 use Rattle.tla_parser.specs.Written.{Parts, deepest, tokens_of}
 
+-- The module of what is written, with the aliases that the notes give.
+abbrev pub module_for : List Token → Parts → Module
+module_for ts ps = record (module_tree (items ps)) { aliases = aliases_of ts }
+
 -- The module is what the tokens spell: they are the tokens of a module that is written by the rules, and it is the
 -- module of its tokens and expressions.
 pub record Spells (m : Module) (ts : List Token) : Type 0 where
   pub written : Parts
   pub by_rules : IsModule written
   pub tokens_so : tokens_of written ≡ ts
-  pub module_so : module_tree (items written) ≡ m
+  pub module_so : module_for ts written ≡ m
   -- no record names a field twice
   pub fields_so : units_differ m.units ≡ true
 

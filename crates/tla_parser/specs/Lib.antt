@@ -8,5 +8,6 @@ pub mod Forms
 pub mod Written
 pub mod Rules
 pub mod Refused
+pub mod Aliases
 pub mod Grammar
 pub mod inner

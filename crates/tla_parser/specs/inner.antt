@@ -4,3 +4,4 @@ pub mod Recognition
 pub mod Building
 pub mod Checked
 pub mod Refusals
+pub mod Notes

@@ -1,6 +1,7 @@
 //! The module that tokens spell. (Lamport, Specifying Systems, chapters 15 to 17.)
 #![tactic(auto)]
 
+mod aliases;
 mod binders;
 mod builder;
 mod copies;

@@ -9,9 +9,11 @@ ghost use Rattle.tla_parser.specs.Spelling.{items};
 ghost use Rattle.tla_parser.specs.Written.{Parts};
 ghost use Rattle.tla_parser.specs.inner.Derivations.{posts};
 ghost use Rattle.tla_parser.specs.inner.Moves.{is_finished};
+ghost use Rattle.tla_parser.specs.inner.Notes.{noted};
 ghost use Rattle.tla_parser.specs.inner.Refusals.{HasRead};
 ghost use Rattle.tla_parser.specs.inner.Recognition.{advance, advances, ended_module, module_start, outcome_mode, outcome_stack, stood};
 
+use crate::aliases::aliases_of;
 use crate::binders::Copies;
 use crate::builder::Builder;
 use crate::fault::ParseFault;
@@ -25,6 +27,7 @@ use crate::units::module_tree;
 use std::alloc::{AllocError, Global};
 use tla_lexer::{Token, Tokens};
 use tla_meaning::Module;
+use tla_values::{List, Text};
 
 // The most levels of an expression.
 const LEVELS: u16 = 400;
@@ -145,6 +148,14 @@ fn made(alloc: Global, codes: Vec<Code>) -> Result<Module, AllocError>
     module_tree(&mut copies, alloc, items)
 }
 
+fn noted(tree: Module, aliases: List<(Text, Text)>) -> Module
+    ensures { result ≡ noted aliases tree }
+{
+    let mut tree = tree;
+    tree.aliases = aliases;
+    tree
+}
+
 // The module, where no record of it names a field twice.
 fn checked(tree: Module, places: &Places) -> Result<Module, ParseFault>
     ensures { IsChecked tree result }
@@ -183,7 +194,9 @@ pub fn parse(alloc: Global, tokens: &Tokens) -> Result<Module, ParseFault>
             if levels > LEVELS {
                 return Err(ParseFault::TooDeep(places.deep()));
             }
-            let module = made(alloc, code)?;
+            let tree = made(alloc, code)?;
+            let aliases = aliases_of(alloc, source)?;
+            let module = noted(tree, aliases);
             checked(module, &places)
         }
     }

@@ -1,8 +1,9 @@
 use Rattle.std.proofs.Common.{List, ◌∙◌, ap, sym, subst, arith, reverse}
 use Rattle.tla_lexer.specs.declared.token.Token.{Token as Tok}
+use Rattle.tla_parser.specs.Written.{Parts}
 use Rattle.tla_parser.specs.inner.Refusals.{HasRead}
 use Rattle.tla_parser.specs.inner.Recognition.{Status, advances, module_start}
-use Rattle.tla_parser.proofs.Top.{Answered, Reached, answer_fault, answer_levels, answer_one, answer_spells, answered, reached_deep, reached_none, reached_within}
+use Rattle.tla_parser.proofs.Top.{Answered, Reached, answer_fault, answer_levels, answer_one, answer_spells, answered, noted_so, reached_deep, reached_none, reached_within}
 use Rattle.tla_parser.proofs.parsing.parse.Goals as goal
 
 pub returns-in-None-clause-fault : goal.returns-in-None-clause-fault
@@ -36,8 +37,8 @@ returns-clause-spells c =
       margin = c.read_all.new.recognizer.margin;
       so = c.in_ok-mode.ensures.state ∙ ap (λ (st : Status). advances st c.as_slice-source.result.now) c.in_ok-recognizer.ensures ∙ ap (advances module_start) c.as_slice-source.ensures;
     } in
-    let a : Answered c.args.tokens.now c.in_ok-module-in-Some.module = answered c.args.tokens.now r c.in-Some.levels c.in_ok-module-in-Some.module (sym c.outcome.ensures ∙ c.in-Some.is) c.in_ok-module-in-Some.ensures in
-    answer_spells c.args.tokens.now c.in_ok-module-in-Some.module c.checked.result a c.checked.ensures
+    let a : Answered c.args.tokens.now c.noted-module.result = answered c.args.tokens.now r c.in-Some.levels c.noted-module.result (sym c.outcome.ensures ∙ c.in-Some.is) (λ (ps : Parts) e. noted_so c.args.tokens.now c.as_slice-source.result.now c.noted-module.result c.in_ok-tree-in-Some.tree c.in_ok-aliases-in-Some.aliases ps c.noted-module.ensures c.in_ok-aliases-in-Some.ensures c.as_slice-source.ensures (c.in_ok-tree-in-Some.ensures ps e)) in
+    answer_spells c.args.tokens.now c.noted-module.result c.checked.result a c.checked.ensures
 
 pub returns-clause-one : goal.returns-clause-one
 returns-clause-one c = λ m s.
@@ -48,8 +49,8 @@ returns-clause-one c = λ m s.
       margin = c.read_all.new.recognizer.margin;
       so = c.in_ok-mode.ensures.state ∙ ap (λ (st : Status). advances st c.as_slice-source.result.now) c.in_ok-recognizer.ensures ∙ ap (advances module_start) c.as_slice-source.ensures;
     } in
-    let a : Answered c.args.tokens.now c.in_ok-module-in-Some.module = answered c.args.tokens.now r c.in-Some.levels c.in_ok-module-in-Some.module (sym c.outcome.ensures ∙ c.in-Some.is) c.in_ok-module-in-Some.ensures in
-    answer_one c.args.tokens.now c.in_ok-module-in-Some.module c.checked.result a c.checked.ensures m s
+    let a : Answered c.args.tokens.now c.noted-module.result = answered c.args.tokens.now r c.in-Some.levels c.noted-module.result (sym c.outcome.ensures ∙ c.in-Some.is) (λ (ps : Parts) e. noted_so c.args.tokens.now c.as_slice-source.result.now c.noted-module.result c.in_ok-tree-in-Some.tree c.in_ok-aliases-in-Some.aliases ps c.noted-module.ensures c.in_ok-aliases-in-Some.ensures c.as_slice-source.ensures (c.in_ok-tree-in-Some.ensures ps e)) in
+    answer_one c.args.tokens.now c.noted-module.result c.checked.result a c.checked.ensures m s
 
 pub returns-clause-levels : goal.returns-clause-levels
 returns-clause-levels c =
@@ -60,7 +61,7 @@ returns-clause-levels c =
       margin = c.read_all.new.recognizer.margin;
       so = c.in_ok-mode.ensures.state ∙ ap (λ (st : Status). advances st c.as_slice-source.result.now) c.in_ok-recognizer.ensures ∙ ap (advances module_start) c.as_slice-source.ensures;
     } in
-    answer_levels c.args.tokens.now c.in_ok-module-in-Some.module c.checked.result (reached_within c.args.tokens.now r c.in-Some.levels (sym c.outcome.ensures ∙ c.in-Some.is) (omega (arith, c.if-levels-gt-LEVELS.false)))
+    answer_levels c.args.tokens.now c.noted-module.result c.checked.result (reached_within c.args.tokens.now r c.in-Some.levels (sym c.outcome.ensures ∙ c.in-Some.is) (omega (arith, c.if-levels-gt-LEVELS.false)))
 
 pub returns-clause-fault : goal.returns-clause-fault
 returns-clause-fault c =
@@ -71,5 +72,5 @@ returns-clause-fault c =
       margin = c.read_all.new.recognizer.margin;
       so = c.in_ok-mode.ensures.state ∙ ap (λ (st : Status). advances st c.as_slice-source.result.now) c.in_ok-recognizer.ensures ∙ ap (advances module_start) c.as_slice-source.ensures;
     } in
-    let a : Answered c.args.tokens.now c.in_ok-module-in-Some.module = answered c.args.tokens.now r c.in-Some.levels c.in_ok-module-in-Some.module (sym c.outcome.ensures ∙ c.in-Some.is) c.in_ok-module-in-Some.ensures in
-    answer_fault c.args.tokens.now c.in_ok-module-in-Some.module c.checked.result a c.checked.ensures
+    let a : Answered c.args.tokens.now c.noted-module.result = answered c.args.tokens.now r c.in-Some.levels c.noted-module.result (sym c.outcome.ensures ∙ c.in-Some.is) (λ (ps : Parts) e. noted_so c.args.tokens.now c.as_slice-source.result.now c.noted-module.result c.in_ok-tree-in-Some.tree c.in_ok-aliases-in-Some.aliases ps c.noted-module.ensures c.in_ok-aliases-in-Some.ensures c.as_slice-source.ensures (c.in_ok-tree-in-Some.ensures ps e)) in
+    answer_fault c.args.tokens.now c.noted-module.result c.checked.result a c.checked.ensures
