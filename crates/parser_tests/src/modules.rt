@@ -167,3 +167,40 @@ fn parentheses_make_no_level(rt: HostRuntime) -> Result<(), Fail> {
     );
     Ok(())
 }
+
+// The aliases that the notes of the module's text give, each as its name, its type and a `;`.
+fn aliases(alloc: Global, text: &str) -> Result<Vec<u8>, Fail> {
+    let mut out = Vec::new(alloc);
+    match answer(alloc, text.as_bytes())? {
+        Ok(module) => {
+            for (name, kind) in module.aliases.as_slice() {
+                out.extend_from_slice(name.bytes())?;
+                out.push(b'=')?;
+                out.extend_from_slice(kind.bytes())?;
+                out.push(b';')?;
+            }
+        }
+        Err(fault) => put_fault(alloc, &mut out, fault)?,
+    }
+    Ok(out)
+}
+
+const NOTED: &str = r#"---- MODULE M ----
+\* @typeAlias: MSG = {kind: Str};
+VARIABLE
+  \* @typeAlias:pair=<<Int, Int>>; @type: $pair;
+  x
+(* @typeAlias: none Int; @typeAlias: = Int; @typeAlias: open = Int
+   @typeAlias: late = Set($MSG) ; *)
+Init == x = (* @typeAlias: inside = Int; *) <<0, 0>>
+===="#;
+
+#[test]
+fn aliases_of_types_are_read_in_any_notes(rt: HostRuntime) -> Result<(), Fail> {
+    let found = aliases(rt.alloc(), NOTED)?;
+    assert_eq!(rt;
+        found.as_slice(),
+        b"MSG= {kind: Str};pair=<<Int, Int>>;late= Set($MSG) ;inside= Int;".as_slice()
+    );
+    Ok(())
+}
