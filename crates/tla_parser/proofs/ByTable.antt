@@ -1,5 +1,5 @@
 -- What is written by the rules is what the table leads through, and the other way round.
-use Rattle.std.proofs.Common.{ℕ, Bool, true, false, ◌≡◌, ◌<◌, ◌⊎◌, inl, inr, List, Some, ◌∷◌, [], refl, sym, ap, subst, ◌∙◌}
+use Rattle.std.proofs.Common.{ℕ, true, false, ◌≡◌, ◌<◌, inl, inr, List, Some, [], refl, sym, ap, subst}
 use Rattle.tla_lexer.specs.declared.token.Token.{Token as Tok}
 use Rattle.tla_parser.proofs.Basics.{either}
 use Rattle.tla_parser.proofs.Columns.{columns}
@@ -10,13 +10,11 @@ use Rattle.tla_parser.proofs.Machine.{parse_module}
 use Rattle.tla_parser.proofs.ModuleLaw.{module_whole}
 use Rattle.tla_parser.proofs.Origins.{last_parts, shut_parts}
 use Rattle.tla_parser.proofs.Sound.{module_found, one_module}
-use Rattle.tla_parser.specs.Forms.{Spelled, templates}
 use Rattle.tla_parser.specs.Rules.{Ends, Fine, GoesOn, Good, GoodParts, IsForm, IsModule, Leaves, edge, ends_in_token}
 use Rattle.tla_parser.specs.Signs.{column}
-use Rattle.tla_parser.specs.Written.{From, Parts, Written, bin, class, closed, elements, exp, from, of_module, pre, start, tailed, tok, tokens, tokens_of, top}
+use Rattle.tla_parser.specs.Written.{From, Parts, Written, bin, class, closed, exp, from, of_module, pre, start, tailed, tok, tokens, tokens_of, top}
 use Rattle.tla_parser.specs.declared.moves.Construct.{Construct}
 use Rattle.tla_parser.specs.declared.moves.Mark.TheVariants.{Finished}
-use Rattle.tla_parser.specs.declared.moves.Next.{Next}
 use Rattle.tla_parser.specs.declared.moves.Next.TheVariants.{Fail, Reads}
 use Rattle.tla_parser.specs.inner.Derivations.{IsTableModule, TableEnds, TableFine, TableGood, TableLeaves, TableParts, ahead, delta, form_of, given, inner, is_last, is_shut}
 use Rattle.tla_parser.specs.inner.Recognition.{is_fail}

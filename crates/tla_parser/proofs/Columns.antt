@@ -1,8 +1,8 @@
 -- The column that the table keeps for a list of bullets is that of its first bullet.
-use Rattle.std.proofs.Common.{ℕ, suc, Bool, true, false, cond, not, ◌≡◌, ◌⊎◌, ◌+◌, inl, inr, ◌&&◌, ◌||◌, ◌==◌, refl, sym, ap, arith, eqb-true, ◌∙◌}
+use Rattle.std.proofs.Common.{ℕ, Bool, true, false, cond, ◌≡◌, ◌⊎◌, ◌+◌, inl, inr, ◌&&◌, ◌||◌, ◌==◌, refl, sym, ap, arith, eqb-true, ◌∙◌}
 use Rattle.tla_lexer.specs.declared.token.Token.{Token as Tok}
 use Rattle.tla_parser.proofs.Basics.{and_both, either, or_cases}
-use Rattle.tla_parser.proofs.MarkKinds.{heads_kind, insteads_kind, is_bullets, is_list, kinded, kinded_move, plain_kind, postfixes_kind, rows_kind}
+use Rattle.tla_parser.proofs.MarkKinds.{heads_kind, insteads_kind, is_bullets, kinded, kinded_move, plain_kind, postfixes_kind, rows_kind}
 use Rattle.tla_parser.proofs.Laws.{delta-off, is_failed}
 use Rattle.tla_parser.proofs.TableLaw.{is_lasting, is_wanting}
 use Rattle.tla_parser.specs.Operators.{is_bullet, same_sign}
@@ -11,14 +11,14 @@ use Rattle.tla_parser.specs.Signs.{column, sign}
 use Rattle.tla_parser.specs.Written.{Parts, class, exp, from, start, tok, top}
 use Rattle.tla_parser.specs.declared.moves.Class.{Class}
 use Rattle.tla_parser.specs.declared.moves.Mark.{Mark}
-use Rattle.tla_parser.specs.declared.moves.Mark.TheVariants.{AtTop, Bullets, InElse}
+use Rattle.tla_parser.specs.declared.moves.Mark.TheVariants.{AtTop, Bullets}
 use Rattle.tla_parser.specs.declared.moves.Next.{Next}
 use Rattle.tla_parser.specs.declared.moves.Next.TheVariants.{Fail, Last, Reads, Shut, Wants}
 use Rattle.tla_parser.specs.declared.moves.Seen.{Seen}
 use Rattle.tla_parser.specs.declared.signs.Sign.{Sign}
 use Rattle.tla_parser.specs.declared.signs.Sign.TheVariants.{Number}
 use Rattle.tla_parser.specs.inner.Derivations.{ahead, delta, given, inner, look, mark_column, point, resumed}
-use Rattle.tla_parser.specs.inner.Moves.{begin, behind_op, body_rows, bracket_rows, fair_rows, filled, fold_rows, found, goes_on, heads, hungry, in_units, insteads, listed_heads, local_heads, local_rows, module_heads, moved, name_heads, next_bullet, off, opens, postfixes, reading, recursive_heads, rows, subscript_heads, tuple_rows, unit_heads, update_heads, update_rows}
+use Rattle.tla_parser.specs.inner.Moves.{found, goes_on, heads, in_units, insteads, moved, next_bullet, off, opens, postfixes, rows}
 use Rattle.tla_parser.specs.inner.Recognition.{is_fail}
 
 wants_level : (m : Mark) → (is_wanting m || in_units m) ≡ true → mark_column m ≡ 0

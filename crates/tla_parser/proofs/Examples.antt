@@ -18,7 +18,7 @@ use Rattle.tla_parser.specs.declared.moves.Construct.TheVariants.{CasesOther, Co
 use Rattle.tla_parser.specs.declared.signs.Sign.{Sign}
 use Rattle.tla_parser.specs.declared.signs.Sign.TheVariants.{Arrow, CaseWord, Colon, Comma, Dashes, Defines, Element, EndSign, ExistsSign, ExtendsWord, InstanceWord, LeftBrace, LeftParen, LocalWord, ModuleWord, OtherWord, Plus, Replaces, RightBrace, RightParen, Square, VariableWord, Vee, Wedge, WithWord, Word}
 use Rattle.tla_parser.specs.Written.{Written, bin, class_infix, class_of, closed, form_levels, levels, pre, tailed}
-use Rattle.tla_parser.specs.inner.Derivations.{ahead, delta, form_of, mark_column}
+use Rattle.tla_parser.specs.inner.Derivations.{delta, mark_column}
 use Rattle.tla_parser.specs.inner.Moves.{body_rows, bracket_rows, ends_as, fair_rows, fold_rows, goes_on, heads, in_braces, in_brackets, insteads, listed_heads, local_heads, local_rows, module_heads, moved, name_heads, opens, postfixes, recursive_heads, rows, subscript_heads, tuple_rows, unit_heads, unit_rows, update_heads, update_rows}
 
 abbrev token_at : ℕ → TokenKind → Tok

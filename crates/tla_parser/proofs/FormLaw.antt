@@ -4,8 +4,8 @@ use Rattle.tla_lexer.specs.declared.token.Token.{Token as Tok}
 use Rattle.tla_parser.proofs.Basics.{either, or_cases}
 use Rattle.tla_parser.proofs.Columns.{columns, kept_column}
 use Rattle.tla_parser.proofs.Endings.{bullets_end, ending, finish, has_any, item_ends, last_ends, reads_finish, residue_ends, wants_end, wants_finish}
-use Rattle.tla_parser.proofs.Laws.{clash, delta-off, is_failed, negated, stays_in}
-use Rattle.tla_parser.proofs.MarkKinds.{is_bullets, is_list, kinded, kinded_ahead, kinded_move, plain_kind}
+use Rattle.tla_parser.proofs.Laws.{is_failed, negated, stays_in}
+use Rattle.tla_parser.proofs.MarkKinds.{is_bullets, kinded, kinded_ahead, kinded_move}
 use Rattle.tla_parser.proofs.Origins.{ahead_stays}
 use Rattle.tla_parser.proofs.TableLaw.{along, behind_all, begins, bullet_on, bullets_left, is_lasting, is_reading, is_wanting, left_of, list_left, postfix_law, residue}
 use Rattle.tla_parser.proofs.TableRows.{heads_law, last_law, lasting_law, quiet_law, wanted_law, wants_law}
@@ -18,7 +18,6 @@ use Rattle.tla_parser.specs.Written.{Parts, class, elements, exp, from, of_modul
 use Rattle.tla_parser.specs.declared.moves.Class.{Class}
 use Rattle.tla_parser.specs.declared.moves.Class.TheVariants.{Other}
 use Rattle.tla_parser.specs.declared.moves.Construct.{Construct}
-use Rattle.tla_parser.specs.declared.moves.Construct.TheVariants.{Junction}
 use Rattle.tla_parser.specs.declared.moves.Mark.{Mark}
 use Rattle.tla_parser.specs.declared.moves.Mark.TheVariants.{Bullets}
 use Rattle.tla_parser.specs.declared.moves.Next.{Next}
@@ -26,7 +25,7 @@ use Rattle.tla_parser.specs.declared.moves.Next.TheVariants.{Fail, Last, Reads, 
 use Rattle.tla_parser.specs.declared.moves.Seen.{Seen}
 use Rattle.tla_parser.specs.declared.signs.Sign.{Sign}
 use Rattle.tla_parser.specs.inner.Derivations.{ahead, delta, form_of, given, inner, is_last, is_shut, look, mark_column, point, resumed}
-use Rattle.tla_parser.specs.inner.Moves.{begin, behind_op, body_rows, bracket_rows, ends_as, fair_rows, filled, fold_rows, found, goes_on, heads, hungry, in_units, insteads, listed_heads, local_heads, local_rows, module_heads, moved, name_heads, next_bullet, off, opens, postfixes, reading, recursive_heads, rows, subscript_heads, tuple_rows, unit_heads, update_heads, update_rows}
+use Rattle.tla_parser.specs.inner.Moves.{ends_as, found, goes_on, in_units, moved, next_bullet, rows}
 use Rattle.tla_parser.specs.inner.Recognition.{is_fail}
 
 -- ---- behind a token and behind an operand

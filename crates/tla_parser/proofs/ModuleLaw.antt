@@ -1,5 +1,5 @@
 -- The parts of a module lead where its template leads.
-use Rattle.std.proofs.Common.{◌↔◌, Bool, true, false, ◌≡◌, ◌||◌, List, [], ◌∷◌, ◌++◌, refl, sym, ap, subst, append-nil, ◌∙◌}
+use Rattle.std.proofs.Common.{◌↔◌, Bool, true, false, ◌≡◌, List, [], ◌∷◌, ◌++◌, refl, sym, ap, subst, ◌∙◌}
 use Rattle.tla_lexer.specs.declared.token.Token.{Token as Tok}
 use Rattle.tla_parser.proofs.FormLaw.{Regular}
 use Rattle.tla_parser.proofs.Laws.{clash, stays_in}
@@ -7,7 +7,6 @@ use Rattle.tla_parser.proofs.ModuleRows.{heading_ends, heading_left, operand_end
 use Rattle.tla_parser.proofs.Origins.{ahead_stays}
 use Rattle.tla_parser.proofs.Templates.{behind_part, can_end, can_matches, matches_can, matches_part, part_matches}
 use Rattle.tla_parser.specs.Forms.{Form, FormPart, Matches, a_token, an_operand, module_form}
-use Rattle.tla_parser.specs.Rules.{ends_in_token}
 use Rattle.tla_parser.specs.Signs.{sign}
 use Rattle.tla_parser.specs.Written.{Parts, class, elements, exp, from, of_module, start, tok, top}
 use Rattle.tla_parser.specs.declared.moves.Class.{Class}
@@ -16,8 +15,8 @@ use Rattle.tla_parser.specs.declared.moves.Mark.TheVariants.{AtTop, Bullets, Fin
 use Rattle.tla_parser.specs.declared.moves.Next.{Next}
 use Rattle.tla_parser.specs.declared.moves.Next.TheVariants.{Fail, Last, Reads, Shut, Wants}
 use Rattle.tla_parser.specs.declared.moves.Seen.{Seen}
-use Rattle.tla_parser.specs.inner.Derivations.{ahead, delta, given, look, point, resumed}
-use Rattle.tla_parser.specs.inner.Moves.{body_rows, bracket_rows, fair_rows, fold_rows, found, goes_on, in_units, is_finished, local_rows, moved, rows, tuple_rows, update_rows}
+use Rattle.tla_parser.specs.inner.Derivations.{ahead, delta, given, look, resumed}
+use Rattle.tla_parser.specs.inner.Moves.{found, goes_on, in_units, is_finished, moved, rows}
 
 units_goes : (m : Mark) (k : Class) (u : Seen) → in_units m ≡ true → goes_on m k u ≡ found u.sign (rows m k)
 unfolding goes_on in_units

@@ -1,13 +1,13 @@
 -- The table of a module's units is equal to the template of a module, from each place in it: by computing, for every
 -- token.
-use Rattle.std.proofs.Common.{Bool, true, false, cond, ◌≡◌, List, [], ◌∷◌, refl}
+use Rattle.std.proofs.Common.{Bool, true, false, ◌≡◌, List, [], ◌∷◌, refl}
 use Rattle.tla_parser.proofs.Templates.{behind_part, can_end}
 use Rattle.tla_parser.specs.Forms.{Form, FormPart, a_token, an_operand, module_form, never}
 use Rattle.tla_parser.specs.Operators.{number_of}
 use Rattle.tla_parser.specs.declared.moves.Class.{Class}
 use Rattle.tla_parser.specs.declared.moves.Class.TheVariants.{BareName, FoldName, Joined, Member, Other, PathName}
 use Rattle.tla_parser.specs.declared.moves.Mark.{Mark}
-use Rattle.tla_parser.specs.declared.moves.Mark.TheVariants.{AtTop, BehindArity, BehindBlank, BehindDeclared, BehindExtended, BehindHeader, BehindInstance, BehindRecursive, BehindSubstituted, BehindUnitArgument, BehindUnitParameter, BetweenUnits, Bullets, DeclaredName, ExtendedName, Finished, InAssumption, InBody, InNamedAssumption, InNamedStatement, InPlainBody, InReplacement, InStatement, InUnitSet, InstanceName, LocalUnit, ModuleHead, ModuleName, ModuleNamed, RecursiveBlank, RecursiveName, Substituted, UnitArgument, UnitDefines, UnitHead, UnitParameter}
+use Rattle.tla_parser.specs.declared.moves.Mark.TheVariants.{AtTop, BehindArity, BehindBlank, BehindDeclared, BehindExtended, BehindHeader, BehindInstance, BehindRecursive, BehindSubstituted, BehindUnitArgument, BehindUnitParameter, BetweenUnits, DeclaredName, ExtendedName, Finished, InAssumption, InBody, InNamedAssumption, InNamedStatement, InPlainBody, InReplacement, InStatement, InUnitSet, InstanceName, LocalUnit, ModuleHead, ModuleName, ModuleNamed, RecursiveBlank, RecursiveName, Substituted, UnitArgument, UnitDefines, UnitHead, UnitParameter}
 use Rattle.tla_parser.specs.declared.moves.Next.{Next}
 use Rattle.tla_parser.specs.declared.moves.Next.TheVariants.{Fail, Last, Reads, Shut, Wants}
 use Rattle.tla_parser.specs.declared.signs.Sign.{Sign}

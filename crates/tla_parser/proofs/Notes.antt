@@ -1,5 +1,5 @@
 -- Runs of bytes, and beginnings.
-use Rattle.std.proofs.Common.{ℕ, zero, suc, Bool, true, false, cond, not, List, Option, Some, None, IfSome, IfNone, take, drop, length, get_or, ◌≡◌, ◌≤◌, ◌<◌, ◌+◌, ◌-◌, ◌∷◌, ◌++◌, ◌==◌, ◌&&◌, [], refl, sym, ap, arith, append_assoc, eqb-true, eq-eqb, inl, inr, ◌∙◌}
+use Rattle.std.proofs.Common.{ℕ, zero, suc, Bool, true, cond, List, Option, Some, None, IfSome, IfNone, take, drop, length, get_or, ◌≡◌, ◌≤◌, ◌<◌, ◌+◌, ◌-◌, ◌∷◌, ◌++◌, ◌==◌, [], refl, sym, ap, arith, append_assoc, eqb-true, eq-eqb, inl, inr, ◌∙◌}
 use Rattle.std.specs.List.{list_all}
 use Rattle.std.specs.Prelude.{MatchOption}
 use Rattle.std.proofs.Math.Seq.{drop-cons}

@@ -1,5 +1,5 @@
 -- What was read, one token later.
-use Rattle.std.proofs.Common.{ℕ, Bool, true, false, List, Option, Some, None, IfSome, ◌≡◌, ◌⊎◌, ◌∷◌, ◌++◌, [], refl, sym, ap, append_assoc, ◌∙◌}
+use Rattle.std.proofs.Common.{true, List, Option, Some, None, IfSome, ◌≡◌, ◌∷◌, ◌++◌, [], refl, sym, ap, append_assoc, ◌∙◌}
 use Rattle.tla_lexer.specs.declared.token.Token.{Token}
 use Rattle.tla_meaning.specs.declared.place.Place.{Place}
 use Rattle.tla_parser.specs.Refused.{Follows, Shows, Stands, before_names, last_of}

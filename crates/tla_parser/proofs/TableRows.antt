@@ -1,16 +1,15 @@
 -- The table of forms is equal to the templates, behind operands and in their place, and at every mark.
-use Rattle.std.proofs.Common.{Bool, true, false, cond, ◌≡◌, ◌&&◌, not, List, [], ◌∷◌, refl}
+use Rattle.std.proofs.Common.{Bool, true, false, ◌≡◌, [], refl}
 use Rattle.tla_parser.specs.Operators.{number_of}
 use Rattle.tla_parser.specs.inner.Moves.{body_rows, bracket_rows, fair_rows, fold_rows, found, heads, in_braces, in_brackets, in_units, insteads, listed_heads, local_heads, local_rows, module_heads, name_heads, opens, postfixes, recursive_heads, rows, subscript_heads, tuple_rows, unit_heads, update_heads, update_rows}
-use Rattle.tla_parser.specs.Forms.{a_token, an_operand, Template, templates}
+use Rattle.tla_parser.specs.Forms.{a_token, an_operand, templates}
 use Rattle.tla_parser.specs.declared.signs.Sign.{Sign}
 use Rattle.tla_parser.specs.declared.signs.Sign.TheVariants.{Number}
 use Rattle.tla_parser.specs.declared.moves.Class.{Class}
 use Rattle.tla_parser.specs.declared.moves.Class.TheVariants.{BareName, FoldName, Joined, Member, Other, PathName}
 use Rattle.tla_parser.specs.declared.moves.Mark.{Mark}
 use Rattle.tla_parser.specs.declared.moves.Mark.TheVariants.{ArgumentName, AtTop, BangName, BehindArgument, BehindArity, BehindBlank, BehindBoundName, BehindChosen, BehindDeclared, BehindExtended, BehindFoldFirst, BehindFoldSecond, BehindHeader, BehindInstance, BehindLocalArgument, BehindMapped, BehindOther, BehindParameter, BehindQuantified, BehindRecursive, BehindSetName, BehindStep, BehindSubstituted, BehindUnitArgument, BehindUnitParameter, BehindValueName, BetweenUnits, Bullets, ChoiceBody, ChosenName, DeclaredName, ExtendedName, FairOpens, FairSubscript, FieldName, Finished, FoldFirst, FoldSecond, InArgumentSet, InArm, InAssumption, InBody, InBound, InBracket, InCall, InChoiceSet, InDefinition, InElse, InFair, InFairParen, InFairTuple, InFieldSet, InFieldValue, InFilter, InFold, InFoldBody, InFoldSequence, InFoldStart, InFunctionBody, InGuard, InIf, InIndex, InItems, InLocalSet, InMappedSet, InMoreFair, InMoreItems, InMoreSubscript, InMoreTuple, InNamedAssumption, InNamedStatement, InNextGuard, InOther, InParen, InPlainBody, InReplacement, InResultSet, InStatement, InSubscriptParen, InSubscriptTuple, InThen, InTuple, InUnitSet, InUpdateIndex, InUpdateValue, InstanceName, LocalArgument, LocalBody, LocalDefines, LocalHead, LocalName, LocalParameter, LocalUnit, MappedName, ModuleHead, ModuleName, ModuleNamed, NextBoundName, QuantifiedName, QuantifierBody, RecursiveBlank, RecursiveName, SetName, Subscript, Substituted, UnitArgument, UnitDefines, UnitHead, UnitParameter, UpdateBang, UpdateField, UpdatePath, ValueName}
-use Rattle.tla_parser.specs.declared.moves.Next.{Next}
-use Rattle.tla_parser.specs.declared.moves.Next.TheVariants.{Reads, Wants, Last, Shut, Fail}
+use Rattle.tla_parser.specs.declared.moves.Next.TheVariants.{Reads, Wants, Last}
 use Rattle.tla_parser.proofs.TableLaw.{behind_all, residue, is_reading, is_wanting, is_lasting, left_of, list_left, bullets_left, bullet_token, heads_FairSubscript, heads_QuantifiedName, heads_ChosenName, heads_LocalName, heads_FieldName, heads_BangName, heads_MappedName, heads_ArgumentName, heads_UpdateBang, heads_Subscript, heads_FairOpens, heads_BehindQuantified, heads_BehindChosen, heads_LocalHead, heads_FoldFirst, heads_BehindMapped, heads_ValueName, heads_BehindArgument, heads_SetName, heads_UpdatePath, heads_LocalParameter, heads_LocalArgument, heads_BehindFoldFirst, heads_BehindValueName, heads_BehindSetName, heads_UpdateField, heads_NextBoundName, heads_BehindOther, heads_BehindParameter, heads_BehindLocalArgument, heads_FoldSecond, heads_BehindStep, heads_BehindBoundName, heads_LocalDefines, heads_BehindFoldSecond}
 
 all_open : Bool

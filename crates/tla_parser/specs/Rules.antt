@@ -1,6 +1,6 @@
 -- The rules by which expressions and modules are written. Source: Specifying Systems, sections 15.1 and 15.2.
 use Rattle.tla_lexer.specs.declared.token.Token.{Token as Tok}
-use Rattle.std.specs.Prelude.{ℕ, suc, Bool, true, false, cond, List, ◌≡◌, ◌+◌, ◌<◌, ◌≤◌, ◌⊎◌, ◌∷◌, ◌++◌, []}
+use Rattle.std.specs.Prelude.{ℕ, suc, Bool, true, false, cond, List, ◌≡◌, ◌+◌, ◌<◌, ◌≤◌, ◌⊎◌, ◌∷◌, ◌++◌}
 use Rattle.tla_parser.specs.Forms.{FormPart, Matches, Spelled, a_token, module_form, templates}
 use Rattle.tla_parser.specs.Operators.{after, hi, is_bullet, is_prefix, lo, prefix_hi, prefix_lo, same}
 use Rattle.tla_parser.specs.Signs.{column, sign}

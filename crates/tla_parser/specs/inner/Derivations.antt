@@ -1,6 +1,6 @@
 -- Expressions and modules token by token, by the parser's table, and what the parser reads of them.
 use Rattle.tla_lexer.specs.declared.token.Token.{Token as Tok}
-use Rattle.std.specs.Prelude.{ℕ, suc, Bool, true, false, cond, max, List, ◌≡◌, ◌+◌, ◌<◌, ◌≤◌, ◌⊎◌, ◌∷◌, ◌++◌, []}
+use Rattle.std.specs.Prelude.{ℕ, suc, Bool, true, false, List, ◌≡◌, ◌+◌, ◌<◌, ◌⊎◌, ◌∷◌, ◌++◌, []}
 use Rattle.tla_parser.specs.Operators.{after, hi, is_prefix, lo, prefix_hi, prefix_lo, same}
 use Rattle.tla_parser.specs.Rules.{Above}
 use Rattle.tla_parser.specs.Signs.{column, sign}

@@ -1,4 +1,4 @@
-use Rattle.std.proofs.Common.{List, [], Option, subst, sym, ap, ◌∷◌, ◌++◌, ◌∙◌}
+use Rattle.std.proofs.Common.{[], Option, subst, sym, ap, ◌∷◌, ◌++◌, ◌∙◌}
 use Rattle.tla_meaning.specs.declared.place.Place.{Place}
 use Rattle.tla_parser.proofs.Refused.{before_next, shown_later}
 use Rattle.tla_parser.specs.declared.fault.Syntax.{Syntax}
