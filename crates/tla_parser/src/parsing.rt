@@ -168,7 +168,8 @@ fn checked(tree: Module, places: &Places) -> Result<Module, ParseFault>
 
 /// The module that the tokens spell. (Lamport, Specifying Systems, chapters 15 and 17.)
 ///
-/// There is at least one token. A refusal names where the first unit begins that is not whole, the first token where no
+/// There is at least one token. The aliases are those that the notes of the tokens give, `@typeAlias: name = T;`, in their
+/// order, each with its T as it is written. A refusal names where the first unit begins that is not whole, the first token where no
 /// header stands, or the last where no unit is left; the unit that has more than 400 levels; or the place of a form that
 /// is read nowhere. Parentheses make no level. The time is in proportion to the tokens, and memory too, but for sets that
 /// several names share, of which at most 1,048,576 nodes are copied; past them memory counts as wanting.
