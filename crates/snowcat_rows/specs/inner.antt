@@ -1,0 +1,4 @@
+pub mod Lookups
+pub mod Measures
+pub mod Places
+pub mod Rounds

@@ -1,0 +1,18 @@
+//! Types with rows, and their unification.
+//!
+//! The types of the Apalache type system 1.2 ("Type System 1.2: Type annotations", Apalache manual): uninterpreted types,
+//! sets, sequences, functions, tuples, operators, and records that may be open, that is, end in a variable which stands
+//! for a row of further fields. Field names of one record differ, and their order tells nothing.
+#![tactic(auto)]
+
+mod bindings;
+mod differences;
+mod occurrences;
+mod places;
+mod records;
+mod replacement;
+mod substitution;
+mod types;
+
+pub use substitution::{Subst, UnifyFault};
+pub use types::{Ty, copy_type};
