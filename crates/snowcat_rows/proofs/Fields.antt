@@ -18,14 +18,14 @@ use Rattle.snowcat_rows.proofs.Means.{lookup-append}
 pub has_first : (f : List ℕ × Ty) (fs : List (List ℕ × Ty)) (n : List ℕ) → f.0 ≡ n → has (f ∷ fs) n ≡ some (mean f.1)
 has_first f fs n e = let k : bytes_eq f.0 n ≡ true = (bytes_eq-Decides f.0 n).1 e in rw k refl
 
-has_later : (f : List ℕ × Ty) (fs : List (List ℕ × Ty)) (n : List ℕ) → (f.0 ≡ n → ⊥) → has (f ∷ fs) n ≡ has fs n
+pub has_later : (f : List ℕ × Ty) (fs : List (List ℕ × Ty)) (n : List ℕ) → (f.0 ≡ n → ⊥) → has (f ∷ fs) n ≡ has fs n
 has_later f fs n h =
     elim (cases_Bool (bytes_eq f.0 n)) [
       | inl e ↦ absurd (h ((bytes_eq-Decides f.0 n).0 e))
       | inr e ↦ rw e refl
     ]
 
-name_cases : (a n : List ℕ) → (a ≡ n) ⊎ (a ≡ n → ⊥)
+pub name_cases : (a n : List ℕ) → (a ≡ n) ⊎ (a ≡ n → ⊥)
 name_cases a n = elim (cases_Bool (bytes_eq a n)) [ inl e ↦ inl ((bytes_eq-Decides a n).0 e) | inr e ↦ inr (λ h. absurd (contrary ((bytes_eq-Decides a n).1 h) e)) ]
   where
     contrary : bytes_eq a n ≡ true → bytes_eq a n ≡ false → ⊥
@@ -41,7 +41,7 @@ opened fs i f lt e = drop-cons fs i f lt ∙ ap (λ t. t ∷ drop (suc i) fs) (s
 abbrev pub Left : (List ℕ → Type 0) → List (List ℕ × Ty) → Type 0
 Left P fs = (n : List ℕ) → P n → Is (has fs n)
 
-is_at : (a b : Slot) → a ≡ b → Is a → Is b
+pub is_at : (a b : Slot) → a ≡ b → Is a → Is b
 is_at a b e i = let P : Slot → Type 0 = λ z. Is z in subst P e i
 
 pub left_next : (P : List ℕ → Type 0) (fs : List (List ℕ × Ty)) (i j : ℕ) (f : List ℕ × Ty) → i < length fs → f ≡ get_or fs i f → j ≡ suc i → (P f.0 → ⊥) → Left P (drop i fs) →

@@ -1,3 +1,4 @@
+pub mod Below
 pub mod Lookups
 pub mod Measures
 pub mod Places

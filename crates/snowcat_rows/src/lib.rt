@@ -14,5 +14,6 @@ mod replacement;
 mod substitution;
 mod types;
 
+pub use occurrences::is_within;
 pub use substitution::{Subst, UnifyFault};
 pub use types::{Ty, copy_type};

@@ -4,6 +4,8 @@ ghost use Rattle.std.specs.Bool.{MatchBool};
 ghost use Rattle.snowcat_rows.specs.Types.{mean, row};
 ghost use Rattle.snowcat_rows.specs.Chains.{Ends, Occurs, OccursSlot, Stands};
 ghost use Rattle.snowcat_rows.specs.Codes.{has, variable};
+ghost use Rattle.snowcat_rows.specs.Sorting.{Within};
+ghost use Rattle.snowcat_rows.specs.inner.Below.{Below, EndBelow, FieldsBelow};
 
 use crate::records::find;
 use crate::types::Ty;
@@ -84,4 +86,69 @@ pub(crate) fn occurs_fields(x: Unknown, fs: &[(Text, Ty)]) -> bool
         }
     }
     false
+}
+
+/// Whether each variable of the type is numbered below the limit, as [`Subst::unify`](crate::Subst::unify) asks of the
+/// number of issued variables.
+pub fn is_within(t: &Ty, limit: u32) -> bool
+    ensures { MatchBool result (Within limit (mean t.now)) (Within limit (mean t.now) → ⊥) }
+{
+    is_below(t, limit)
+}
+
+#[tactic(auto, using(crate::proofs::Means::means))]
+#[cycle(below)]
+fn is_below(t: &Ty, limit: u32) -> bool
+    ensures { MatchBool result (Below limit (mean t.now)) (Below limit (mean t.now) → ⊥) }
+{
+    match t {
+        Ty::Bool => true,
+        Ty::Int => true,
+        Ty::Str => true,
+        Ty::Named(_) => true,
+        Ty::Var(w) => *w < limit,
+        Ty::Set(a) => is_below(a, limit),
+        Ty::Seq(a) => is_below(a, limit),
+        Ty::Fun(a, b) => is_below(a, limit) && is_below(b, limit),
+        Ty::Tup(ts) => are_below(ts.as_slice(), limit),
+        Ty::Rec(fs, tail) => fields_below(fs.as_slice(), limit) && is_end_below(*tail, limit),
+        Ty::Oper(ts, b) => are_below(ts.as_slice(), limit) && is_below(b, limit),
+    }
+}
+
+fn is_end_below(tail: Option<u32>, limit: u32) -> bool
+    ensures { MatchBool result (EndBelow limit tail) (EndBelow limit tail → ⊥) }
+{
+    match tail {
+        Some(r) => r < limit,
+        None => true,
+    }
+}
+
+#[tactic(auto, using(crate::proofs::Means::means))]
+#[cycle(below)]
+fn are_below(ts: &[Ty], limit: u32) -> bool
+    ensures { MatchBool result (Below limit (row (map mean ts.now))) (Below limit (row (map mean ts.now)) → ⊥) }
+{
+    for i in 0..ts.len() {
+        if !is_below(&ts[i], limit) {
+            return false;
+        }
+    }
+    true
+}
+
+#[tactic(auto, using(crate::proofs::Means::means))]
+#[cycle(below)]
+fn fields_below(fs: &[(Text, Ty)], limit: u32) -> bool
+    ensures { MatchBool result (FieldsBelow limit (has fs.now)) (FieldsBelow limit (has fs.now) → ⊥) }
+{
+    for f in fs {
+        if let Some(i) = find(fs, &f.0) {
+            if !is_below(&fs[i].1, limit) {
+                return false;
+            }
+        }
+    }
+    true
 }
