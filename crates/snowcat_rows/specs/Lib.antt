@@ -3,6 +3,7 @@ pub mod Codes
 pub mod Sorting
 pub mod Substitutions
 pub mod Types
+pub mod Texts
 pub mod Unifying
 pub mod Views
 pub mod inner

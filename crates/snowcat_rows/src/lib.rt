@@ -11,9 +11,11 @@ mod occurrences;
 mod places;
 mod records;
 mod replacement;
+mod showing;
 mod substitution;
 mod types;
 
 pub use occurrences::is_within;
+pub use showing::{Form, show_type};
 pub use substitution::{Subst, UnifyFault};
 pub use types::{Ty, copy_type};
