@@ -65,7 +65,7 @@ text-Tup ts = text_is (Tup ts) _ (outs-Tup ts) ∙ ap (λ l. codes "<<" ++ items
 
 pub text-Rec : (fs : List (List ℕ × Ty)) (k : Option ℕ) →
     type_text (Rec fs k) ≡ codes "{" ++ fields_text (map typed_field fs) ++ tail_text (length fs) k ++ codes "}"
-text-Rec fs k = 
+text-Rec fs k =
     text_is (Rec fs k) _ (outs-Rec fs k) ∙ ap (λ l. codes "{" ++ fields_text l ++ tail_text (length (map shown_field fs)) k ++ codes "}") (fields_of fs)
     ∙ ap (λ n. codes "{" ++ fields_text (map typed_field fs) ++ tail_text n k ++ codes "}") (length-map fs shown_field)
 

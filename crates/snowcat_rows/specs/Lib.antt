@@ -1,9 +1,11 @@
 pub mod Chains
 pub mod Codes
+pub mod LiteralTypes
 pub mod Sorting
 pub mod Substitutions
 pub mod Types
 pub mod Texts
 pub mod Unifying
+pub mod Values
 pub mod Views
 pub mod inner
