@@ -34,7 +34,10 @@ pub(crate) fn bound_by(b: &Bound) -> Unknown
 // Binds a type variable, unless it stands in the type.
 fn bind_type(alloc: Global, bindings: &mut Vec<Bound>, v: u32, t: &Ty) -> Result<bool, AllocError>
     ensures prefix { Begins bindings.old.items bindings.new.items }
-    ensures ok { IfOk result (λ b. MatchBool b ((Occurs (type_var v) (mean t.now) → ⊥) × (bindings_of bindings.new.items ≡ bindings_of bindings.old.items ++ to_type v (mean t.now) ∷ [])) (Occurs (type_var v) (mean t.now))) }
+    ensures ok { IfOk result (λ b. MatchBool b
+        ((Occurs (type_var v) (mean t.now) → ⊥)
+        × (bindings_of bindings.new.items ≡ bindings_of bindings.old.items ++ to_type v (mean t.now) ∷ []))
+        (Occurs (type_var v) (mean t.now))) }
 {
     if occurs(Unknown::Type(v), t) {
         return Ok(false);
@@ -52,7 +55,11 @@ fn bind_row(
     tail: Option<u32>,
 ) -> Result<bool, AllocError>
     ensures prefix { Begins bindings.old.items bindings.new.items }
-    ensures ok { IfOk result (λ b. MatchBool b ((OccursRow (row_var r) (row_of (has fields.items) tail) → ⊥) × (bindings_of bindings.new.items ≡ bindings_of bindings.old.items ++ to_row r (row_of (has fields.items) tail) ∷ [])) (OccursRow (row_var r) (row_of (has fields.items) tail))) }
+    ensures ok { IfOk result (λ b. MatchBool b
+        ((OccursRow (row_var r) (row_of (has fields.items) tail) → ⊥)
+        × (bindings_of bindings.new.items
+        ≡ bindings_of bindings.old.items ++ to_row r (row_of (has fields.items) tail) ∷ []))
+        (OccursRow (row_var r) (row_of (has fields.items) tail))) }
 {
     if occurs_fields(Unknown::Row(r), fields.as_slice()) || is_end(Unknown::Row(r), tail) {
         return Ok(false);
@@ -72,7 +79,10 @@ fn bind_both(
     right: Vec<(Text, Ty)>,
 ) -> Result<bool, AllocError>
     ensures prefix { Begins bindings.old.items bindings.new.items }
-    ensures ok { IfOk result (λ b. MatchBool b (BothBound r (has left.items) q (has right.items) issued (bindings_of bindings.old.items) (bindings_of bindings.new.items)) (NoneBound r (has left.items) q (has right.items) issued)) }
+    ensures ok { IfOk result (λ b. MatchBool b
+        (BothBound r (has left.items) q (has right.items) issued
+        (bindings_of bindings.old.items) (bindings_of bindings.new.items))
+        (NoneBound r (has left.items) q (has right.items) issued)) }
 {
     if occurs_fields(Unknown::Row(r), left.as_slice()) {
         return Ok(false);
@@ -101,7 +111,10 @@ fn advance_rows(
     requires common { Common (has fs.now) (has gs.now) }
     requires unequal { fields (has fs.now) k ≡ fields (has gs.now) j → ⊥ }
     ensures prefix { Begins bindings.old.items bindings.new.items }
-    ensures ok { IfOk result (λ b. MatchBool b (Advances (fields (has fs.now) k) (fields (has gs.now) j) issued.old (bindings_of bindings.old.items) (bindings_of bindings.new.items) issued.new) (Stuck (fields (has fs.now) k) (fields (has gs.now) j) issued.old)) }
+    ensures ok { IfOk result (λ b. MatchBool b
+        (Advances (fields (has fs.now) k) (fields (has gs.now) j) issued.old
+        (bindings_of bindings.old.items) (bindings_of bindings.new.items) issued.new)
+        (Stuck (fields (has fs.now) k) (fields (has gs.now) j) issued.old)) }
 {
     if is_same_end(k, j) {
         return Ok(false);
@@ -166,7 +179,10 @@ pub(crate) fn advance(
 ) -> Result<bool, AllocError>
     requires { Unlike (mean x.now) (mean y.now) }
     ensures prefix { Begins bindings.old.items bindings.new.items }
-    ensures ok { IfOk result (λ b. MatchBool b (Advances (mean x.now) (mean y.now) issued.old (bindings_of bindings.old.items) (bindings_of bindings.new.items) issued.new) (Stuck (mean x.now) (mean y.now) issued.old)) }
+    ensures ok { IfOk result (λ b. MatchBool b
+        (Advances (mean x.now) (mean y.now) issued.old
+        (bindings_of bindings.old.items) (bindings_of bindings.new.items) issued.new)
+        (Stuck (mean x.now) (mean y.now) issued.old)) }
 {
     match x {
         Ty::Var(v) => {

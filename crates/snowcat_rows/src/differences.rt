@@ -12,7 +12,8 @@ use tla_values::Text;
 #[tactic(auto, using(crate::proofs::Means::means))]
 #[cycle(difference)]
 pub(crate) fn difference<'a>(a: &'a Ty, b: &'a Ty) -> Option<(&'a Ty, &'a Ty)>
-    ensures { MatchOption result (mean a.now ≡ mean b.now) (λ p. Differ (mean a.now) (mean b.now) (mean p.0.now) (mean p.1.now)) }
+    ensures { MatchOption result (mean a.now ≡ mean b.now)
+        (λ p. Differ (mean a.now) (mean b.now) (mean p.0.now) (mean p.1.now)) }
 {
     match a {
         Ty::Bool => match b {
@@ -99,7 +100,8 @@ pub(crate) fn difference<'a>(a: &'a Ty, b: &'a Ty) -> Option<(&'a Ty, &'a Ty)>
 #[cycle(difference)]
 fn difference_all<'a>(xs: &'a [Ty], ys: &'a [Ty]) -> Option<(&'a Ty, &'a Ty)>
     requires { length xs.now ≡ length ys.now }
-    ensures { MatchOption result (row (map mean xs.now) ≡ row (map mean ys.now)) (λ p. Differ (row (map mean xs.now)) (row (map mean ys.now)) (mean p.0.now) (mean p.1.now)) }
+    ensures { MatchOption result (row (map mean xs.now) ≡ row (map mean ys.now))
+        (λ p. Differ (row (map mean xs.now)) (row (map mean ys.now)) (mean p.0.now) (mean p.1.now)) }
 {
     for i in 0..xs.len() {
         if let Some(p) = difference(&xs[i], &ys[i]) {
@@ -113,7 +115,8 @@ fn difference_all<'a>(xs: &'a [Ty], ys: &'a [Ty]) -> Option<(&'a Ty, &'a Ty)>
 #[tactic(auto, using(crate::proofs::Means::means))]
 #[cycle(difference)]
 fn difference_fields<'a>(fs: &'a [(Text, Ty)], gs: &'a [(Text, Ty)]) -> Option<(&'a Ty, &'a Ty)>
-    ensures { MatchOption result (Common (has fs.now) (has gs.now)) (λ p. InField (has fs.now) (has gs.now) (mean p.0.now) (mean p.1.now)) }
+    ensures { MatchOption result (Common (has fs.now) (has gs.now))
+        (λ p. InField (has fs.now) (has gs.now) (mean p.0.now) (mean p.1.now)) }
 {
     for f in fs {
         if let Some(i) = find(fs, &f.0) {

@@ -63,7 +63,8 @@ pub(crate) fn is_end(x: Unknown, tail: Option<u32>) -> bool
 #[tactic(auto, using(crate::proofs::Means::means))]
 #[cycle(occurs)]
 fn occurs_all(x: Unknown, ts: &[Ty]) -> bool
-    ensures { MatchBool result (Occurs (variable x) (row (map mean ts.now))) (Occurs (variable x) (row (map mean ts.now)) → ⊥) }
+    ensures { MatchBool result (Occurs (variable x) (row (map mean ts.now)))
+        (Occurs (variable x) (row (map mean ts.now)) → ⊥) }
 {
     for i in 0..ts.len() {
         if occurs(x, &ts[i]) {
@@ -76,7 +77,8 @@ fn occurs_all(x: Unknown, ts: &[Ty]) -> bool
 #[tactic(auto, using(crate::proofs::Means::means))]
 #[cycle(occurs)]
 pub(crate) fn occurs_fields(x: Unknown, fs: &[(Text, Ty)]) -> bool
-    ensures { MatchBool result ((n : Items ℕ) × OccursSlot (variable x) (has fs.now n)) ((n : Items ℕ) → OccursSlot (variable x) (has fs.now n) → ⊥) }
+    ensures { MatchBool result ((n : Items ℕ) × OccursSlot (variable x) (has fs.now n))
+        ((n : Items ℕ) → OccursSlot (variable x) (has fs.now n) → ⊥) }
 {
     for f in fs {
         if let Some(i) = find(fs, &f.0) {
@@ -128,7 +130,8 @@ fn is_end_below(tail: Option<u32>, limit: u32) -> bool
 #[tactic(auto, using(crate::proofs::Means::means))]
 #[cycle(below)]
 fn are_below(ts: &[Ty], limit: u32) -> bool
-    ensures { MatchBool result (Below limit (row (map mean ts.now))) (Below limit (row (map mean ts.now)) → ⊥) }
+    ensures { MatchBool result (Below limit (row (map mean ts.now)))
+        (Below limit (row (map mean ts.now)) → ⊥) }
 {
     for i in 0..ts.len() {
         if !is_below(&ts[i], limit) {

@@ -11,7 +11,9 @@ use tla_values::{Text, copy_text, same_text};
 
 // The number of the first field of that name.
 pub(crate) fn find(fs: &[(Text, Ty)], name: &Text) -> Option<usize>
-    ensures { MatchOption result (has fs.now name.now ≡ none) (λ i. (i < length fs.now) × ((d : Items ℕ × Ty) → has fs.now name.now ≡ some (mean (get_or fs.now i d).1))) }
+    ensures { MatchOption result (has fs.now name.now ≡ none)
+        (λ i. (i < length fs.now) × ((d : Items ℕ × Ty) →
+        has fs.now name.now ≡ some (mean (get_or fs.now i d).1))) }
 {
     for i in 0..fs.len() {
         if same_text(&fs[i].0, name) {
@@ -23,7 +25,8 @@ pub(crate) fn find(fs: &[(Text, Ty)], name: &Text) -> Option<usize>
 
 // Whether the first record has each name of the second.
 pub(crate) fn covers(fs: &[(Text, Ty)], gs: &[(Text, Ty)]) -> bool
-    ensures { MatchBool result (Covers (has fs.now) (has gs.now)) (Covers (has fs.now) (has gs.now) → ⊥) }
+    ensures { MatchBool result (Covers (has fs.now) (has gs.now))
+        (Covers (has fs.now) (has gs.now) → ⊥) }
 {
     for g in gs {
         if find(fs, &g.0).is_none() {
@@ -54,7 +57,8 @@ pub(crate) fn missing(
 
 // Whether the records have the same names and end alike.
 pub(crate) fn is_alike(fs: &[(Text, Ty)], k: Option<u32>, gs: &[(Text, Ty)], j: Option<u32>) -> bool
-    ensures { MatchBool result (SameNames (has fs.now) (has gs.now) × (k ≡ j)) (SameNames (has fs.now) (has gs.now) × (k ≡ j) → ⊥) }
+    ensures { MatchBool result (SameNames (has fs.now) (has gs.now) × (k ≡ j))
+        (SameNames (has fs.now) (has gs.now) × (k ≡ j) → ⊥) }
 {
     covers(gs, fs) && covers(fs, gs) && is_same_end(k, j)
 }

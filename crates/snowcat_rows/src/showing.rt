@@ -103,7 +103,8 @@ fn show_result(t: &Ty, out: &mut Vec<u8>) -> Result<(), AllocError>
 
 #[cycle(show)]
 fn show_tuple(ts: &[Ty], out: &mut Vec<u8>) -> Result<(), AllocError>
-    ensures { OnOk result (out.new.items ≡ out.old.items ++ (codes "<<" ++ items_text (map type_text ts.now) ++ codes ">>")) }
+    ensures { OnOk result (out.new.items ≡ out.old.items
+        ++ (codes "<<" ++ items_text (map type_text ts.now) ++ codes ">>")) }
 {
     append(b"<<", out)?;
     show_items(ts, out)?;

@@ -244,12 +244,14 @@ impl Subst {
         Ok(settled)
     }
 
-    /// Makes the types equal by the most general substitution that extends this one. Each variable of the types is one
-    /// that this substitution issued, and each row variable stands after the same field names wherever it stands.
+    /// Makes the types equal by the most general substitution that extends this one. Each variable of
+    /// the types is one that this substitution issued ([`is_within`](crate::is_within) tells), and
+    /// each row variable stands after the same field names wherever it stands.
     ///
-    /// A field that one record lacks goes into the row of that record's variable; where both lack one, a new row variable
-    /// follows in both. The fault `Clash` comes exactly where no extension makes the types equal, and `Memory` also where
-    /// a new row variable is wanted and none is left. After a fault the substitution is as it was.
+    /// A field that one record lacks goes into the row of that record's variable; where both lack
+    /// one, a new row variable follows in both. The fault `Clash` comes exactly where no extension
+    /// makes the types equal, `Memory` also where a new row variable is wanted and none is left.
+    /// After a fault the substitution is as it was.
     pub fn unify(&mut self, a: &Ty, b: &Ty) -> Result<(), UnifyFault>
         requires left { Within (issued_of self.old) (mean a.now) }
         requires right { Within (issued_of self.old) (mean b.now) }
