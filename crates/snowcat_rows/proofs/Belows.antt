@@ -4,7 +4,7 @@ use Rattle.snowcat_rows.specs.declared.types.Ty.{Ty, Rec}
 use Rattle.std.specs.Bool.{MatchBool}
 use Rattle.snowcat_rows.proofs.Steps.{rec_is}
 use Rattle.snowcat_rows.specs.Types.{Term, Slot, var, con, app, fields, none, some, row, mean}
-use Rattle.snowcat_rows.specs.Chains.{Variable, type_var, row_var, number, Occurs, OccursSlot, Ends}
+use Rattle.snowcat_rows.specs.Chains.{Variable, type_var, row_var, number, OccursSlot, Ends}
 use Rattle.snowcat_rows.specs.Sorting.{Within}
 use Rattle.snowcat_rows.specs.Codes.{has}
 use Rattle.std.proofs.lemmas.List.{drop_all}

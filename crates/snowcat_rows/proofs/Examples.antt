@@ -1,7 +1,7 @@
 -- Examples of values of types, and of the types of text literals.
-use Rattle.std.proofs.Common.{◌≡◌, ℕ, ◌<◌, true, List, [], ◌∷◌, refl, rules, Some, None, pos, codes, suc, zero}
+use Rattle.std.proofs.Common.{◌≡◌, true, [], ◌∷◌, refl, pos, codes}
 use Rattle.tla_values.specs.declared.value.Value.TheVariants as value
-use Rattle.snowcat_rows.specs.Types.{Term, con, app, fields, none, some, BoolHead, IntHead, StrHead, NamedHead, SetHead, SeqHead, FunHead, TupHead, EndHead}
+use Rattle.snowcat_rows.specs.Types.{con, app, BoolHead, IntHead, StrHead, NamedHead, TupHead, EndHead}
 use Rattle.snowcat_rows.specs.LiteralTypes.{literal_type}
 use Rattle.snowcat_rows.specs.Values.{HasType, InBounds}
 

@@ -1,15 +1,14 @@
 -- A binding is found at the place that is noted for its variable, or there is lacks.
-use Rattle.std.proofs.Common.{rules, Bool, true, false, ◌≡◌, ℕ, zero, suc, ◌+◌, ◌<◌, ◌≤◌, inl, inr, List, [], ◌∷◌, ◌++◌, length, get_or, take, refl, ap, sym, ◌∙◌, subst, arith, Option, Some, None}
+use Rattle.std.proofs.Common.{rules, true, false, ◌≡◌, ℕ, zero, suc, ◌+◌, ◌<◌, ◌≤◌, inl, inr, List, [], ◌∷◌, length, get_or, take, refl, ap, sym, ◌∙◌, subst, arith, Option, Some, None}
 use Rattle.std.specs.Prelude.{slice_get, ltb}
 use Rattle.std.proofs.lemmas.Option.{slice_get_read, slice_get_past}
 use Rattle.std.proofs.lemmas.Bool.Decides.{eqb_tells}
-use Rattle.tla_values.specs.declared.text.Text.{Text}
 use Rattle.snowcat_rows.specs.declared.types.Ty.{Ty}
 use Rattle.snowcat_rows.specs.declared.bindings.Bound.{Bound}
 use Rattle.snowcat_rows.specs.declared.bindings.Bound.TheVariants as bound
-use Rattle.snowcat_rows.specs.Types.{Term, var, mean}
-use Rattle.snowcat_rows.specs.Substitutions.{Row, same_sub}
-use Rattle.snowcat_rows.specs.Chains.{Variable, type_var, row_var, Binding, to_type, to_row, key, Absent, Chain}
+use Rattle.snowcat_rows.specs.Types.{var, mean}
+use Rattle.snowcat_rows.specs.Substitutions.{same_sub}
+use Rattle.snowcat_rows.specs.Chains.{Variable, type_var, row_var, key, Absent, Chain}
 use Rattle.snowcat_rows.specs.Codes.{binding, bindings_of, has}
 use Rattle.snowcat_rows.specs.inner.Rounds.{row_of}
 use Rattle.snowcat_rows.specs.inner.Places.{IndexedFrom}

@@ -1,8 +1,8 @@
 -- Looking variables up in place of putting one binding in place after the other: what a table is for.
-use Rattle.std.proofs.Common.{◌≡◌, ℕ, zero, suc, Bool, ◌==◌, if◌then◌else◌, ◌⊎◌, inl, inr, List, [], ◌∷◌, ◌++◌, length, refl, ap, sym, ◌∙◌, subst, Some, None}
+use Rattle.std.proofs.Common.{◌≡◌, ℕ, zero, suc, Bool, if◌then◌else◌, ◌⊎◌, inl, inr, List, [], ◌∷◌, ◌++◌, length, refl, ap, sym, ◌∙◌, subst, Some, None}
 use Rattle.std.proofs.lemmas.Bool.Decides.{eqb_tells}
 use Rattle.snowcat_rows.specs.Types.{Term, Slot, var, con, app, fields, none, some}
-use Rattle.snowcat_rows.specs.Substitutions.{Row, Sub, apply, apply_slot, apply_row, or_else, then_sub, same_sub}
+use Rattle.snowcat_rows.specs.Substitutions.{Sub, apply, apply_slot, apply_row, or_else, then_sub}
 use Rattle.snowcat_rows.specs.Chains.{Variable, type_var, row_var, Stands, Ends, Binding, to_type, to_row, key, Occurs, OccursSlot, OccursRow, OccursIn, Solves, Absent, Chain, single, solved, sub_of}
 use Rattle.snowcat_rows.specs.inner.Lookups.{type_at, row_at, looked}
 use Rattle.snowcat_rows.proofs.RowTheory.{apply_apply, solved_is, chain_solves, single_free}

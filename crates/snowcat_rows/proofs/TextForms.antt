@@ -5,7 +5,6 @@ use Rattle.std.proofs.lemmas.List.{length-map}
 use Rattle.std.specs.declared.alloc.Global.{Global}
 use Rattle.std.specs.declared.boxed.Box.{Box}
 use Rattle.snowcat_rows.specs.Texts.{Shown, shown, text_layer, form_layer, text_field, typed_field, type_text, form_of, operand_text, result_text, items_text, fields_text, tail_text}
-use Rattle.snowcat_rows.specs.declared.showing.Form.{Form}
 use Rattle.snowcat_rows.specs.declared.showing.Form.TheVariants as form
 use Rattle.snowcat_rows.specs.declared.types.Ty.{Ty, out-Ty, Bool, Int, Str, Named, Var, Set, Seq, Fun, Tup, Rec, Oper}
 use Rattle.snowcat_rows.specs.declared.types.Ty.TheVariants.{outs-Bool, outs-Int, outs-Str, outs-Named, outs-Var, outs-Set, outs-Seq, outs-Fun, outs-Tup, outs-Rec, outs-Oper}

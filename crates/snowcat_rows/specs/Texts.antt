@@ -1,5 +1,5 @@
 -- The text of a type. Source: the Apalache manual, "Type System 1.2".
-use Rattle.std.specs.Prelude.{ℕ, ◌==◌, List, [], ◌∷◌, ◌++◌, map, length, Option, Some, None, if◌then◌else◌, codes, decimal}
+use Rattle.std.specs.Prelude.{ℕ, ◌==◌, List, [], ◌++◌, map, length, Option, Some, None, if◌then◌else◌, codes, decimal}
 use Rattle.std.specs.List.{join_by}
 use Rattle.snowcat_rows.specs.declared.showing.Form.{Form}
 use Rattle.snowcat_rows.specs.declared.showing.Form.TheVariants.{Operand, Function, Operator}

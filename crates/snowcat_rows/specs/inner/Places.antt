@@ -1,5 +1,5 @@
 -- Where the binding of a variable stands in a list.
-use Rattle.std.specs.Prelude.{ℕ, zero, suc, ◌≡◌, List, [], ◌∷◌, get_or}
+use Rattle.std.specs.Prelude.{ℕ, suc, ◌≡◌, List, [], ◌∷◌, get_or}
 use Rattle.std.specs.Coded.{×_prop, Unit-prop}
 use native.Mathlib.Nat.{ℕ_set}
 use Rattle.snowcat_rows.specs.declared.bindings.Bound.{Bound}

@@ -2,7 +2,7 @@
 use Rattle.std.specs.Prelude.{ℕ, ◌≡◌, ◌⊎◌, ◌+◌, List, [], ◌∷◌, ◌++◌, Option, Some}
 use Rattle.snowcat_rows.specs.declared.substitution.Round.{Round}
 use Rattle.snowcat_rows.specs.declared.substitution.Round.TheVariants.{Equal, Differs, More}
-use Rattle.snowcat_rows.specs.Types.{Term, Slot, var, con, app, fields, none, some, mean, IsPart}
+use Rattle.snowcat_rows.specs.Types.{Term, Slot, var, fields, none, some, mean, IsPart}
 use Rattle.snowcat_rows.specs.Substitutions.{Row, Sub, apply, apply_slot}
 use Rattle.snowcat_rows.specs.Chains.{type_var, row_var, Binding, to_type, to_row, single, solved, Occurs, OccursSlot, OccursRow}
 

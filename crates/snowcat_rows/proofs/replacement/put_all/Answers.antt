@@ -1,4 +1,4 @@
-use Rattle.std.proofs.Common.{◌+◌, ap, ◌∙◌, arith, rules}
+use Rattle.std.proofs.Common.{◌+◌, ap, ◌∙◌, arith}
 use Rattle.snowcat_rows.specs.Types.{mean}
 use Rattle.snowcat_rows.specs.Substitutions.{apply}
 use Rattle.snowcat_rows.specs.Chains.{solved}

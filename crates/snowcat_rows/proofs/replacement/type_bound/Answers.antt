@@ -1,4 +1,3 @@
-use Rattle.std.proofs.Common.{◌∙◌, sym}
 use Rattle.snowcat_rows.specs.inner.Places.{entry}
 use Rattle.snowcat_rows.proofs.Indexes.{reads, reads_none, type_read, other_type, type_at_row, type_past}
 use Rattle.snowcat_rows.proofs.replacement.type_bound.Goals as goal
