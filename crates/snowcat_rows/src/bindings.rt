@@ -1,7 +1,7 @@
 // Bindings of variables, and those that make two types more alike.
 ghost use Rattle.std.specs.Prelude.{◌≡◌, ◌++◌, ◌∷◌, [], IfOk};
 ghost use Rattle.std.specs.Bool.{MatchBool};
-ghost use Rattle.snowcat_rows.specs.Types.{fields, mean};
+ghost use Rattle.snowcat_rows.specs.Types.{fields, mean, var};
 ghost use Rattle.snowcat_rows.specs.Chains.{Occurs, OccursRow, key, row_var, to_row, to_type, type_var};
 ghost use Rattle.snowcat_rows.specs.Codes.{Begins, binding, bindings_of, has, variable};
 ghost use Rattle.snowcat_rows.specs.inner.Rounds.{Advances, BothBound, Common, NoneBound, Stuck, Unlike, row_of};
@@ -45,6 +45,34 @@ fn bind_type(alloc: Global, bindings: &mut Vec<Bound>, v: u32, t: &Ty) -> Result
     let copy = copy_type(alloc, t)?;
     bindings.push(Bound::Type(v, copy))?;
     Ok(true)
+}
+
+// Binds the variable that the first type is, or the second type where it is a variable that was issued later: so what
+// many variables are made equal to stays one step away from each.
+fn bind_later(
+    alloc: Global,
+    issued: u32,
+    bindings: &mut Vec<Bound>,
+    v: u32,
+    x: &Ty,
+    y: &Ty,
+) -> Result<bool, AllocError>
+    requires first { mean x.now ≡ var v }
+    requires unequal { mean x.now ≡ mean y.now → ⊥ }
+    ensures prefix { Begins bindings.old.items bindings.new.items }
+    ensures ok { IfOk result (λ b. MatchBool b
+        (Advances (mean x.now) (mean y.now) issued
+        (bindings_of bindings.old.items) (bindings_of bindings.new.items) issued)
+        (Stuck (mean x.now) (mean y.now) issued)) }
+{
+    if let Ty::Var(w) = y {
+        if v < *w {
+            let other = bind_type(alloc, bindings, *w, x)?;
+            return Ok(other);
+        }
+    }
+    let bound = bind_type(alloc, bindings, v, y)?;
+    Ok(bound)
 }
 
 // Binds a row variable, unless it stands in the fields or behind them.
@@ -186,7 +214,7 @@ pub(crate) fn advance(
 {
     match x {
         Ty::Var(v) => {
-            let bound = bind_type(alloc, bindings, *v, y)?;
+            let bound = bind_later(alloc, *issued, bindings, *v, x, y)?;
             Ok(bound)
         }
         _ => match y {

@@ -29,7 +29,8 @@ i 0S => Int # Set(a0)
 0 i => Int = Int
 i 0 => Int = Int
 0 0 => a0 = a0
-0 1, 1 2, 0 i, 2 2 => a1 = a1; a2 = a2; Int = Int; Int = Int
+0 1, 1 2, 0 i, 2 2 => a0 = a0; a0 = a0; Int = Int; Int = Int
+3 1, 3 0, 3 2 => a1 = a1; a0 = a0; a0 = a0
 0 1S, 1 i, 0 iS => Set(a1) = Set(a1); Int = Int; Set(Int) = Set(Int)
 0 0S => a0 # Set(a0)
 0S 0 => Set(a0) # a0

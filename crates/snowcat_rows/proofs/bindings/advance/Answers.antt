@@ -16,14 +16,12 @@ advance_rows-requires c =
       unequal = λ e. c.requires.unequal (ex ∙ e ∙ sym ey);
     }
 
-pub returns-in_ok-bound-in-Var-clause-ok : goal.returns-in_ok-bound-in-Var-clause-ok
-returns-in_ok-bound-in-Var-clause-ok c =
-    type_left (mean c.args.x.now) (mean c.args.y.now) c.in-Var.v c.args.issued.now (bindings_of c.args.bindings.now.items) _ c.requires.unequal (ap mean c.in-Var.is ∙ mean-Var c.in-Var.v)
-    c.in_ok-bound-in-Var.bound c.in_ok-bound-in-Var.ensures.ok
+pub bind_later-requires : goal.bind_later-requires
+bind_later-requires c = record { first = ap mean c.in-Var.is ∙ mean-Var c.in-Var.v; unequal = c.requires.unequal }
 
 pub returns-in_ok-bound-in-Var-y : goal.returns-in_ok-bound-in-Var-y
 returns-in_ok-bound-in-Var-y c = record {
-  prefix = c.bind_type-in-Var-y.ensures.prefix;
+  prefix = c.bind_type.ensures.prefix;
   ok = type_right (mean c.args.x.now) (mean c.args.y.now) c.in-Var-y.w c.args.issued.now (bindings_of c.args.bindings.now.items) _ c.requires.unequal (ap mean c.in-Var-y.is ∙ mean-Var c.in-Var-y.w)
       c.in_ok-bound-in-Var-y.bound c.in_ok-bound-in-Var-y.ensures.ok;
 }
