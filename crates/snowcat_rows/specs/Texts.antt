@@ -57,7 +57,7 @@ text_layer (layer.Tup ts) = codes "<<" ++ items_text (map (λ s. s.text) ts) ++ 
 text_layer (layer.Rec fs k) = codes "{" ++ fields_text (map text_field fs) ++ tail_text (length fs) k ++ codes "}"
 text_layer (layer.Oper ts b) = codes "(" ++ items_text (map (λ s. s.text) ts) ++ codes ") => " ++ b.value.text
 
-abbrev pub form_layer : layer.Ty-F Shown → Form
+abbrev pub form_layer : {X : Type 0} → layer.Ty-F X → Form
 form_layer (layer.Fun a b) = Function
 form_layer (layer.Oper ts b) = Operator
 form_layer x = Operand

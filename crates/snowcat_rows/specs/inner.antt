@@ -1,4 +1,5 @@
 pub mod Below
+pub mod Layouts
 pub mod Lookups
 pub mod Measures
 pub mod Places

@@ -1,7 +1,10 @@
 // The text of a type.
-ghost use Rattle.std.specs.Prelude.{[], ◌==◌, ◌≡◌, ◌++◌, OnOk, codes, decimal, if◌then◌else◌, length, map};
+ghost use Rattle.std.specs.Prelude.{[], ◌==◌, ◌≡◌, ◌++◌, OnOk, codes, decimal, if◌then◌else◌, IsTrue, length, map};
 ghost use Rattle.std.specs.List.{join_by};
 ghost use Rattle.snowcat_rows.specs.Texts.{fields_text, form_of, items_text, operand_text, result_text, tail_text, type_text, typed_field};
+ghost use Rattle.snowcat_rows.specs.declared.types.Ty.{Ty as AnyType};
+ghost use Rattle.snowcat_rows.specs.Spellings.{spelling};
+ghost use Rattle.snowcat_rows.specs.TypeTexts.{Fronts, IsTypeText, KeepsFronts, Syntax, is_formed};
 
 use crate::types::Ty;
 use itoa::Buffer;
@@ -50,6 +53,13 @@ pub fn show_type(t: &Ty, out: &mut Vec<u8>) -> Result<(), AllocError>
         }
     }
 }
+
+/// The text of a type is one of the texts that spell it, where it has one: every tuple and record has a part, names are
+/// in form, and each row variable stands after the same field names wherever it stands.
+pub fn shown_types_are_spelled()
+    ensures { (t : AnyType) (s : Syntax) → spelling t ≡ Some s → IsTrue (is_formed s)
+        → (l : Fronts) → KeepsFronts l s → IsTypeText (type_text t) s }
+{}
 
 #[tactic(auto, using(crate::proofs::TextForms::texts))]
 fn read_form(t: &Ty) -> Form

@@ -36,13 +36,19 @@ impl Postfix {
     }
 
     fn record(&mut self, tail: Option<u32>) -> Ty {
-        Ty::Rec(List::from_vec(mem::replace(&mut self.fields, Vec::new(self.alloc))), tail)
+        Ty::Rec(
+            List::from_vec(mem::replace(&mut self.fields, Vec::new(self.alloc))),
+            tail,
+        )
     }
 
     fn function(&mut self) -> Result<Ty, AllocError> {
         let value = self.last();
         let argument = self.last();
-        Ok(Ty::Fun(Box::new(self.alloc, argument)?, Box::new(self.alloc, value)?))
+        Ok(Ty::Fun(
+            Box::new(self.alloc, argument)?,
+            Box::new(self.alloc, value)?,
+        ))
     }
 
     fn operator(&mut self) -> Result<Ty, AllocError> {

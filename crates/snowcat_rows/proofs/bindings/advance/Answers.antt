@@ -4,7 +4,7 @@ use Rattle.snowcat_rows.specs.inner.Rounds.{never}
 use Rattle.snowcat_rows.specs.Codes.{has, bindings_of}
 use Rattle.snowcat_rows.proofs.Means.{mean-Var}
 use Rattle.snowcat_rows.proofs.Roots.{not_var, not_rec}
-use Rattle.snowcat_rows.proofs.Steps.{type_left, type_right, rec_is, for_records, begins_same}
+use Rattle.snowcat_rows.proofs.Steps.{type_right, rec_is, for_records, begins_same}
 use Rattle.snowcat_rows.proofs.bindings.advance.Goals as goal
 
 pub advance_rows-requires : goal.advance_rows-requires
