@@ -126,6 +126,36 @@ fn bind_both(
     Ok(true)
 }
 
+// Binds the row variables of two records that each lack names of the other, by a new one where one is left.
+fn advance_both(
+    alloc: Global,
+    issued: &mut u32,
+    bindings: &mut Vec<Bound>,
+    fs: &[(Text, Ty)],
+    r: u32,
+    gs: &[(Text, Ty)],
+    q: u32,
+) -> Result<bool, AllocError>
+    requires { r ≡ q → ⊥ }
+    ensures prefix { Begins bindings.old.items bindings.new.items }
+    ensures ok { IfOk result (λ b. MatchBool b
+        (Advances (fields (has fs.now) (Some r)) (fields (has gs.now) (Some q)) issued.old
+        (bindings_of bindings.old.items) (bindings_of bindings.new.items) issued.new)
+        (Stuck (fields (has fs.now) (Some r)) (fields (has gs.now) (Some q)) issued.old)) }
+{
+    if *issued == 4294967295 {
+        return Err(AllocError);
+    }
+    let m = *issued;
+    let left = missing(alloc, gs, fs)?;
+    let right = missing(alloc, fs, gs)?;
+    let bound = bind_both(alloc, m, bindings, r, left, q, right)?;
+    if bound {
+        *issued = m + 1;
+    }
+    Ok(bound)
+}
+
 // Binds row variables of two records that agree where both have a name, unless nothing makes them equal.
 fn advance_rows(
     alloc: Global,
@@ -171,23 +201,15 @@ fn advance_rows(
         match k {
             None => Ok(false),
             Some(r) => {
-                let left = missing(alloc, gs, fs)?;
                 if covers(gs, fs) {
+                    let left = missing(alloc, gs, fs)?;
                     let bound = bind_row(bindings, r, left, j)?;
                     Ok(bound)
                 } else {
                     match j {
                         None => Ok(false),
                         Some(q) => {
-                            if *issued == 4294967295 {
-                                return Err(AllocError);
-                            }
-                            let m = *issued;
-                            let right = missing(alloc, fs, gs)?;
-                            let bound = bind_both(alloc, m, bindings, r, left, q, right)?;
-                            if bound {
-                                *issued = m + 1;
-                            }
+                            let bound = advance_both(alloc, issued, bindings, fs, r, gs, q)?;
                             Ok(bound)
                         }
                     }

@@ -1,7 +1,6 @@
 -- Where the binding of a variable stands in a list.
 use Rattle.std.specs.Prelude.{ℕ, suc, ◌≡◌, List, [], ◌∷◌, get_or}
-use Rattle.std.specs.Coded.{×_prop, Unit-prop}
-use native.Mathlib.Nat.{ℕ_set}
+use Rattle.std.specs.Coded.{×_prop, Unit-prop, Coded-set, coded_ℕ}
 use Rattle.snowcat_rows.specs.declared.bindings.Bound.{Bound}
 use Rattle.snowcat_rows.specs.declared.places.Places.{Places}
 use Rattle.snowcat_rows.specs.Chains.{Variable, type_var, row_var, key}
@@ -22,7 +21,7 @@ Indexed p bs = IndexedFrom (entry p) 0 bs
 
 IndexedFrom-prop : (e : Variable → ℕ) (i : ℕ) (bs : List Bound) → IsProp (IndexedFrom e i bs)
 IndexedFrom-prop e i [] = Unit-prop
-IndexedFrom-prop e i (b ∷ bs) = ×_prop (ℕ_set (e (key (binding b))) i) (IndexedFrom-prop e (suc i) bs)
+IndexedFrom-prop e i (b ∷ bs) = ×_prop (Coded-set coded_ℕ (e (key (binding b))) i) (IndexedFrom-prop e (suc i) bs)
 
 pub Indexed-prop : (p : Places) (bs : List Bound) → IsProp (Indexed p bs)
 Indexed-prop p bs = IndexedFrom-prop (entry p) 0 bs

@@ -2,7 +2,7 @@ use Rattle.std.proofs.Common.{sym, refl, ap}
 use Rattle.snowcat_rows.specs.Types.{fields}
 use Rattle.snowcat_rows.specs.inner.Rounds.{same_tail}
 use Rattle.snowcat_rows.specs.Codes.{has, bindings_of}
-use Rattle.snowcat_rows.proofs.Rows.{bound_right, bound_left, both_then, both_else, closed_right, closed_left}
+use Rattle.snowcat_rows.proofs.Rows.{bound_right, bound_left, closed_right, closed_left}
 use Rattle.snowcat_rows.proofs.bindings.advance_rows.Goals as goal
 
 pub returns-then-is_same_end-clause-ok : goal.returns-then-is_same_end-clause-ok
@@ -35,13 +35,3 @@ returns-in_ok-bound-in-Some-k-2-clause-ok c =
 pub returns-in-None-j-clause-ok : goal.returns-in-None-j-clause-ok
 returns-in-None-j-clause-ok c =
     closed_right (has c.args.fs.now) (has c.args.gs.now) c.args.k c.args.j c.args.issued.now c.in-None-j.is c.if-covers-3.ensures
-
-pub returns-then-bound-clause-ok : goal.returns-then-bound-clause-ok
-returns-then-bound-clause-ok c =
-    both_then (has c.args.fs.now) (has c.args.gs.now) (has c.in_ok-left-in-Some-k-2.left.items) (has c.in_ok-right-in-Some-j.right.items) c.args.k c.args.j c.in-Some-k-2.r c.in-Some-j.q c.args.issued.now (bindings_of c.args.bindings.now.items) _
-    c.if-is_same_end.ensures c.in-Some-k-2.is c.in-Some-j.is c.in_ok-left-in-Some-k-2.ensures c.in_ok-right-in-Some-j.ensures c.in_ok-bound-in-Some-j.bound c.if-bound.true c.in_ok-bound-in-Some-j.ensures.ok
-
-pub returns-else-bound-clause-ok : goal.returns-else-bound-clause-ok
-returns-else-bound-clause-ok c =
-    both_else (has c.args.fs.now) (has c.args.gs.now) (has c.in_ok-left-in-Some-k-2.left.items) (has c.in_ok-right-in-Some-j.right.items) c.args.k c.args.j c.in-Some-k-2.r c.in-Some-j.q c.args.issued.now (bindings_of c.args.bindings.now.items) _
-    c.if-is_same_end.ensures c.in-Some-k-2.is c.in-Some-j.is c.in_ok-left-in-Some-k-2.ensures c.in_ok-right-in-Some-j.ensures c.in_ok-bound-in-Some-j.bound c.if-bound.false c.in_ok-bound-in-Some-j.ensures.ok
