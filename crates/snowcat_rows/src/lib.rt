@@ -20,6 +20,6 @@ mod substitution;
 mod types;
 
 pub use occurrences::is_within;
-pub use showing::{Form, show_type, shown_types_are_spelled};
+pub use showing::{show_type, shown_types_are_spelled};
 pub use substitution::{Subst, UnifyFault};
 pub use types::{Ty, copy_type};

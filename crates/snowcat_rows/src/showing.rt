@@ -11,9 +11,9 @@ use itoa::Buffer;
 use std::alloc::AllocError;
 use tla_values::Text;
 
-/// What decides where a type's text stands in parentheses.
+// What decides where a type's text stands in parentheses.
 #[derive(Clone, Copy, Drop)]
-pub enum Form {
+pub(crate) enum Form {
     Operand,
     Function,
     Operator,
