@@ -1,0 +1,50 @@
+-- Examples of values of types, and of the types of text literals.
+use Rattle.std.proofs.Common.{◌≡◌, true, [], ◌∷◌, refl, pos, codes, false, Some, None}
+use Rattle.tla_values.specs.declared.value.Value.TheVariants as value
+use Rattle.snowcat_rows.specs.Types.{con, app, BoolHead, IntHead, StrHead, NamedHead, TupHead, EndHead}
+use Rattle.snowcat_rows.specs.LiteralTypes.{literal_type}
+use Rattle.snowcat_rows.specs.TypeTexts.{bool, int, str, variable, set, function, record_of, parens, last, also, pieces, is_formed, is_among, Written, IsTypeText}
+use Rattle.snowcat_rows.specs.Values.{HasType, InBounds}
+
+of_node : literal_type (codes "1_OF_NODE") ≡ con (NamedHead (codes "NODE"))
+of_node = refl
+
+of_no_word : literal_type (codes "_OF_NODE") ≡ con StrHead
+of_no_word = refl
+
+of_small_letters : literal_type (codes "1_OF_node") ≡ con StrHead
+of_small_letters = refl
+
+last_counts : literal_type (codes "1_OF_A_OF_B") ≡ con (NamedHead (codes "B"))
+last_counts = refl
+
+truth : HasType (value.Bool true) (con BoolHead)
+truth = (true, refl)
+
+number : InBounds [] (pos 0) (pos 3) 2 (value.Int (pos 3)) (con IntHead)
+number = (pos 3, refl, (refl, refl))
+
+a_tuple : HasType (value.Fun ((value.Int (pos 1), value.Bool true) ∷ (value.Int (pos 2), value.Int (pos 7)) ∷ [])) (app (con TupHead) (app (con BoolHead) (app (con IntHead) (con EndHead))))
+a_tuple = (value.Bool true ∷ value.Int (pos 7) ∷ [], refl, ((true, refl), ((pos 7, refl, tt), tt)))
+
+-- ---- texts of types
+
+-- a -> Set(Int)
+arrow : Written (pieces (function (variable (codes "a")) (set int))) (codes " a->Set( Int )")
+arrow = (codes " ", codes "->Set( Int )", refl, refl, ([], codes "Set( Int )", refl, refl, ([], codes "( Int )", refl, refl, ([], codes " Int )", refl, refl, (codes " ", codes " )", refl, refl, (codes " ", [], refl, refl, refl))))))
+
+open_record : IsTypeText (codes "{f:Int,r}") (record_of (codes "f") int last (Some (codes "r")))
+open_record = record {
+  formed = refl;
+  written = ([], codes "f:Int,r}", refl, refl, ([], codes ":Int,r}", refl, refl, ([], codes "Int,r}", refl, refl, ([], codes ",r}", refl, refl, ([], codes "r}", refl, refl, ([], codes "}", refl, refl, ([], [], refl, refl, refl)))))));
+  fronts = (λ x n. is_among n (codes "f" ∷ []), ((tt, tt, λ n. refl)));
+}
+
+names_differ : is_formed (record_of (codes "f") int (also (codes "f") str last) None) ≡ false
+names_differ = refl
+
+left_of_arrow : is_formed (function (function int str) bool) ≡ false
+left_of_arrow = refl
+
+left_in_parentheses : is_formed (function (parens (function int str)) bool) ≡ true
+left_in_parentheses = refl

@@ -1,0 +1,20 @@
+use Rattle.std.proofs.Common.{◌≡◌, map, take, ap, ◌∙◌, arith}
+use Rattle.std.proofs.lemmas.Grind.{common_steps}
+use Rattle.snowcat_rows.specs.Types.{mean}
+use Rattle.snowcat_rows.specs.Substitutions.{apply}
+use Rattle.snowcat_rows.specs.inner.Lookups.{looked}
+use Rattle.snowcat_rows.specs.Codes.{bindings_of, named, changed}
+use Rattle.snowcat_rows.proofs.Means.{rec_after, row_replaced}
+use Rattle.snowcat_rows.proofs.replacement.+replace.Goals as goal
+
+pub replace-returns-in_ok-whole-in-Rec : goal.replace-returns-in_ok-whole-in-Rec
+replace-returns-in_ok-whole-in-Rec t c =
+    c.in_ok-whole-in-Rec.ensures
+    ∙ rec_after (looked (bindings_of c.args.bindings.now)) c.in-Rec.fs c.in-Rec.tail (named c.in_ok-fields-in-Rec.fields.items) c.args.t.now c.in-Rec.is
+    (c.in_ok-fields-in-Rec.ensures ∙ ap (changed (looked (bindings_of c.args.bindings.now))) c.as_slice-in-Rec.ensures)
+
+pub replace_all-returns : goal.replace_all-returns
+replace_all-returns t c =
+    let e : take c.loop-t.t-index c.args.ts.now ≡ c.args.ts.now = grind (arith, common_steps) in
+    row_replaced (looked (bindings_of c.args.bindings.now)) c.from_vec.result c.args.ts.now
+    (ap (map mean) c.from_vec.ensures ∙ c.loop-t.invariant ∙ ap (map (λ u. apply (looked (bindings_of c.args.bindings.now)) (mean u))) e)

@@ -1,0 +1,10 @@
+use Rattle.std.proofs.Common.{◌≡◌, map, take}
+use Rattle.snowcat_rows.specs.Types.{mean}
+use Rattle.snowcat_rows.specs.Codes.{named}
+use Rattle.snowcat_rows.proofs.types.+copy.Given as goal
+
+abbrev pub invariant-copy_all-loop-t : goal.invariant-copy_all-loop-t
+invariant-copy_all-loop-t l = map mean l.items.items ≡ map mean (take l.t-index l.ts)
+
+abbrev pub invariant-copy_fields-loop-f : goal.invariant-copy_fields-loop-f
+invariant-copy_fields-loop-f l = named l.items.items ≡ named (take l.f-index l.fs)

@@ -1,0 +1,13 @@
+pub mod Chains
+pub mod Codes
+pub mod LiteralTypes
+pub mod Sorting
+pub mod Spellings
+pub mod Substitutions
+pub mod Types
+pub mod Texts
+pub mod TypeTexts
+pub mod Unifying
+pub mod Values
+pub mod Views
+pub mod inner

@@ -1,0 +1,39 @@
+-- What the calls of unification say.
+use Rattle.std.specs.Prelude.{ℕ, ◌≡◌, ◌<◌, List}
+use Rattle.snowcat_rows.specs.declared.substitution.UnifyFault.{UnifyFault}
+use Rattle.snowcat_rows.specs.declared.substitution.UnifyFault.TheVariants.{Clash, Memory}
+use Rattle.snowcat_rows.specs.Types.{Term, mean, IsPart}
+use Rattle.snowcat_rows.specs.Substitutions.{Sub, apply, Fronts, Fits, Sorted, Unified, Apart}
+use Rattle.snowcat_rows.specs.Chains.{Binding, solved, sub_of}
+use Rattle.snowcat_rows.specs.Sorting.{AllSorted}
+
+abbrev pub Same : ℕ → Fronts → Fronts → Type 0
+Same n l k = (v : ℕ) → v < n → (x : List ℕ) → k v x ≡ l v x
+
+-- the new bindings are the most general substitution that extends the old one and makes a and b equal, where n variables
+-- were issued and p are now
+pub record Made (n p : ℕ) (l : Fronts) (bs ds : List Binding) (a b : Term) : Type 0 where
+  -- which names stand before which row variable now
+  pub fronts : Fronts
+  pub same : Same n l fronts
+  pub sorted : AllSorted fronts ds
+  pub unified : Unified n p l fronts (sub_of bs) a b (sub_of ds)
+
+abbrev pub IsMade : ℕ → ℕ → List Binding → List Binding → Term → Term → Type 0
+IsMade n p bs ds a b = (l : Fronts) → AllSorted l bs → Sorted l a → Sorted l b → Made n p l bs ds a b
+
+-- no extension makes a and b equal; x and y are parts of what they are under some bindings that every such extension
+-- would keep, and no substitution makes x and y equal that gives no row variable a name which stands before it
+pub record Unmade (n : ℕ) (l : Fronts) (bs : List Binding) (a b x y : Term) : Type 0 where
+  pub apart : Apart n l (sub_of bs) a b
+  pub reached : List Binding
+  pub left : IsPart x (solved reached a)
+  pub right : IsPart y (solved reached b)
+  pub issued : ℕ
+  pub fronts : Fronts
+  pub same : Same n l fronts
+  pub never : (s : Sub) → Fits issued fronts s → apply s x ≡ apply s y → ⊥
+
+abbrev pub IsRefused : UnifyFault → ℕ → List Binding → Term → Term → Type 0
+IsRefused (Clash x y) n bs a b = (l : Fronts) → AllSorted l bs → Sorted l a → Sorted l b → Unmade n l bs a b (mean x) (mean y)
+IsRefused (Memory e) n bs a b = Unit {0}

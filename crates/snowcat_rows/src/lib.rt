@@ -1,0 +1,25 @@
+//! Types with rows, and their unification.
+//!
+//! The types of the Apalache type system 1.2 (Apalache manual, "Type System 1.2: Type annotations"):
+//! uninterpreted types, sets, sequences, functions, tuples, operators, and records that may be open,
+//! that is, end in a variable which stands for a row of further fields. Field names of one record
+//! differ, and their order tells nothing.
+//!
+//! `substitution` (over `bindings`, `replacement`, `places`, `differences`, `occurrences`, `records`) and
+//! `showing` stand beside each other over `types`.
+#![tactic(auto)]
+
+mod bindings;
+mod differences;
+mod occurrences;
+mod places;
+mod records;
+mod replacement;
+mod showing;
+mod substitution;
+mod types;
+
+pub use occurrences::is_within;
+pub use showing::{show_type, shown_types_are_spelled};
+pub use substitution::{Subst, UnifyFault};
+pub use types::{Ty, copy_type};

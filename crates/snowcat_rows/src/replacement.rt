@@ -1,0 +1,212 @@
+// Types once variables are replaced by what they are bound to.
+ghost use Rattle.std.specs.Prelude.{◌≡◌, IfOk, MatchOption, map};
+ghost use Rattle.snowcat_rows.specs.Types.{mean, row, var};
+ghost use Rattle.snowcat_rows.specs.Substitutions.{apply, same_sub};
+ghost use Rattle.snowcat_rows.specs.Chains.{Chain, solved};
+ghost use Rattle.snowcat_rows.specs.Codes.{bindings_of, changed, followed, has, named};
+ghost use Rattle.snowcat_rows.specs.inner.Places.{Indexed};
+ghost use Rattle.snowcat_rows.specs.inner.Lookups.{looked, row_at, type_at};
+ghost use Rattle.snowcat_rows.specs.inner.Rounds.{row_of};
+
+use crate::bindings::{Bound, bound_by};
+use crate::differences::difference;
+use crate::occurrences::{Unknown, occurs};
+use crate::places::Places;
+use crate::types::{Ty, copy_type};
+use std::alloc::{AllocError, Global};
+use tla_values::{List, Text, copy_text};
+
+// What the variable is bound to.
+fn type_bound<'a>(bindings: &'a [Bound], places: &Places, v: u32) -> Option<&'a Ty>
+    requires { Indexed places.now bindings.now }
+    ensures { MatchOption result (type_at (bindings_of bindings.now) v ≡ var v)
+        (λ t. type_at (bindings_of bindings.now) v ≡ mean t.now) }
+{
+    match bindings.get(places.of(Unknown::Type(v))) {
+        Some(Bound::Type(w, t)) => { if *w == v { Some(t) } else { None } }
+        Some(Bound::Row(_, _, _)) => None,
+        None => None,
+    }
+}
+
+// The fields that the row variable is bound to, and what follows them.
+fn row_bound<'a>(
+    bindings: &'a [Bound],
+    places: &Places,
+    r: u32,
+) -> Option<(&'a [(Text, Ty)], Option<u32>)>
+    requires { Indexed places.now bindings.now }
+    ensures { MatchOption result (row_at (bindings_of bindings.now) r ≡ same_sub.row_of r)
+        (λ w. row_at (bindings_of bindings.now) r ≡ row_of (has w.0.now) w.1) }
+{
+    match bindings.get(places.of(Unknown::Row(r))) {
+        Some(Bound::Row(q, fields, tail)) => {
+            if *q == r {
+                Some((fields.as_slice(), *tail))
+            } else {
+                None
+            }
+        }
+        Some(Bound::Type(_, _)) => None,
+        None => None,
+    }
+}
+
+// The type with each variable replaced once.
+#[tactic(auto, using(crate::proofs::Means::means))]
+#[cycle(replace)]
+pub(crate) fn replace(
+    alloc: Global,
+    t: &Ty,
+    bindings: &[Bound],
+    places: &Places,
+) -> Result<Ty, AllocError>
+    requires { Indexed places.now bindings.now }
+    ensures { IfOk result (λ r. mean r ≡ apply (looked (bindings_of bindings.now)) (mean t.now)) }
+{
+    match t {
+        Ty::Bool => Ok(Ty::Bool),
+        Ty::Int => Ok(Ty::Int),
+        Ty::Str => Ok(Ty::Str),
+        Ty::Named(name) => {
+            let name = copy_text(alloc, name)?;
+            Ok(Ty::Named(name))
+        }
+        Ty::Var(w) => match type_bound(bindings, places, *w) {
+            Some(s) => copy_type(alloc, s),
+            None => Ok(Ty::Var(*w)),
+        },
+        Ty::Set(a) => {
+            let item = replace(alloc, a, bindings, places)?;
+            Ok(Ty::Set(Box::new(alloc, item)?))
+        }
+        Ty::Seq(a) => {
+            let item = replace(alloc, a, bindings, places)?;
+            Ok(Ty::Seq(Box::new(alloc, item)?))
+        }
+        Ty::Fun(x, y) => {
+            let argument = replace(alloc, x, bindings, places)?;
+            let value = replace(alloc, y, bindings, places)?;
+            Ok(Ty::Fun(Box::new(alloc, argument)?, Box::new(alloc, value)?))
+        }
+        Ty::Tup(ts) => {
+            let items = replace_all(alloc, ts.as_slice(), bindings, places)?;
+            Ok(Ty::Tup(items))
+        }
+        Ty::Rec(fs, tail) => {
+            let fields = replace_fields(alloc, fs.as_slice(), bindings, places)?;
+            let whole = follow(alloc, fields, *tail, bindings, places)?;
+            Ok(whole)
+        }
+        Ty::Oper(ts, y) => {
+            let arguments = replace_all(alloc, ts.as_slice(), bindings, places)?;
+            let value = replace(alloc, y, bindings, places)?;
+            Ok(Ty::Oper(arguments, Box::new(alloc, value)?))
+        }
+    }
+}
+
+#[tactic(auto, using(crate::proofs::Means::means))]
+#[cycle(replace)]
+fn replace_all(
+    alloc: Global,
+    ts: &[Ty],
+    bindings: &[Bound],
+    places: &Places,
+) -> Result<List<Ty>, AllocError>
+    requires { Indexed places.now bindings.now }
+    ensures { IfOk result (λ r. row (map mean r) ≡ apply (looked (bindings_of bindings.now)) (row (map mean ts.now))) }
+{
+    let mut items = Vec::new(alloc);
+    for t in ts {
+        let item = replace(alloc, t, bindings, places)?;
+        items.push(item)?;
+    }
+    Ok(List::from_vec(items))
+}
+
+#[tactic(auto, using(crate::proofs::Means::means))]
+#[cycle(replace)]
+pub(crate) fn replace_fields(
+    alloc: Global,
+    fs: &[(Text, Ty)],
+    bindings: &[Bound],
+    places: &Places,
+) -> Result<Vec<(Text, Ty)>, AllocError>
+    requires { Indexed places.now bindings.now }
+    ensures { IfOk result (λ r. named r.items ≡ changed (looked (bindings_of bindings.now)) fs.now) }
+{
+    let mut items = Vec::new(alloc);
+    for f in fs {
+        let name = copy_text(alloc, &f.0)?;
+        let item = replace(alloc, &f.1, bindings, places)?;
+        items.push((name, item))?;
+    }
+    Ok(items)
+}
+
+// The record of fields that were changed, followed by what its row variable stands for.
+fn follow(
+    alloc: Global,
+    fields: Vec<(Text, Ty)>,
+    tail: Option<u32>,
+    bindings: &[Bound],
+    places: &Places,
+) -> Result<Ty, AllocError>
+    requires { Indexed places.now bindings.now }
+    ensures { IfOk result (λ r. mean r ≡ followed (named fields.items) (looked (bindings_of bindings.now)) tail) }
+{
+    let mut fields = fields;
+    match tail {
+        None => Ok(Ty::Rec(List::from_vec(fields), None)),
+        Some(q) => match row_bound(bindings, places, q) {
+            None => Ok(Ty::Rec(List::from_vec(fields), Some(q))),
+            Some((rest, end)) => {
+                for g in rest {
+                    let name = copy_text(alloc, &g.0)?;
+                    let item = copy_type(alloc, &g.1)?;
+                    fields.push((name, item))?;
+                }
+                Ok(Ty::Rec(List::from_vec(fields), end))
+            }
+        },
+    }
+}
+
+// The type once each bound variable is replaced. A pass replaces each variable once, and what a pass leaves as it is
+// holds none; the bindings are a chain, so as many passes as there are bindings suffice.
+pub(crate) fn settle(
+    alloc: Global,
+    t: &Ty,
+    bindings: &[Bound],
+    places: &Places,
+) -> Result<Ty, AllocError>
+    requires chain { Chain (bindings_of bindings.now) }
+    requires indexed { Indexed places.now bindings.now }
+    ensures { IfOk result (λ r. mean r ≡ solved (bindings_of bindings.now) (mean t.now)) }
+{
+    let mut current = copy_type(alloc, t)?;
+    for pass in 0..bindings.len() {
+        let next = replace(alloc, &current, bindings, places)?;
+        match difference(&current, &next) {
+            None => return Ok(next),
+            Some(_) => {}
+        }
+        current = next;
+    }
+    Ok(current)
+}
+
+// The type once each of the bindings is put in place, one after the other.
+pub(crate) fn put_all(alloc: Global, t: &Ty, bindings: &[Bound]) -> Result<Ty, AllocError>
+    ensures { IfOk result (λ r. mean r ≡ solved (bindings_of bindings.now) (mean t.now)) }
+{
+    let places = Places::new(alloc);
+    let mut current = copy_type(alloc, t)?;
+    for i in 0..bindings.len() {
+        if occurs(bound_by(&bindings[i]), &current) {
+            current = replace(alloc, &current, &bindings[i..i + 1], &places)?;
+        }
+    }
+    Ok(current)
+}

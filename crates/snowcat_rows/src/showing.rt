@@ -1,0 +1,192 @@
+// The text of a type.
+ghost use Rattle.std.specs.Prelude.{[], ◌==◌, ◌≡◌, ◌++◌, OnOk, codes, decimal, if◌then◌else◌, IsTrue, length, map};
+ghost use Rattle.std.specs.List.{join_by};
+ghost use Rattle.snowcat_rows.specs.Texts.{fields_text, form_of, items_text, operand_text, result_text, tail_text, type_text, typed_field};
+ghost use Rattle.snowcat_rows.specs.declared.types.Ty.{Ty as AnyType};
+ghost use Rattle.snowcat_rows.specs.Spellings.{spelling};
+ghost use Rattle.snowcat_rows.specs.TypeTexts.{Fronts, IsTypeText, KeepsFronts, Syntax, is_formed};
+
+use crate::types::Ty;
+use itoa::Buffer;
+use std::alloc::AllocError;
+use tla_values::Text;
+
+// What decides where a type's text stands in parentheses.
+#[derive(Clone, Copy, Drop)]
+pub(crate) enum Form {
+    Operand,
+    Function,
+    Operator,
+}
+
+/// Adds the text of a type: `Set(Int)`, `Int -> Str -> Bool`, `<<Int, Str>>`, `{f: Int, r0}`, `(Int, a1) => Bool`.
+///
+/// The type variable with number n is `a` and n, a row variable `r` and n. A function stands in parentheses to the left
+/// of `->`, an operator on both sides. Source: the Apalache manual, "Type System 1.2".
+#[tactic(auto, using(crate::proofs::TextForms::texts))]
+#[cycle(show)]
+pub fn show_type(t: &Ty, out: &mut Vec<u8>) -> Result<(), AllocError>
+    ensures { OnOk result (out.new.items ≡ out.old.items ++ type_text t.now) }
+{
+    match t {
+        Ty::Bool => append(b"Bool", out),
+        Ty::Int => append(b"Int", out),
+        Ty::Str => append(b"Str", out),
+        Ty::Named(name) => append(name.bytes(), out),
+        Ty::Var(v) => show_variable(b"a", *v, out),
+        Ty::Set(a) => show_between(b"Set(", a, out),
+        Ty::Seq(a) => show_between(b"Seq(", a, out),
+        Ty::Fun(a, b) => {
+            show_operand(a, out)?;
+            append(b" -> ", out)?;
+            show_result(b, out)?;
+            Ok(())
+        }
+        Ty::Tup(ts) => show_tuple(ts.as_slice(), out),
+        Ty::Rec(fs, tail) => show_record(fs.as_slice(), *tail, out),
+        Ty::Oper(ts, b) => {
+            append(b"(", out)?;
+            show_items(ts.as_slice(), out)?;
+            append(b") => ", out)?;
+            show_type(b, out)?;
+            Ok(())
+        }
+    }
+}
+
+/// The text of a type is one of the texts that spell it, where it has one: every tuple and record has a part, names are
+/// in form, and each row variable stands after the same field names wherever it stands.
+pub fn shown_types_are_spelled()
+    ensures { (t : AnyType) (s : Syntax) → spelling t ≡ Some s → IsTrue (is_formed s)
+        → (l : Fronts) → KeepsFronts l s → IsTypeText (type_text t) s }
+{}
+
+#[tactic(auto, using(crate::proofs::TextForms::texts))]
+fn read_form(t: &Ty) -> Form
+    ensures { result ≡ form_of t.now }
+{
+    match t {
+        Ty::Bool => Form::Operand,
+        Ty::Int => Form::Operand,
+        Ty::Str => Form::Operand,
+        Ty::Named(_) => Form::Operand,
+        Ty::Var(_) => Form::Operand,
+        Ty::Set(_) => Form::Operand,
+        Ty::Seq(_) => Form::Operand,
+        Ty::Fun(_, _) => Form::Function,
+        Ty::Tup(_) => Form::Operand,
+        Ty::Rec(_, _) => Form::Operand,
+        Ty::Oper(_, _) => Form::Operator,
+    }
+}
+
+#[cycle(show)]
+fn show_between(head: &[u8], t: &Ty, out: &mut Vec<u8>) -> Result<(), AllocError>
+    ensures { OnOk result (out.new.items ≡ out.old.items ++ (head.now ++ type_text t.now ++ codes ")")) }
+{
+    append(head, out)?;
+    show_type(t, out)?;
+    append(b")", out)
+}
+
+#[cycle(show)]
+fn show_operand(t: &Ty, out: &mut Vec<u8>) -> Result<(), AllocError>
+    ensures { OnOk result (out.new.items ≡ out.old.items ++ operand_text (form_of t.now) (type_text t.now)) }
+{
+    match read_form(t) {
+        Form::Operand => show_type(t, out),
+        Form::Function => show_between(b"(", t, out),
+        Form::Operator => show_between(b"(", t, out),
+    }
+}
+
+#[cycle(show)]
+fn show_result(t: &Ty, out: &mut Vec<u8>) -> Result<(), AllocError>
+    ensures { OnOk result (out.new.items ≡ out.old.items ++ result_text (form_of t.now) (type_text t.now)) }
+{
+    match read_form(t) {
+        Form::Operand => show_type(t, out),
+        Form::Function => show_type(t, out),
+        Form::Operator => show_between(b"(", t, out),
+    }
+}
+
+#[cycle(show)]
+fn show_tuple(ts: &[Ty], out: &mut Vec<u8>) -> Result<(), AllocError>
+    ensures { OnOk result (out.new.items ≡ out.old.items
+        ++ (codes "<<" ++ items_text (map type_text ts.now) ++ codes ">>")) }
+{
+    append(b"<<", out)?;
+    show_items(ts, out)?;
+    append(b">>", out)
+}
+
+#[cycle(show)]
+fn show_items(ts: &[Ty], out: &mut Vec<u8>) -> Result<(), AllocError>
+    ensures { OnOk result (out.new.items ≡ out.old.items ++ items_text (map type_text ts.now)) }
+{
+    for i in 0..ts.len() {
+        separate(i, out)?;
+        show_type(&ts[i], out)?;
+    }
+    Ok(())
+}
+
+#[cycle(show)]
+fn show_record(fs: &[(Text, Ty)], tail: Option<u32>, out: &mut Vec<u8>) -> Result<(), AllocError>
+    ensures { OnOk result (out.new.items ≡ out.old.items
+        ++ (codes "{" ++ fields_text (map typed_field fs.now) ++ tail_text (length fs.now) tail ++ codes "}")) }
+{
+    append(b"{", out)?;
+    show_fields(fs, out)?;
+    show_tail(fs.len(), tail, out)?;
+    append(b"}", out)
+}
+
+#[cycle(show)]
+fn show_fields(fs: &[(Text, Ty)], out: &mut Vec<u8>) -> Result<(), AllocError>
+    ensures { OnOk result (out.new.items ≡ out.old.items ++ fields_text (map typed_field fs.now)) }
+{
+    for i in 0..fs.len() {
+        let f = &fs[i];
+        separate(i, out)?;
+        append(f.0.bytes(), out)?;
+        append(b": ", out)?;
+        show_type(&f.1, out)?;
+    }
+    Ok(())
+}
+
+// The row variable behind so many fields.
+fn show_tail(count: usize, tail: Option<u32>, out: &mut Vec<u8>) -> Result<(), AllocError>
+    ensures { OnOk result (out.new.items ≡ out.old.items ++ tail_text count tail) }
+{
+    match tail {
+        None => Ok(()),
+        Some(r) => {
+            separate(count, out)?;
+            show_variable(b"r", r, out)
+        }
+    }
+}
+
+fn show_variable(letter: &[u8], n: u32, out: &mut Vec<u8>) -> Result<(), AllocError>
+    ensures { OnOk result (out.new.items ≡ out.old.items ++ (letter.now ++ decimal n)) }
+{
+    append(letter, out)?;
+    let mut buffer = Buffer::new();
+    append(buffer.format(n).as_bytes(), out)
+}
+
+// What stands before the item at a place of a list.
+fn separate(i: usize, out: &mut Vec<u8>) -> Result<(), AllocError>
+    ensures { OnOk result (out.new.items ≡ out.old.items ++ (if i == 0 then [] else codes ", ")) }
+{
+    if i == 0 { Ok(()) } else { append(b", ", out) }
+}
+
+fn append(bytes: &[u8], out: &mut Vec<u8>) -> Result<(), AllocError>
+    ensures { OnOk result (out.new.items ≡ out.old.items ++ bytes.now) }
+{
+    out.extend_from_slice(bytes)
+}

@@ -1,0 +1,274 @@
+// Substitutions, and the most general one that makes two types equal.
+ghost use Rattle.std.specs.Prelude.{ℕ, ◌≡◌, ◌+◌, ◌<◌, ◌≤◌, [], IfOk, MatchResult, OnOk, alloc_error, take};
+ghost use Rattle.snowcat_rows.specs.Types.{mean, var};
+ghost use Rattle.snowcat_rows.specs.Substitutions.{apply};
+ghost use Rattle.snowcat_rows.specs.Chains.{Chain, solved};
+ghost use Rattle.snowcat_rows.specs.Codes.{Begins, bindings_of};
+ghost use Rattle.snowcat_rows.specs.Sorting.{AllWithin, AllWithin-prop, Chain-prop, Within};
+ghost use Rattle.snowcat_rows.specs.Unifying.{IsMade, IsRefused};
+ghost use Rattle.snowcat_rows.specs.inner.Places.{Indexed, Indexed-prop};
+ghost use Rattle.snowcat_rows.specs.inner.Rounds.{After};
+
+use crate::bindings::{Bound, advance, bound_by};
+use crate::differences::difference;
+use crate::places::Places;
+use crate::replacement::{put_all, settle};
+use crate::types::{Ty, copy_type};
+use std::alloc::{AllocError, Global};
+
+/// Why two types are not made equal.
+#[derive(Drop)]
+pub enum UnifyFault {
+    /// Two parts of the types that cannot be made equal, the part of the first type first.
+    Clash(Ty, Ty),
+    Memory(AllocError),
+}
+
+impl From<AllocError> for UnifyFault {
+    ghost use Rattle.snowcat_rows.specs.declared.substitution.UnifyFault.TheVariants.{Memory as wants_memory};
+
+    ghost from_gives = { λ _ e. e ≡ wants_memory alloc_error };
+
+    fn from(_: AllocError) -> Self {
+        UnifyFault::Memory(AllocError)
+    }
+}
+
+// What one round of the search finds.
+#[derive(Drop)]
+enum Round {
+    Equal,
+    Differs(Ty, Ty),
+    // The types with the new bindings put in place.
+    More(Ty, Ty),
+}
+
+// One round of the search: more bindings, or its end.
+fn run_round(
+    alloc: Global,
+    issued: &mut u32,
+    bindings: &mut Vec<Bound>,
+    a: &Ty,
+    b: &Ty,
+) -> Result<Round, AllocError>
+    ensures prefix { Begins bindings.old.items bindings.new.items }
+    ensures ok { IfOk result (λ r. After r (mean a.now) (mean b.now)
+        issued.old (bindings_of bindings.old.items) (bindings_of bindings.new.items) issued.new) }
+{
+    let mark = bindings.len();
+    match difference(a, b) {
+        None => Ok(Round::Equal),
+        Some((x, y)) => {
+            if advance(alloc, issued, bindings, x, y)? {
+                let left = put_all(alloc, a, &bindings[mark..])?;
+                let right = put_all(alloc, b, &bindings[mark..])?;
+                return Ok(Round::More(left, right));
+            }
+            let first = copy_type(alloc, x)?;
+            let second = copy_type(alloc, y)?;
+            Ok(Round::Differs(first, second))
+        }
+    }
+}
+
+// Adds the bindings that make the types equal.
+fn solve(
+    alloc: Global,
+    issued: &mut u32,
+    bindings: &mut Vec<Bound>,
+    places: &Places,
+    a: &Ty,
+    b: &Ty,
+) -> Result<(), UnifyFault>
+    requires chain { Chain (bindings_of bindings.old.items) }
+    requires within { AllWithin issued.old (bindings_of bindings.old.items) }
+    requires indexed { Indexed places.now bindings.old.items }
+    requires left { Within issued.old (mean a.now) }
+    requires right { Within issued.old (mean b.now) }
+    ensures prefix { Begins bindings.old.items bindings.new.items }
+    ensures chain { OnOk result (Chain (bindings_of bindings.new.items)) }
+    ensures within { OnOk result (AllWithin issued.new (bindings_of bindings.new.items)) }
+    ensures more { OnOk result (issued.old ≤ issued.new) }
+    ensures ok { OnOk result (IsMade issued.old issued.new
+        (bindings_of bindings.old.items) (bindings_of bindings.new.items) (mean a.now) (mean b.now)) }
+    ensures err { MatchResult result (λ _. Unit {0})
+        (λ e. IsRefused e issued.old (bindings_of bindings.old.items) (mean a.now) (mean b.now)) }
+{
+    let mut left = settle(alloc, a, bindings.as_slice(), places)?;
+    let mut right = settle(alloc, b, bindings.as_slice(), places)?;
+    'search: loop {
+        match run_round(alloc, issued, bindings, &left, &right) {
+            Ok(Round::Equal) => return Ok(()),
+            Ok(Round::Differs(x, y)) => return Err(UnifyFault::Clash(x, y)),
+            Ok(Round::More(x, y)) => {
+                left = x;
+                right = y;
+            }
+            Err(_) => return Err(UnifyFault::Memory(AllocError)),
+        }
+    }
+}
+
+// Writes the places of the bindings from the mark on.
+fn note_places(places: &mut Places, bindings: &[Bound], mark: usize) -> Result<(), AllocError>
+    requires chain { Chain (bindings_of bindings.now) }
+    requires indexed { Indexed places.old (take mark bindings.now) }
+    ensures old { Indexed places.new (take mark bindings.now) }
+    ensures ok { OnOk result (Indexed places.new bindings.now) }
+{
+    for i in mark..bindings.len() {
+        places.set(bound_by(&bindings[i]), i)?;
+    }
+    Ok(())
+}
+
+// Adds the bindings that make the types equal, and their places.
+fn solve_and_note(
+    alloc: Global,
+    issued: &mut u32,
+    bindings: &mut Vec<Bound>,
+    places: &mut Places,
+    a: &Ty,
+    b: &Ty,
+) -> Result<(), UnifyFault>
+    requires chain { Chain (bindings_of bindings.old.items) }
+    requires within { AllWithin issued.old (bindings_of bindings.old.items) }
+    requires indexed { Indexed places.old bindings.old.items }
+    requires left { Within issued.old (mean a.now) }
+    requires right { Within issued.old (mean b.now) }
+    ensures prefix { Begins bindings.old.items bindings.new.items }
+    ensures old { Indexed places.new bindings.old.items }
+    ensures indexed { OnOk result (Indexed places.new bindings.new.items) }
+    ensures chain { OnOk result (Chain (bindings_of bindings.new.items)) }
+    ensures within { OnOk result (AllWithin issued.new (bindings_of bindings.new.items)) }
+    ensures more { OnOk result (issued.old ≤ issued.new) }
+    ensures ok { OnOk result (IsMade issued.old issued.new
+        (bindings_of bindings.old.items) (bindings_of bindings.new.items) (mean a.now) (mean b.now)) }
+    ensures err { MatchResult result (λ _. Unit {0})
+        (λ e. IsRefused e issued.old (bindings_of bindings.old.items) (mean a.now) (mean b.now)) }
+{
+    let mark = bindings.len();
+    solve(alloc, issued, bindings, places, a, b)?;
+    note_places(places, bindings.as_slice(), mark)?;
+    Ok(())
+}
+
+fn unify_fields(
+    alloc: Global,
+    issued: &mut u32,
+    bindings: &mut Vec<Bound>,
+    places: &mut Places,
+    a: &Ty,
+    b: &Ty,
+) -> Result<(), UnifyFault>
+    requires chain { Chain (bindings_of bindings.old.items) }
+    requires within { AllWithin issued.old (bindings_of bindings.old.items) }
+    requires indexed { Indexed places.old bindings.old.items }
+    requires left { Within issued.old (mean a.now) }
+    requires right { Within issued.old (mean b.now) }
+    ensures chain { Chain (bindings_of bindings.new.items) }
+    ensures within { AllWithin issued.new (bindings_of bindings.new.items) }
+    ensures indexed { Indexed places.new bindings.new.items }
+    ensures more { issued.old ≤ issued.new }
+    ensures ok { OnOk result (IsMade issued.old issued.new
+        (bindings_of bindings.old.items) (bindings_of bindings.new.items) (mean a.now) (mean b.now)) }
+    ensures err { MatchResult result (λ _. Unit {0})
+        (λ e. (bindings.new.items ≡ bindings.old.items) × (issued.new ≡ issued.old)
+        × IsRefused e issued.old (bindings_of bindings.old.items) (mean a.now) (mean b.now)) }
+{
+    let mark = bindings.len();
+    let count = *issued;
+    match solve_and_note(alloc, issued, bindings, places, a, b) {
+        Ok(()) => Ok(()),
+        Err(e) => {
+            bindings.truncate(mark);
+            *issued = count;
+            Err(e)
+        }
+    }
+}
+
+/// A substitution of types for type variables and of rows for row variables. The variables that it issues are numbered
+/// from 0, types and rows together.
+#[derive(Drop)]
+pub struct Subst {
+    alloc: Global,
+    issued: u32,
+    bindings: Vec<Bound>,
+    places: Places,
+    pub ghost chain: { Chain (bindings_of bindings.items) } by { Chain-prop (bindings_of bindings.items) },
+    pub ghost within: { AllWithin issued (bindings_of bindings.items) } by { AllWithin-prop issued (bindings_of bindings.items) },
+    pub ghost indexed: { Indexed places bindings.items } by { Indexed-prop places bindings.items },
+}
+
+impl Subst {
+    ghost use Rattle.snowcat_rows.specs.Views.{issued_of, kept_by, stands_for};
+
+    /// A substitution that has issued no variable. It takes its room from `alloc`.
+    pub fn new(alloc: Global) -> Subst
+        ensures none { issued_of result ≡ 0 }
+        ensures empty { kept_by result ≡ [] }
+    {
+        Subst {
+            alloc,
+            issued: 0,
+            bindings: Vec::new(alloc),
+            places: Places::new(alloc),
+        }
+    }
+
+    /// How many variables are issued.
+    pub fn issued(&self) -> u32
+        ensures { result ≡ issued_of self.now }
+    {
+        self.issued
+    }
+
+    /// A new variable; one is to be left.
+    pub fn fresh(&mut self) -> Ty
+        requires { issued_of self.old < 4294967295 }
+        ensures var { mean result ≡ var (issued_of self.old) }
+        ensures issued { issued_of self.new ≡ issued_of self.old + 1 }
+        ensures same { kept_by self.new ≡ kept_by self.old }
+    {
+        let v = self.issued;
+        self.issued = v + 1;
+        Ty::Var(v)
+    }
+
+    /// The type under the substitution.
+    pub fn resolved(&self, t: &Ty) -> Result<Ty, AllocError>
+        ensures { IfOk result (λ r. mean r ≡ apply (stands_for self.now) (mean t.now)) }
+    {
+        let settled = settle(self.alloc, t, self.bindings.as_slice(), &self.places)?;
+        Ok(settled)
+    }
+
+    /// Makes the types equal by the most general substitution that extends this one. Each variable of
+    /// the types is one that this substitution issued ([`is_within`](crate::is_within) tells), and
+    /// each row variable stands after the same field names wherever it stands.
+    ///
+    /// A field that one record lacks goes into the row of that record's variable; where both lack
+    /// one, a new row variable follows in both. The fault `Clash` comes exactly where no extension
+    /// makes the types equal, `Memory` also where a new row variable is wanted and none is left.
+    /// After a fault the substitution is as it was.
+    pub fn unify(&mut self, a: &Ty, b: &Ty) -> Result<(), UnifyFault>
+        requires left { Within (issued_of self.old) (mean a.now) }
+        requires right { Within (issued_of self.old) (mean b.now) }
+        ensures more { issued_of self.old ≤ issued_of self.new }
+        ensures ok { OnOk result (IsMade (issued_of self.old) (issued_of self.new)
+            (kept_by self.old) (kept_by self.new) (mean a.now) (mean b.now)) }
+        ensures err { MatchResult result (λ _. Unit {0})
+            (λ e. (issued_of self.new ≡ issued_of self.old) × (kept_by self.new ≡ kept_by self.old)
+            × IsRefused e (issued_of self.old) (kept_by self.old) (mean a.now) (mean b.now)) }
+    {
+        unify_fields(
+            self.alloc,
+            &mut self.issued,
+            &mut self.bindings,
+            &mut self.places,
+            a,
+            b,
+        )
+    }
+}

@@ -1,0 +1,11 @@
+//! Tests of the public calls on types.
+#![tactic(auto)]
+
+#[cfg(test)]
+mod cases;
+#[cfg(test)]
+mod postfix;
+#[cfg(test)]
+mod showing;
+#[cfg(test)]
+mod unifying;

@@ -1,0 +1,69 @@
+//! Types that are made equal, or cannot be.
+
+use crate::cases::STEPS;
+use crate::postfix::type_of;
+use snowcat_rows::{Subst, Ty, UnifyFault, is_within, show_type};
+use std::alloc::{AllocError, Global};
+use std::test::Fail;
+
+// A substitution that has issued five variables.
+fn five(alloc: Global) -> Subst {
+    let mut s = Subst::new(alloc);
+    for _i in 0..5 {
+        if s.issued() < 4294967295 {
+            let _ = s.fresh();
+        }
+    }
+    s
+}
+
+fn show_both(x: &Ty, middle: &str, y: &Ty, out: &mut Vec<u8>) -> Result<(), AllocError> {
+    show_type(x, out)?;
+    out.extend_from_slice(middle.as_bytes())?;
+    show_type(y, out)
+}
+
+// Adds what both types are after one call, or the two parts that clash.
+fn step(s: &mut Subst, a: &Ty, b: &Ty, out: &mut Vec<u8>) -> Result<(), AllocError> {
+    if !is_within(a, s.issued()) || !is_within(b, s.issued()) {
+        return out.extend_from_slice(b"not issued");
+    }
+    match s.unify(a, b) {
+        Ok(()) => {
+            let left = s.resolved(a)?;
+            let right = s.resolved(b)?;
+            show_both(&left, " = ", &right, out)
+        }
+        Err(UnifyFault::Clash(x, y)) => show_both(&x, " # ", &y, out),
+        Err(UnifyFault::Memory(e)) => Err(e),
+    }
+}
+
+fn told(alloc: Global, steps: &str) -> Result<Vec<u8>, AllocError> {
+    let mut s = five(alloc);
+    let mut out = Vec::new(alloc);
+    for pair in steps.split(", ") {
+        if !out.is_empty() {
+            out.extend_from_slice(b"; ")?;
+        }
+        let (left, right) = pair.split_once(" ").unwrap_or((pair, ""));
+        let a = type_of(alloc, left)?;
+        let b = type_of(alloc, right)?;
+        step(&mut s, &a, &b, &mut out)?;
+    }
+    Ok(out)
+}
+
+fn holds(alloc: Global, line: &str) -> Result<bool, AllocError> {
+    let (steps, want) = line.split_once(" => ").unwrap_or((line, ""));
+    let out = told(alloc, steps)?;
+    Ok(out.as_slice() == want.as_bytes())
+}
+
+#[test]
+fn types_are_made_equal_in_the_most_general_way(rt: HostRuntime) -> Result<(), Fail> {
+    for line in STEPS.lines() {
+        assert!(rt; holds(rt.alloc(), line)?, "{line}");
+    }
+    Ok(())
+}
