@@ -2,8 +2,8 @@
 
 ghost use Rattle.cell_arena.specs.Cells.{kind_at};
 ghost use Rattle.cell_arena.specs.Growth.{Grows};
+ghost use Rattle.cell_merge.specs.Edges.{edges_of};
 ghost use Rattle.cell_merge.specs.Sorts.{OfSort, number, set_of as set_sort};
-ghost use Rattle.set_rewriter.specs.Edges.{edges_of};
 ghost use Rattle.std.specs.Prelude.{◌<◌, ◌≡◌, IfOk, IsTrue, length};
 ghost use Rattle.tla_values.specs.Integers.{fits_width};
 
@@ -19,16 +19,27 @@ use std::alloc::{AllocError, Global};
 use std::test::Fail;
 use tla_values::List;
 
-// The assignment with values of the further variables, each as the mask prefers it, where the
-// clauses leave it free.
+// Whether no clause is false with one value more.
+fn is_free_for(f: &Formula, values: &mut Vec<bool>, value: bool) -> Result<bool, AllocError> {
+    values.push(value)?;
+    let met = are_met(f, values.as_slice());
+    let _ = values.pop();
+    Ok(met)
+}
+
+// The assignment with values of the further variables. Those that the clauses leave free are the
+// bits of the mask, the lowest first.
 fn preferring(alloc: Global, f: &Formula, a: &[bool], mask: u8) -> Result<Vec<bool>, AllocError> {
     let mut values = Vec::from_slice(alloc, a)?;
-    for i in a.len()..f.vars() {
-        let wanted = (mask >> (i % 7)) % 2 == 1;
-        values.push(wanted)?;
-        if !are_met(f, values.as_slice()) {
-            let _ = values.pop();
-            values.push(!wanted)?;
+    let mut rest = mask;
+    for _i in a.len()..f.vars() {
+        let on = is_free_for(f, &mut values, true)?;
+        let off = is_free_for(f, &mut values, false)?;
+        if on && off {
+            values.push(rest % 2 == 1)?;
+            rest /= 2;
+        } else {
+            values.push(on)?;
         }
     }
     Ok(values)

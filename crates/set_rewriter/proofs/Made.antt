@@ -37,10 +37,6 @@ made old mid new x y id out members same grows adds decodes sorts is = record {
   sort = λ s p q. sort-set mid new out s id adds grows (subst (λ (c : Cells). LeadTo c.kinds s out) (sym same) (sorts s p q));
 }
 
--- the edges of a set name variables of the formula
-pub edges-named : (c : Cells) (m n : ℕ) (k : CellKind) (es : List (Lit × CellId)) → IsHeld m c.vars c.width k → k ≡ Set es → c.vars ≤ n → AreNamed n es
-edges-named c m n k es held e le = let N : CellKind → Type 0 = NamesBelow c.vars in AreNamed-later c.vars n es (subst N e held.named) le
-
 -- the same for other sorts
 module _ (old mid new : Build) (id : CellId) (out : List (Lit × CellId)) (members : List Bool → List Value) (same : mid.arena ≡ old.arena) (grows : Grows mid new) (adds : Adds mid new (Set out) id)
     (decodes : Decodes new id (λ a. value.Set (set_of (present a (decode mid.arena a) out))))
