@@ -1,5 +1,5 @@
 -- A set that was made of edges.
-use Rattle.std.proofs.Common.{◌≡◌, ℕ, ◌≤◌, Bool, List, All, ap, ◌∙◌, sym, subst}
+use Rattle.std.proofs.Common.{◌≡◌, Bool, List, All, ap, ◌∙◌, sym, subst}
 use Rattle.std.specs.List.{list_any}
 use Rattle.sat_formula.specs.declared.lit.Lit.{Lit}
 use Rattle.sat_formula.specs.Formula.{Satisfies}
@@ -9,17 +9,15 @@ use Rattle.tla_values.specs.declared.value.Value.{Value}
 use Rattle.tla_values.specs.declared.value.Value.TheVariants as value
 use Rattle.cell_arena.specs.declared.build.Build.{Build}
 use Rattle.cell_arena.specs.declared.kinds.CellId.{CellId}
-use Rattle.cell_arena.specs.declared.kinds.CellKind.{CellKind}
 use Rattle.cell_arena.specs.declared.kinds.CellKind.TheVariants.{Set}
-use Rattle.cell_arena.specs.Cells.{Cells, IsHeld, NamesBelow}
+use Rattle.cell_arena.specs.Cells.{Cells}
 use Rattle.cell_arena.specs.Decode.{decode, present}
 use Rattle.cell_arena.specs.Growth.{Grows, Decodes, Adds}
 use Rattle.cell_arena.proofs.Growing.{Decodes-same, Satisfies-before}
 use Rattle.cell_merge.specs.Sorts.{Sort, OfSort, set_of as set_sort}
-use Rattle.cell_merge.specs.Edges.{any_edge, LeadTo, AreNamed}
+use Rattle.cell_merge.specs.Edges.{any_edge, LeadTo}
 use Rattle.cell_merge.proofs.Edges.{any-present}
 use Rattle.cell_merge.proofs.SortLaws.{sort-set}
-use Rattle.cell_merge.proofs.Unions.{AreNamed-later}
 use Rattle.cell_merge.proofs.Chosen.{set_of-same}
 use Rattle.set_rewriter.specs.Edges.{MakesSet, MapsSet, MakesOf}
 

@@ -11,7 +11,6 @@ use Rattle.tla_values.specs.Sets.{set_of, elements}
 use Rattle.tla_values.specs.declared.value.Value.{Value}
 use Rattle.cell_arena.specs.declared.build.Build.{Build}
 use Rattle.cell_arena.specs.declared.kinds.CellId.{CellId}
-use Rattle.cell_arena.specs.declared.kinds.CellKind.{CellKind}
 use Rattle.cell_arena.specs.declared.kinds.CellKind.TheVariants.{Set}
 use Rattle.cell_arena.specs.Cells.{Cells, kind_at}
 use Rattle.cell_arena.specs.Decode.{decode, kind_value}

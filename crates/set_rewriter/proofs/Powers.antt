@@ -27,7 +27,7 @@ use Rattle.cell_merge.specs.Sorts.{Sort, OfSort, set_of as set_sort}
 use Rattle.cell_merge.specs.Edges.{LeadTo, AreNamed, JoinsAll}
 use Rattle.cell_merge.proofs.Edges.{sort-there, elements-cell, edges-sort}
 use Rattle.cell_merge.proofs.SortLaws.{OfSort-later, sort-set}
-use Rattle.cell_merge.proofs.Chosen.{set_of-same, lead-there}
+use Rattle.cell_merge.proofs.Chosen.{lead-there}
 use Rattle.cell_merge.proofs.Present.{present-append, present-one, present-more}
 use Rattle.set_rewriter.specs.Subsets.{IsPowerset, all_subsets}
 use Rattle.set_rewriter.specs.inner.Steps.{one, IsSetOfSubsets, IsSome, HasPart, SubsetCells, WithEdge, WithEach, SetsAndEdge, EdgesOfSort, PowersetOf}

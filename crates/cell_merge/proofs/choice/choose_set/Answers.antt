@@ -1,4 +1,4 @@
-use Rattle.std.proofs.Common.{refl, sym, ◌∙◌}
+use Rattle.std.proofs.Common.{refl}
 use Rattle.cell_arena.proofs.Growing.{Grows-trans, Grows-formula}
 use Rattle.cell_merge.specs.Sorts.{set_of as set_sort}
 use Rattle.cell_merge.proofs.Chosen.{chosen-set, two-sets, lead-there}

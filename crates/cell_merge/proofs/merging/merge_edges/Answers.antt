@@ -1,4 +1,4 @@
-use Rattle.cell_merge.proofs.Unions.{sets-joined, merges-joined, left-set, right-set}
+use Rattle.cell_merge.proofs.Unions.{merges-joined}
 use Rattle.cell_merge.proofs.merging.merge_edges.Goals as goal
 
 pub returns-clause-merges : goal.returns-clause-merges
