@@ -24,7 +24,7 @@ use Rattle.cell_arena.proofs.Growing.{Decodes-later, Satisfies-before, decode-be
 use Rattle.cell_merge.specs.Sorts.{Sort, OfSort, OneType, set_of as set_sort}
 use Rattle.cell_merge.specs.Choices.{Chooses}
 use Rattle.cell_merge.specs.Picks.{PicksFrom}
-use Rattle.cell_merge.specs.Edges.{any_edge, LeadTo, AreNamed}
+use Rattle.cell_merge.specs.Edges.{any_edge, LeadTo, AreNamed, JoinsAll}
 use Rattle.cell_merge.specs.inner.Layers.{AreEdges, ChoosesEdge, ChoosesEach, GoesOn, Narrows}
 use Rattle.cell_merge.proofs.Edges.{any-cell, sort-there}
 use Rattle.cell_merge.proofs.SortLaws.{OfSort-later}
@@ -296,6 +296,24 @@ narrows-more old mid new es fs out grows p q = record {
         long = subst (λ c. length c ≡ new.formula.vars) e v.long;
         satisfies = subst (λ c. Satisfies c new.formula) e v.satisfies;
         passes = subst (λ c. any_edge c (decode new.arena c) t out ≡ true) e v.passes;
+      };
+}
+
+-- with one edge for alike members
+pub narrows-joined : (old mid : Build) (es fs : List Edge) → mid.arena ≡ old.arena → FormulaGrows old.formula mid.formula → AreNamed old.formula.vars es → JoinsAll old.arena mid.formula es es fs
+    → Narrows old mid es fs
+narrows-joined old mid es fs same grows named j = record {
+  named = j.named;
+  sorts = λ s h. subst (λ (c : Cells). LeadTo c.kinds s fs) (sym same) (j.sorts s h);
+  sound = λ a s p h. sym (j.members a s p) ∙ ap (λ (c : Cells). any_edge a (decode c a) p fs) (sym same) ∙ h;
+  complete = λ a n s p h.
+      let go = goes-on old.formula mid.formula a grows n s in
+      let b : List Bool = a ++ go.0 in
+      record {
+        more = go.0;
+        long = go.1.0;
+        satisfies = go.1.1;
+        passes = ap (λ (c : Cells). any_edge b (decode c b) p fs) same ∙ j.members b go.1.1 p ∙ any-longer old a go.0 p es n named ∙ h;
       };
 }
 

@@ -1,7 +1,9 @@
 pub mod Edges
 pub mod Names
+pub mod Pairs
 pub mod SortLaws
 pub mod Present
+pub mod Normals
 pub mod Unions
 pub mod Chosen
 pub mod Layering

@@ -3,7 +3,7 @@ use Rattle.std.proofs.Common.{◌≡◌, ℕ, ◌+◌, ◌<◌, ◌≤◌, Bool,
 use Rattle.std.specs.Prelude.{if◌then◌else◌}
 use Rattle.std.proofs.lemmas.List.{drop_more}
 use Rattle.std.proofs.lemmas.List.Folds.{list_any_more, list_any-append}
-use Rattle.std.proofs.lemmas.List.Elements.{All-push, All-weaker, All-head, All-rest}
+use Rattle.std.proofs.lemmas.List.Elements.{All-push, All-weaker, All-head, All-rest, All-nil, All-cons}
 use Rattle.sat_formula.specs.declared.lit.Lit.{Lit}
 use Rattle.sat_formula.specs.declared.cnf.Cnf.{Cnf}
 use Rattle.sat_formula.specs.Lit.{lit_value, IsBelow}
@@ -11,12 +11,14 @@ use Rattle.sat_formula.specs.Formula.{Satisfies, Grows, HasValue}
 use Rattle.sat_formula.proofs.Extension.{Satisfies-older}
 use Rattle.tla_values.specs.declared.value.Value.{Value}
 use Rattle.cell_arena.specs.declared.kinds.CellId.{CellId}
-use Rattle.cell_arena.specs.Cells.{Cells}
+use Rattle.cell_arena.specs.declared.kinds.CellKind.{CellKind}
+use Rattle.cell_arena.specs.declared.kinds.CellKind.TheVariants.{Set}
+use Rattle.cell_arena.specs.Cells.{Cells, IsHeld, NamesBelow}
 use Rattle.cell_arena.specs.Decode.{decode}
 use Rattle.cell_merge.specs.declared.merging.Join.{Join}
 use Rattle.cell_merge.specs.declared.merging.Join.TheVariants.{Either, Chosen}
 use Rattle.cell_merge.specs.Sorts.{OfSort}
-use Rattle.cell_merge.specs.Edges.{any_edge, LeadTo, AreNamed, joined}
+use Rattle.cell_merge.specs.Edges.{any_edge, LeadTo, AreNamed, joined, JoinsAll, Merges, OneSort, TwoSets}
 use Rattle.cell_merge.specs.inner.Parts.{Parted, Joins, Joining}
 
 abbrev Edge : Type 0
@@ -24,6 +26,10 @@ Edge = Lit × CellId
 
 pub AreNamed-later : (m n : ℕ) (es : List Edge) → AreNamed m es → m ≤ n → AreNamed n es
 AreNamed-later m n es h le = All-weaker (λ (e : Edge). IsBelow m e.0) (λ (e : Edge). IsBelow n e.0) (λ e b. omega arith) es h
+
+-- the edges of a set cell
+pub edges-named : (c : Cells) (m n : ℕ) (k : CellKind) (es : List Edge) → IsHeld m c.vars c.width k → k ≡ Set es → c.vars ≤ n → AreNamed n es
+edges-named c m n k es held is le = let P : CellKind → Type 0 = NamesBelow c.vars in AreNamed-later c.vars n es (subst P is held.named) le
 
 -- an edge at an index
 pub named-at : (m n : ℕ) (es : List Edge) (i : ℕ) (d : Edge) → AreNamed m es → i < length es → m ≤ n → (get_or es i d).0.var < n
@@ -153,3 +159,71 @@ module _ (c : Cells) (f g : Cnf) (join : Join) (es fs left : List Edge) (i : ℕ
         ap (λ t. t || joined join a false (any_edge a of p (drop (i + 1) left))) (joins.members a sat of p)
         ∙ rest-test join a (any_edge a of p out) (lit_value none a) (lit_value e.0 a) q (any_edge a of p (drop (i + 1) left)) (joined join a (any_edge a of p es) (any_edge a of p fs)) (off a sat) before;
   }
+
+-- ---- one set with one edge for alike members
+
+module _ (c : Cells) (f g h : Cnf) (es : List Edge) (i : ℕ) (e : Edge) (n : Lit) (out new others : List Edge) (lt : i < length es) (is : e ≡ get_or es i e)
+    (joins : JoinsAll c f es (take i es) out) (parted : Parted c g e.1 out out n others) (one : Joins c.kinds h Either e.0 n e.1 others new) (first : Grows f g) (second : Grows g h) where
+  pub alike-more : JoinsAll c h es (take (i + 1) es) new
+  alike-more = record {
+    named = one.named;
+    sorts = λ s l. one.sorts s (parted.sorts s (joins.sorts s l)) (subst (λ (x : Edge). OfSort c.kinds s x.1) (sym is) (l i e lt));
+    members = λ a sat p.
+        let of : CellId → Value = decode c a in
+        let two : Satisfies a g = Satisfies-older g h a second sat in
+        let q : Bool = p (of e.1) in
+        one.members a sat of p ∙ alike-test (any_edge a of p others) (lit_value e.0 a) (lit_value n a) q
+        ∙ ap (λ t. t || (lit_value e.0 a && q)) (sym (parted.members a two p) ∙ joins.members a (Satisfies-older f g a first two) p)
+        ∙ sym (any-more a of p es i e lt ∙ ap (λ (x : Edge). any_edge a of p (take i es) || (lit_value x.0 a && p (of x.1))) (sym is));
+  }
+    where
+      alike-test : (o l m q : Bool) → (o || ((l || m) && q)) ≡ (((m && q) || o) || (l && q))
+      alike-test o l m q = grind arith
+
+pub joins-none : (c : Cells) (f : Cnf) (es : List Edge) → JoinsAll c f es [] []
+joins-none c f es = record {
+  named = All-nil (λ (x : Edge). IsBelow f.vars x.0);
+  sorts = λ s l. All-nil (λ (x : Edge). OfSort c.kinds s x.1);
+  members = λ a s p. refl;
+}
+
+-- none of the edges is ever there, as the one is not
+pub joins-never : (c : Cells) (f : Cnf) (es out : List Edge) (i : ℕ) (e : Edge) (none : Lit) → out ≡ [] → JoinsAll c f es es out → i < length es → e ≡ get_or es i e → none.var < f.vars
+    → ((a : List Bool) → Satisfies a f → lit_value none a ≡ false) → JoinsAll c f es es ((none, e.1) ∷ [])
+joins-never c f es out i e none empty joins lt is below off = record {
+  named = All-cons (λ (x : Edge). IsBelow f.vars x.0) (none, e.1) [] below (All-nil (λ (x : Edge). IsBelow f.vars x.0));
+  sorts = λ s l.
+      let here : OfSort c.kinds s e.1 = subst (λ (x : Edge). OfSort c.kinds s x.1) (sym is) (l i e lt) in
+      All-cons (λ (x : Edge). OfSort c.kinds s x.1) (none, e.1) [] here (All-nil (λ (x : Edge). OfSort c.kinds s x.1));
+  members = λ a s p.
+      let of : CellId → Value = decode c a in
+      ap (λ t. (t && p (of e.1)) || false) (off a s) ∙ sym (ap (any_edge a of p) empty) ∙ joins.members a s p;
+}
+
+-- two sets each of which was joined
+module _ (c : Cells) (f g : Cnf) (es fs left right : List Edge) (one : JoinsAll c f es es left) (two : JoinsAll c g fs fs right) where
+  pub sets-joined : (n : ℕ) → TwoSets c.kinds n es fs → f.vars ≤ g.vars → TwoSets c.kinds g.vars left right
+  sets-joined n t le = record {
+    sort = t.sort;
+    left = one.sorts t.sort t.left;
+    right = two.sorts t.sort t.right;
+    left_named = AreNamed-later f.vars g.vars left one.named le;
+    right_named = two.named;
+  }
+
+  pub merges-joined : (h : Cnf) (join : Join) (out : List Edge) → Merges c h join left right out → Grows f g → Grows g h → Merges c h join es fs out
+  merges-joined h join out m first second = record {
+    named = m.named;
+    sorts = λ s l r. m.sorts s (one.sorts s l) (two.sorts s r);
+    members = λ a sat p.
+        let of : CellId → Value = decode c a in
+        let s1 : Satisfies a g = Satisfies-older g h a second sat in
+        m.members a sat p ∙ ap (λ t. joined join a t (any_edge a of p right)) (one.members a (Satisfies-older f g a first s1) p)
+        ∙ ap (λ t. joined join a (any_edge a of p es) t) (two.members a s1 p);
+  }
+
+pub left-set : (ks : List CellKind) (n : ℕ) (es fs : List Edge) → TwoSets ks n es fs → OneSort ks n es
+left-set ks n es fs t = record { sort = t.sort; cells = t.left; named = t.left_named }
+
+pub right-set : (ks : List CellKind) (m n : ℕ) (es fs : List Edge) → TwoSets ks m es fs → m ≤ n → OneSort ks n fs
+right-set ks m n es fs t le = record { sort = t.sort; cells = t.right; named = AreNamed-later m n fs t.right_named le }

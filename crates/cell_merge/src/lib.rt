@@ -1,18 +1,21 @@
 //! Equality of cells.
 //!
 //! The cells of one call have one sort. Equality makes no cell: it adds gates alone. Two sets are
-//! equal where each is within the other, which compares each member of one with each of the other.
+//! equal where each is within the other; each member of the one is compared once with each of the
+//! other, and those whose literal is never true are passed over.
 //! (Konnov, Kukovec and Tran, "TLA+ Model Checking Made Symbolic", OOPSLA 2019.)
 #![tactic(auto)]
 
 mod choice;
 mod equality;
+mod laws;
 mod likeness;
 mod merging;
 mod picking;
 
-pub use choice::{choose_cell, known};
-pub use equality::{member_in, same, same_in, subset_in};
-pub use likeness::alike;
-pub use merging::{Join, merge_edges};
+pub use choice::choose_cell;
+pub use equality::{member_in, members_in, same, same_in, subset_in};
+pub use laws::cells_keep_sorts_and_are_normal;
+pub use likeness::known;
+pub use merging::{Join, join_alike, merge_edges};
 pub use picking::pick;

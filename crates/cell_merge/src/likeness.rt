@@ -1,10 +1,24 @@
-//! Cells that are made in one way.
+//! What is known without a gate: literals of the first variable, and cells that are made in one way.
 
 ghost use Rattle.cell_arena.specs.Decode.{decode};
-ghost use Rattle.std.specs.Prelude.{◌≡◌, ◌<◌, Bool, IsTrue, List, length};
+ghost use Rattle.sat_formula.specs.Formula.{Satisfies};
+ghost use Rattle.sat_formula.specs.Lit.{lit_value};
+ghost use Rattle.std.specs.Prelude.{◌≡◌, ◌<◌, Bool, IfSome, IsTrue, List, if◌then◌else◌, length, nat_eq, not};
 
 use cell_arena::{Arena, CellId, CellKind};
-use sat_formula::Lit;
+use sat_formula::{Formula, Lit};
+
+/// The value of `top` and of its negation; of any other literal none.
+#[tactic(auto, using(crate::proofs::Chosen::top_value))]
+pub fn known(formula: &Formula, l: Lit) -> Option<bool>
+    ensures same { result ≡ (if nat_eq l.var 0 then Some (not l.neg) else None) }
+    ensures value { IfSome result (λ v. (a : List Bool) → Satisfies a formula.now → lit_value l a ≡ v) }
+{
+    if l.var == formula.top().var {
+        return Some(!l.neg);
+    }
+    None
+}
 
 // Whether the literals are the same ones in one order.
 fn same_literals(v: &[Lit], w: &[Lit]) -> bool
@@ -21,11 +35,11 @@ fn same_literals(v: &[Lit], w: &[Lit]) -> bool
     true
 }
 
-/// Whether the two are one cell or are made in one way, as equal constants are: then they have one
-/// value under every assignment. It adds nothing to a formula. Functions, records, tuples and
-/// sequences are alike only where they are one cell.
+// Whether the two are one cell or are made in one way, as equal constants are: then they have one
+// value under every assignment. It adds nothing to a formula. Functions, records, tuples and
+// sequences are alike only where they are one cell.
 #[cycle(alike)]
-pub fn alike(arena: &Arena, x: CellId, y: CellId) -> bool
+pub(crate) fn alike(arena: &Arena, x: CellId, y: CellId) -> bool
     requires x_there { x.index < length arena.now.kinds }
     requires y_there { y.index < length arena.now.kinds }
     ensures { IsTrue result → (a : List Bool) → decode arena.now a x ≡ decode arena.now a y }

@@ -1,7 +1,7 @@
 //! Two sets made into one, with one edge for a member of each where the two are alike.
 
 ghost use Rattle.cell_arena.specs.declared.kinds.CellKind.{CellKind as AnyKind};
-ghost use Rattle.cell_merge.specs.Edges.{AreNamed, JoinBelow, Merges, TwoSets, joined};
+ghost use Rattle.cell_merge.specs.Edges.{AreNamed, JoinBelow, JoinsAll, Merges, OneSort, TwoSets, joined};
 ghost use Rattle.cell_merge.specs.inner.Parts.{AreThere, Joining, Joins, Parted};
 ghost use Rattle.sat_formula.specs.Formula.{Grows, HasValue};
 ghost use Rattle.sat_formula.specs.Lit.{lit_value};
@@ -118,11 +118,30 @@ fn join_front(
     Ok((out, rest))
 }
 
-/// The edges of two sets as those of one. A member of each, where the two are alike, has one edge,
-/// whose literal is joined of theirs; where the two literals are the same, nothing is added for it.
-/// An edge whose literal is the negation of `top` is left out.
+/// The edges with one for those that lead to alike cells, whose literal is true where one of theirs
+/// is. An edge whose literal is the negation of `top` is left out.
 #[tactic(auto, using(sat_formula::proofs::Extension::gates))]
-pub fn merge_edges(
+pub fn join_alike(
+    arena: &Arena,
+    formula: &mut Formula,
+    edges: &[(Lit, CellId)],
+) -> Result<Vec<(Lit, CellId)>, AllocError>
+    requires edges { OneSort arena.now.kinds formula.old.vars edges.now }
+    ensures joins { IfOk result (λ out. JoinsAll arena.now formula.new edges.now edges.now out.items) }
+    ensures grows { Grows formula.old formula.new }
+{
+    let mut out = Vec::new(arena.alloc());
+    for (l, e) in edges {
+        let (found, others) = part(arena, formula, *e, out.as_slice())?;
+        out = others;
+        join_onto(formula, Join::Either, (*l, found), *e, &mut out)?;
+    }
+    Ok(out)
+}
+
+// The edges of two sets, in each of which no two are alike, as those of one.
+#[tactic(auto, using(sat_formula::proofs::Extension::gates))]
+fn merge_distinct(
     arena: &Arena,
     formula: &mut Formula,
     join: Join,
@@ -139,5 +158,27 @@ pub fn merge_edges(
     for (l, e) in rest.as_slice() {
         join_onto(formula, join, (none, *l), *e, &mut out)?;
     }
+    Ok(out)
+}
+
+/// The edges of two sets as those of one. Members that are alike, of one set or of both, have one
+/// edge, whose literal is joined of theirs; where the two literals are the same, nothing is added
+/// for it. An edge whose literal is the negation of `top` is left out.
+#[tactic(auto, using(sat_formula::proofs::Extension::gates))]
+pub fn merge_edges(
+    arena: &Arena,
+    formula: &mut Formula,
+    join: Join,
+    es: &[(Lit, CellId)],
+    fs: &[(Lit, CellId)],
+) -> Result<Vec<(Lit, CellId)>, AllocError>
+    requires join_below { JoinBelow formula.old.vars join }
+    requires sets { TwoSets arena.now.kinds formula.old.vars es.now fs.now }
+    ensures merges { IfOk result (λ out. Merges arena.now formula.new join es.now fs.now out.items) }
+    ensures grows { Grows formula.old formula.new }
+{
+    let left = join_alike(arena, formula, es)?;
+    let right = join_alike(arena, formula, fs)?;
+    let out = merge_distinct(arena, formula, join, left.as_slice(), right.as_slice())?;
     Ok(out)
 }

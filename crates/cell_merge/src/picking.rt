@@ -2,17 +2,43 @@
 
 ghost use Rattle.cell_arena.specs.Cells.{kind_at};
 ghost use Rattle.cell_arena.specs.Growth.{Grows};
+ghost use Rattle.cell_merge.specs.Edges.{JoinsAll, OneSort};
 ghost use Rattle.cell_merge.specs.Picks.{IsSetCell, PicksFrom};
 ghost use Rattle.cell_merge.specs.Sorts.{OneType};
 ghost use Rattle.cell_merge.specs.inner.Layers.{AreEdges, ChoosesEach, ChoosesEdge, Narrows};
+ghost use Rattle.sat_formula.specs.Formula.{Grows as FormulaGrows};
 ghost use Rattle.sat_formula.specs.declared.lit.Lit.{Lit as AnyLit};
 ghost use Rattle.cell_arena.specs.declared.kinds.CellId.{CellId as AnyCell};
 ghost use Rattle.std.specs.Prelude.{◌*◌, ◌+◌, ◌<◌, ◌≡◌, ◌≤◌, ◌↔◌, ◌∷◌, IfOk, IfSome, [], length, slice_index_or};
 
 use crate::choice::choose_cell;
-use cell_arena::{Build, CellId, CellKind};
-use sat_formula::Lit;
+use crate::merging::join_alike;
+use cell_arena::{Arena, Build, CellId, CellKind};
+use sat_formula::{Formula, Lit};
 use std::alloc::AllocError;
+
+// What is picked from: the edges with one for alike members, or where none is ever there, one edge
+// that is not.
+#[tactic(auto, using(sat_formula::proofs::Extension::gates))]
+fn candidates(
+    arena: &Arena,
+    formula: &mut Formula,
+    edges: &[(Lit, CellId)],
+) -> Result<Vec<(Lit, CellId)>, AllocError>
+    requires edges { OneSort arena.now.kinds formula.old.vars edges.now }
+    requires some { 0 < length edges.now }
+    ensures joins { IfOk result (λ out. JoinsAll arena.now formula.new edges.now edges.now out.items) }
+    ensures some { IfOk result (λ out. 0 < length out.items) }
+    ensures grows { FormulaGrows formula.old formula.new }
+{
+    let joined = join_alike(arena, formula, edges)?;
+    if joined.len() > 0 {
+        return Ok(joined);
+    }
+    let mut one = Vec::new(arena.alloc());
+    one.push((formula.top().negated(), edges[0].1))?;
+    Ok(one)
+}
 
 // The first edge where the literal is true, and else the second.
 #[tactic(auto, using(cell_arena::proofs::Growing::growing))]
@@ -132,7 +158,7 @@ pub fn pick(b: &mut Build, set: CellId) -> Result<Option<(CellId, Lit)>, AllocEr
     if es.len() == 0 {
         return Ok(None);
     }
-    let edges = Vec::from_slice(b.arena.alloc(), es.as_slice())?;
+    let edges = candidates(&b.arena, &mut b.formula, es.as_slice())?;
     let (l, cell) = narrow(b, edges)?;
     Ok(Some((cell, l)))
 }

@@ -1,7 +1,8 @@
 //! Operators on sets, a case a line: the operator, the edges of two sets, the values of the free
 //! bits a to h, and the text of what it gives. An edge is a member and a literal: a digit or m
 //! (1 or 0 by g), n (3 or 2 by h) or k (2 or 1 by g); a bit, in capitals its negation, or T or F.
-//! `member` asks whether k is a member of the second set.
+//! `member` asks whether k is a member of the second set (of texts t, of truth values a). `filter` has
+//! a literal for each edge in the place of the second set, and `map` a member.
 
 pub(crate) const CASES: &str = r#"union 1H - 01110110 => {1}
 union 3g3cmH 2f1E 10111111 => {2, 3}
@@ -158,4 +159,148 @@ member mhma kb0d1C 11001110 => TRUE
 minus 1T2T 2T 00000000 => {1}
 choose 1T 2T 10000000 => {1}
 choose 1T 2T 00000000 => {2}
+filter mA F 10000001 => {}
+filter nhnf1g2f fTgT 01101010 => {1}
+filter kT f 01111001 => {}
+filter 3gmekg BhA 11010100 => {}
+filter 1h d 10001001 => {}
+filter 2A T 01100110 => {2}
+filter kA3f1enh hATF 01101100 => {1, 3}
+filter kA2h1gkT hbCe 01001010 => {1, 2}
+filter kbmT1d0B aTAe 11010111 => {1, 2}
+filter 1hmcmT Aeb 11100101 => {0}
+filter 1g0b3b0F fCfT 00001101 => {}
+filter 1c B 11010110 => {}
+filter 0TmF ah 11101110 => {0}
+filter nF1g eg 10101001 => {}
+filter 1fmh3bmT ATeF 01111001 => {0, 3}
+filter nc a 01000100 => {}
+map ndmeme nm1 01001010 => {1}
+map 0A 2 01111100 => {2}
+map 2g0a0d 020 11011100 => {0, 2}
+map 3f m 01010000 => {}
+map 2F2a nn 11011101 => {3}
+map mamf1A0T 01m0 01100011 => {0, 1}
+map 3d k 11101111 => {}
+map kc1a0emh 3221 00110110 => {3}
+map 2a n 01001100 => {}
+map nf k 01111100 => {1}
+map nB2d 1n 11011100 => {2}
+map 0e2Ane1T n00m 10000000 => {0}
+map ncmb 01 00111100 => {0}
+map 2c3dnT0F mn33 11110111 => {1, 3}
+map 1a0AnT nk0 00001111 => {0, 2}
+map kT0g2B 2n0 11111111 => {2, 3}
+same 0T0T3T 0T0T3T 11111001 => TRUE
+same kh1F kT 11100011 => TRUE
+same kb2ekF kF2ekb 10110011 => TRUE
+same 2T3f 2T3f 11011011 => TRUE
+same mTmg kh 10111101 => FALSE
+same memT2b mT 10000100 => TRUE
+union 3T - 01001001 => {3}
+union nf 2f 10111101 => {2, 3}
+union kh1f2AkT 2dmakg 10011101 => {0, 1, 2}
+union mB 3f 00110000 => {0}
+"#;
+
+// Sets of truth values: a member is a literal.
+pub(crate) const TRUTHS: &str = r#"union aFhTTB Th 11001100 => {FALSE}
+inter aT gT 11110101 => {}
+minus GBTT TegF 10100110 => {FALSE, TRUE}
+choose hT aa 10011000 => {FALSE}
+same ThTa ThTa 11110110 => TRUE
+same FThd FThd 01101101 => TRUE
+same TdGdTT GdTdTT 10000100 => TRUE
+subset GT GT 10100100 => TRUE
+size adghhB - 11100110 => 0
+subsets abgeTb - 01101101 => {{}, {FALSE}, {FALSE, TRUE}, {TRUE}}
+filter Ff c 11100001 => {}
+map TT g 11110010 => {TRUE}
+member ggThFB hd 10101110 => FALSE
+member Fe - 11110111 => FALSE
+big afFBTA hg 10011011 => {FALSE}
+union gf - 00101101 => {FALSE}
+inter TfGh GaFT 10100101 => {TRUE}
+minus gbGTac hF 01101101 => {FALSE, TRUE}
+choose ac - 11111111 => {TRUE}
+same TT - 11010011 => FALSE
+same GhGg af 01011101 => FALSE
+same GB GB 01011110 => TRUE
+subset FBaThb hbaTFB 10100111 => TRUE
+size Td hT 11111011 => 1
+subsets he Fb 00110110 => {{}}
+filter gcTdhc BfC 11010010 => {}
+map FcaeTT aFg 10110010 => {TRUE}
+member aA ae 00100000 => FALSE
+member aAgF hA 10000100 => FALSE
+big gF - 11101011 => {}
+"#;
+
+// Sets of texts: p, q, r, or t (p or q by g).
+pub(crate) const TEXTS: &str = r#"union pb - 11010111 => {"p"}
+inter pb - 11110111 => {}
+minus rBqb - 01100100 => {"q"}
+choose qbpT tb 11000100 => {"p", "q"}
+same qgpf - 11111101 => FALSE
+same tT tT 00100010 => TRUE
+same rarAte terarA 11011011 => TRUE
+subset qaqBrT qBqarT 00111010 => TRUE
+size tBrBtf - 10000000 => 2
+subsets rApb te 11111100 => {{}, {"p"}}
+filter tbpe cb 10011110 => {}
+map pctF pr 10110000 => {"p"}
+member qBtT - 01010110 => FALSE
+member qg - 11010010 => FALSE
+big qhtb tb 01011010 => {"p"}
+union pT - 10111111 => {"p"}
+inter tfqd - 10011111 => {}
+minus rFqT tT 10101010 => {"q"}
+choose tb re 01100011 => {}
+same qApa - 10011011 => FALSE
+same pf tT 01100010 => FALSE
+same pTpg pgpT 10010110 => TRUE
+subset rbqgqT qTqgrb 11011000 => TRUE
+size qTrcrT rgtAtd 11011001 => 2
+subsets rT - 10000101 => {{}, {"r"}}
+filter qTqeth Fha 00010011 => {}
+map pTtA tr 00000101 => {"q", "r"}
+member rdrB rarc 10101100 => FALSE
+member rTrgpc pBrgpT 00100011 => TRUE
+big pBphpd td 11100011 => {"p"}
+"#;
+
+// Sets of all subsets of the sets that are written.
+pub(crate) const DEEP: &str = r#"union 1g 1b 11110100 => {{}, {1}}
+inter 1T2a - 11111110 => {{}}
+minus 2a1c ka 11111101 => {{1, 2}, {2}}
+choose 2d - 00011110 => {{}}
+same 1c - 11110111 => FALSE
+same kdmb kdmb 00011101 => TRUE
+same 2g 2g 00111111 => TRUE
+subset 2Tmc - 11010001 => FALSE
+subset maka 1Aka 11110001 => FALSE
+size 2gmT 2T 11011101 => 2
+big kT1c - 10110010 => {{}, {1}, {1, 2}, {2}}
+union kB 2e 11111110 => {{}, {2}}
+inter 1a - 11111100 => {{}}
+minus 1cmd - 10110010 => {{1}}
+choose me2b 1a 11111110 => {{}, {1}, {1, 2}, {2}}
+same 1b 1b 00111111 => TRUE
+same 2A 2A 01111111 => TRUE
+same kd kd 01110100 => TRUE
+subset mT2e mT2e 11010110 => TRUE
+subset kgka kgka 10010001 => TRUE
+size 1B 1f 11001110 => 1
+big kh1a keme 11110011 => {{}, {1}, {1, 2}, {2}}
+union 2Fkg 1hmg 01001111 => {{}, {1}, {2}}
+inter kc2a kgmd 11111100 => {{}}
+minus 2c1F 1b 11010111 => {}
+choose 2emd - 01011110 => {{}}
+same kh2b kh2b 01011010 => TRUE
+same mF mF 00110011 => TRUE
+same 2h - 01100101 => FALSE
+subset 2T 2B 01010100 => FALSE
+subset kd kd 11101111 => TRUE
+size mB ka 10001101 => 2
+big mbmA - 00110111 => {}
 "#;

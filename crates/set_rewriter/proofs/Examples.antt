@@ -6,7 +6,8 @@ use Rattle.tla_values.specs.declared.value.Value.{Value}
 use Rattle.tla_values.specs.declared.value.Value.TheVariants as value
 use Rattle.cell_arena.specs.declared.kinds.CellId.{CellId}
 use Rattle.cell_arena.specs.declared.kinds.CellKind.TheVariants.{Bit, Set}
-use Rattle.set_rewriter.specs.Edges.{edges_of, image_edges, kept}
+use Rattle.cell_merge.specs.Edges.{edges_of}
+use Rattle.set_rewriter.specs.Edges.{image_edges, kept}
 use Rattle.set_rewriter.specs.Ranges.{count_of, int_of, lies, range}
 use Rattle.set_rewriter.proofs.Numbers.{int_of-int}
 

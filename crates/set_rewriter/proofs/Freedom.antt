@@ -9,10 +9,10 @@ use Rattle.sat_formula.specs.Lit.{lit_value, IsBelow}
 use Rattle.sat_formula.specs.Formula.{Satisfies, EitherExtends}
 use Rattle.sat_formula.proofs.Extension.{lit_value-append}
 use Rattle.tla_values.specs.Order.{same_value}
-use Rattle.tla_values.specs.Sets.{set_of, elements, member, subset}
+use Rattle.tla_values.specs.Sets.{set_of, elements, member}
 use Rattle.tla_values.specs.declared.value.Value.{Value}
 use Rattle.tla_values.specs.declared.value.Value.TheVariants as value
-use Rattle.tla_values.proofs.Extensional.{members_of, member-set_of}
+use Rattle.tla_values.proofs.Extensional.{set_of_rising, Rising}
 use Rattle.cell_arena.specs.declared.build.Build.{Build}
 use Rattle.cell_arena.specs.declared.kinds.CellId.{CellId}
 use Rattle.cell_arena.specs.declared.kinds.CellKind.{CellKind}
@@ -25,10 +25,12 @@ use Rattle.cell_arena.proofs.Growing.{decode-assigned}
 use Rattle.cell_merge.specs.Sorts.{OfSort, set_of as set_sort}
 use Rattle.cell_merge.proofs.Edges.{elements-cell}
 use Rattle.cell_merge.proofs.Layering.{goes-on}
-use Rattle.set_rewriter.specs.Edges.{MakesSet, edges_of, kept, KeepsBy}
-use Rattle.set_rewriter.specs.Subsets.{ReachesValue, IsPart, PicksSubset}
+use Rattle.cell_merge.specs.Edges.{edges_of}
+use Rattle.set_rewriter.specs.Edges.{MakesSet, kept, KeepsBy}
+use Rattle.set_rewriter.specs.Subsets.{ReachesValue, PicksSubset, all_subsets}
 use Rattle.set_rewriter.specs.inner.Steps.{AreFree, FreeBits}
 use Rattle.set_rewriter.proofs.Keeping.{kept-set}
+use Rattle.set_rewriter.proofs.Sublists.{some-filter, test-subset, subset-test}
 
 abbrev Edge : Type 0
 Edge = Lit × CellId
@@ -110,20 +112,17 @@ module _ (old mid new : Build) (set id : CellId) (es : List Edge) (keep : List L
       ∙ ap (λ (c : Cells). value.Set (set_of (kept a (decode c a) (edges_of (kind_at c.kinds set)) keep))) same
       ∙ ap (λ (k : CellKind). value.Set (set_of (kept a (decode old.arena a) (edges_of k) keep))) is
 
-  sound : (a : List Bool) → Satisfies a new.formula → IsPart old new set id a
+  sound : (a : List Bool) → Satisfies a new.formula → member (decode new.arena a id) (elements (all_subsets (elements (decode old.arena a set)))) ≡ true
   sound a s =
       let of : CellId → Value = decode old.arena a in
-      record {
-        members = set_of (kept a of es keep);
-        decodes = kept-value a s;
-        within = ap (subset (set_of (kept a of es keep))) (elements-cell old.arena a set es (decodes a))
-            ∙ members_of (set_of (present a of es)) (set_of (kept a of es keep))
-            (λ v m. member-set_of v (present a of es) ∙ kept-member a of es keep v (sym (member-set_of v (kept a of es keep)) ∙ m));
-      }
+      let some : List Value = kept a of es keep in
+      test-subset (decode new.arena a id) (λ u. member u some) (elements (decode old.arena a set))
+      (kept-value a s ∙ ap (λ (l : List Value). value.Set l) (some-filter some (present a of es) (λ v m. kept-member a of es keep v m)
+      ∙ ap (filter (λ u. member u some)) (sym (elements-cell old.arena a set es (decodes a)))))
 
-  complete : (a : List Bool) → length a ≡ old.formula.vars → Satisfies a old.formula → (test : Value → Bool) → ReachesValue new a id (value.Set (filter test (elements (decode old.arena a set))))
+  reached : (a : List Bool) → length a ≡ old.formula.vars → Satisfies a old.formula → (test : Value → Bool) → ReachesValue new a id (value.Set (filter test (elements (decode old.arena a set))))
   unfolding AreFree KeepsBy
-  complete a n s test =
+  reached a n s test =
       let wanted : Edge → Bool = λ e. test (decode old.arena a e.1) in
       let values : List Bool = map wanted es in
       let long : length values ≡ length keep = length-map es wanted ∙ sym free.count in
@@ -155,5 +154,8 @@ module _ (old mid new : Build) (set id : CellId) (es : List Edge) (keep : List L
     there = made.value.there;
     sort = λ s h. let k = subst (λ (c : Cells). OfSort c.kinds (set_sort s) set) (sym same) h in made.sort s k k;
     sound = sound;
-    complete = complete;
+    complete = λ a n s v e.
+        let up : Rising (elements (decode old.arena a set)) = subst Rising (sym (elements-cell old.arena a set es (decodes a))) (set_of_rising (present a (decode old.arena a) es)) in
+        let t = subset-test v (elements (decode old.arena a set)) up e in
+        subst (ReachesValue new a id) (sym t.1) (reached a n s t.0);
   }

@@ -1,5 +1,5 @@
 -- Edges from several sets, and images.
-use Rattle.std.proofs.Common.{◌≡◌, ℕ, ◌+◌, ◌<◌, Bool, true, false, ◌&&◌, ◌||◌, List, [], ◌∷◌, ◌++◌, length, take, get_or, All, refl, ap, ◌∙◌, sym, arith}
+use Rattle.std.proofs.Common.{◌≡◌, ℕ, ◌+◌, ◌<◌, Bool, false, ◌&&◌, ◌||◌, List, [], ◌∷◌, ◌++◌, length, take, get_or, All, refl, ap, ◌∙◌, sym, arith}
 use Rattle.std.specs.List.{list_any, flat_map}
 use Rattle.std.proofs.lemmas.List.{take_more, length-take-le}
 use Rattle.std.proofs.lemmas.List.Folds.{list_any-append}
@@ -16,36 +16,16 @@ use Rattle.cell_arena.specs.declared.kinds.CellKind.{CellKind}
 use Rattle.cell_arena.specs.declared.kinds.CellKind.TheVariants.{Set}
 use Rattle.cell_arena.specs.Cells.{Cells}
 use Rattle.cell_arena.specs.Decode.{decode, present, kind_value}
-use Rattle.cell_merge.specs.declared.merging.Join.TheVariants.{Either}
 use Rattle.cell_merge.specs.Sorts.{Sort, OfSort, set_of as set_sort}
-use Rattle.cell_merge.specs.Edges.{any_edge, LeadTo, AreNamed, Merges}
+use Rattle.cell_merge.specs.Edges.{any_edge, LeadTo, AreNamed, JoinsAll}
 use Rattle.cell_merge.proofs.Edges.{any-present, any-cell}
 use Rattle.cell_merge.proofs.Unions.{AreNamed-later, any-push, any-more}
 use Rattle.set_rewriter.specs.Edges.{image_edges}
-use Rattle.set_rewriter.specs.inner.Steps.{JoinsAll, Guards, GuardsSet, Inside}
+use Rattle.set_rewriter.specs.inner.Steps.{Guards, GuardsSet, Inside}
 use Rattle.set_rewriter.proofs.Made.{set-found}
 
 abbrev Edge : Type 0
 Edge = Lit × CellId
-
--- ---- one more edge among those that are joined
-
-module _ (c : Cells) (f g : Cnf) (es : List Edge) (i : ℕ) (d : Edge) (out after : List Edge) (lt : i < length es)
-    (joins : JoinsAll c f es (take i es) out) (grows : FormulaGrows f g) (merges : Merges c g Either out (get_or es i d ∷ []) after) where
-  pub joins-more : JoinsAll c g es (take (i + 1) es) after
-  joins-more = record {
-    named = merges.named;
-    sorts = λ s h. merges.sorts s (joins.sorts s h) (All-cons (λ (e : Edge). OfSort c.kinds s e.1) (get_or es i d) [] (h i d lt) (All-nil (λ (e : Edge). OfSort c.kinds s e.1)));
-    members = λ a s p.
-        let of : CellId → Value = decode c a in
-        let q : Bool = lit_value (get_or es i d).0 a && p (of (get_or es i d).1) in
-        merges.members a s p ∙ ap (λ t. t || (q || false)) (joins.members a (Satisfies-older f g a grows s) p) ∙ last (any_edge a of p (take i es)) q ∙ sym (any-more a of p es i d lt);
-  }
-    where
-      last : (t q : Bool) → (t || (q || false)) ≡ (t || q)
-      last true q = refl
-      last false true = refl
-      last false false = refl
 
 -- ---- images
 

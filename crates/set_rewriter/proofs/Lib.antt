@@ -3,6 +3,7 @@ pub mod Made
 pub mod Marking
 pub mod Uniting
 pub mod Gathering
+pub mod Sublists
 pub mod Freedom
 pub mod Numbers
 pub mod Sizes

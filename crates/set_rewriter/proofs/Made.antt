@@ -1,5 +1,5 @@
 -- A set that was made of edges.
-use Rattle.std.proofs.Common.{◌≡◌, ℕ, ◌≤◌, Bool, List, All, ap, ◌∙◌, sym, subst}
+use Rattle.std.proofs.Common.{◌≡◌, Bool, List, All, ap, ◌∙◌, sym, subst}
 use Rattle.std.specs.List.{list_any}
 use Rattle.sat_formula.specs.declared.lit.Lit.{Lit}
 use Rattle.sat_formula.specs.Formula.{Satisfies}
@@ -9,17 +9,15 @@ use Rattle.tla_values.specs.declared.value.Value.{Value}
 use Rattle.tla_values.specs.declared.value.Value.TheVariants as value
 use Rattle.cell_arena.specs.declared.build.Build.{Build}
 use Rattle.cell_arena.specs.declared.kinds.CellId.{CellId}
-use Rattle.cell_arena.specs.declared.kinds.CellKind.{CellKind}
 use Rattle.cell_arena.specs.declared.kinds.CellKind.TheVariants.{Set}
-use Rattle.cell_arena.specs.Cells.{Cells, IsHeld, NamesBelow}
+use Rattle.cell_arena.specs.Cells.{Cells}
 use Rattle.cell_arena.specs.Decode.{decode, present}
 use Rattle.cell_arena.specs.Growth.{Grows, Decodes, Adds}
 use Rattle.cell_arena.proofs.Growing.{Decodes-same, Satisfies-before}
 use Rattle.cell_merge.specs.Sorts.{Sort, OfSort, set_of as set_sort}
-use Rattle.cell_merge.specs.Edges.{any_edge, LeadTo, AreNamed}
+use Rattle.cell_merge.specs.Edges.{any_edge, LeadTo}
 use Rattle.cell_merge.proofs.Edges.{any-present}
 use Rattle.cell_merge.proofs.SortLaws.{sort-set}
-use Rattle.cell_merge.proofs.Unions.{AreNamed-later}
 use Rattle.cell_merge.proofs.Chosen.{set_of-same}
 use Rattle.set_rewriter.specs.Edges.{MakesSet, MapsSet, MakesOf}
 
@@ -36,10 +34,6 @@ made old mid new x y id out members same grows adds decodes sorts is = record {
       (λ a s. ap (λ (c : Cells). value.Set (set_of (present a (decode c a) out))) same ∙ ap (λ vs. value.Set vs) (is a (Satisfies-before mid new a grows s)));
   sort = λ s p q. sort-set mid new out s id adds grows (subst (λ (c : Cells). LeadTo c.kinds s out) (sym same) (sorts s p q));
 }
-
--- the edges of a set name variables of the formula
-pub edges-named : (c : Cells) (m n : ℕ) (k : CellKind) (es : List (Lit × CellId)) → IsHeld m c.vars c.width k → k ≡ Set es → c.vars ≤ n → AreNamed n es
-edges-named c m n k es held e le = let N : CellKind → Type 0 = NamesBelow c.vars in AreNamed-later c.vars n es (subst N e held.named) le
 
 -- the same for other sorts
 module _ (old mid new : Build) (id : CellId) (out : List (Lit × CellId)) (members : List Bool → List Value) (same : mid.arena ≡ old.arena) (grows : Grows mid new) (adds : Adds mid new (Set out) id)

@@ -14,7 +14,7 @@ use Rattle.tla_values.specs.Sets.{set_of, elements, member, union_of}
 use Rattle.tla_values.specs.declared.value.Value.{Value}
 use Rattle.tla_values.specs.declared.value.Value.TheVariants as value
 use Rattle.tla_values.proofs.Members.{elements-set}
-use Rattle.tla_values.proofs.Extensional.{same_equal, same_itself, member-set_of, filter-set_of, union-set_of}
+use Rattle.tla_values.proofs.Extensional.{same_equal, same_itself, member-set_of, filter-set_of, union-set_of, set_of_rising}
 use Rattle.cell_arena.specs.declared.build.Build.{Build}
 use Rattle.cell_arena.specs.declared.kinds.CellId.{CellId}
 use Rattle.cell_arena.specs.declared.kinds.CellKind.{CellKind}
@@ -22,15 +22,17 @@ use Rattle.cell_arena.specs.declared.kinds.CellKind.TheVariants.{Set}
 use Rattle.cell_arena.specs.Cells.{Cells, kind_at}
 use Rattle.cell_arena.specs.Decode.{decode, present, kind_value}
 use Rattle.cell_arena.specs.Growth.{Grows, Decodes, Adds}
-use Rattle.cell_arena.proofs.Growing.{Satisfies-before, decode-before}
+use Rattle.cell_arena.proofs.Growing.{Satisfies-before, Decodes-same, decode-before}
 use Rattle.cell_merge.specs.Sorts.{Sort, OfSort, set_of as set_sort}
-use Rattle.cell_merge.specs.Edges.{LeadTo, AreNamed}
+use Rattle.cell_merge.specs.Edges.{LeadTo, AreNamed, JoinsAll}
 use Rattle.cell_merge.proofs.Edges.{sort-there, elements-cell, edges-sort}
 use Rattle.cell_merge.proofs.SortLaws.{OfSort-later, sort-set}
-use Rattle.cell_merge.proofs.Chosen.{set_of-same, lead-there}
+use Rattle.cell_merge.proofs.Chosen.{lead-there}
 use Rattle.cell_merge.proofs.Present.{present-append, present-one, present-more}
-use Rattle.set_rewriter.specs.Subsets.{IsSetOfSubsets, IsPowerset}
-use Rattle.set_rewriter.specs.inner.Steps.{one, IsSome, HasPart, SubsetCells, WithEdge, WithEach, SetsAndEdge, EdgesOfSort}
+use Rattle.set_rewriter.specs.Subsets.{IsPowerset, all_subsets}
+use Rattle.set_rewriter.specs.inner.Steps.{one, IsSetOfSubsets, IsSome, HasPart, SubsetCells, WithEdge, WithEach, SetsAndEdge, EdgesOfSort, PowersetOf}
+use Rattle.set_rewriter.proofs.Gathering.{joined-set}
+use Rattle.set_rewriter.proofs.Sublists.{some-filter, subsets-are}
 
 abbrev Edge : Type 0
 Edge = Lit × CellId
@@ -208,33 +210,6 @@ module _ (old mid new : Build) (es : List Edge) (i : ℕ) (d : Edge) (cells more
 
 -- ---- the set of them
 
-member-filter : (q : Value → Bool) (w : Value) (xs : List Value) → member w (filter q xs) ≡ (q w && member w xs)
-member-filter q w [] = none (q w)
-  where
-    none : (t : Bool) → false ≡ (t && false)
-    none true = refl
-    none false = refl
-member-filter q w (x ∷ xs) = go (q x) refl (same_value w x) refl (member-filter q w xs)
-  where
-    go : (t : Bool) → q x ≡ t → (s : Bool) → same_value w x ≡ s → member w (filter q xs) ≡ (q w && member w xs) → member w (cond t (x ∷ filter q xs) (filter q xs)) ≡ (q w && (same_value w x || member w xs))
-    go true e true f h =
-        let is : q w ≡ true = ap q (same_equal w x f) ∙ e in
-        ap (λ t. t || member w (filter q xs)) f ∙ sym (ap (λ t. t && (same_value w x || member w xs)) is ∙ ap (λ t. t || member w xs) f)
-    go true e false f h = ap (λ t. t || member w (filter q xs)) f ∙ h ∙ sym (ap (λ t. q w && (t || member w xs)) f)
-    go false e true f h =
-        let is : q w ≡ false = ap q (same_equal w x f) ∙ e in
-        h ∙ ap (λ t. t && member w xs) is ∙ sym (ap (λ t. t && (same_value w x || member w xs)) is)
-    go false e false f h = h ∙ sym (ap (λ t. q w && (t || member w xs)) f)
-
--- some of the items are those that pass the test of being among them
-some-filter : (some items : List Value) → ((w : Value) → member w some ≡ true → member w items ≡ true) → set_of some ≡ filter (λ u. member u some) (set_of items)
-some-filter some items h =
-    set_of-same some (filter (λ u. member u some) items) (λ w. sym (member-filter (λ u. member u some) w items ∙ kept w (member w some) refl)) ∙ filter-set_of (λ u. member u some) items
-  where
-    kept : (w : Value) (t : Bool) → member w some ≡ t → (member w some && member w items) ≡ member w some
-    kept w true e = ap (λ t. t && member w items) e ∙ h w e ∙ sym e
-    kept w false e = ap (λ t. t && member w items) e ∙ sym e
-
 always-there : (a : List Bool) (of : CellId → Value) (top : Lit) (cells : List CellId) → lit_value top a ≡ true → present a of (map (λ c. (top, c)) cells) ≡ map of cells
 always-there a of top [] e = refl
 always-there a of top (c ∷ cells) e =
@@ -244,29 +219,24 @@ always-there a of top (c ∷ cells) e =
 pub always-lead : (ks : List CellKind) (s : Sort) (top : Lit) (cells : List CellId) → All (OfSort ks s) cells → LeadTo ks s (map (λ c. (top, c)) cells)
 always-lead ks s top cells h = All-map (λ (e : Edge). OfSort ks s e.1) (λ c. (top, c)) cells h
 
-module _ (old mid new : Build) (set id : CellId) (es out : List Edge) (cells : List CellId) (top : Lit) (before : Grows old mid) (grows : Grows mid new)
-    (is : (a : List Bool) → decode old.arena a set ≡ kind_value old.arena.texts a (decode old.arena a) (Set es)) (sorts : (s : Sort) → OfSort old.arena.kinds (set_sort s) set → LeadTo old.arena.kinds s es)
+module _ (old mid new : Build) (id : CellId) (es out : List Edge) (cells : List CellId) (top : Lit) (grows : Grows mid new)
     (forced : (a : List Bool) → Satisfies a mid.formula → lit_value top a ≡ true) (h : SubsetCells old mid es (length es) cells)
     (always : out ≡ map (λ c. (top, c)) cells) (adds : Adds mid new (Set out) id) (decodes : Decodes new id (λ a. value.Set (set_of (present a (decode mid.arena a) out)))) where
   subset-values : (a : List Bool) → Satisfies a new.formula → decode new.arena a id ≡ value.Set (set_of (map (decode mid.arena a) cells))
   subset-values a s = decodes.value a s ∙ ap (λ (l : List Edge). value.Set (set_of (present a (decode mid.arena a) l))) always
       ∙ ap (λ (l : List Value). value.Set (set_of l)) (always-there a (decode mid.arena a) top cells (forced a (Satisfies-before mid new a grows s)))
 
-  members-are : (a : List Bool) → Satisfies a new.formula → elements (decode new.arena a id) ≡ set_of (map (decode mid.arena a) cells)
-  members-are a s = ap elements (subset-values a s) ∙ elements-set (set_of (map (decode mid.arena a) cells))
+  items-are : (a : List Bool) → set_of (present a (decode old.arena a) (take (length es) es)) ≡ set_of (present a (decode old.arena a) es)
+  items-are a = ap (λ (l : List Edge). set_of (present a (decode old.arena a) l)) (take_all (length es) es (omega arith))
 
-  items-are : (a : List Bool) → set_of (present a (decode old.arena a) (take (length es) es)) ≡ elements (decode old.arena a set)
-  items-are a = ap (λ (l : List Edge). set_of (present a (decode old.arena a) l)) (take_all (length es) es (omega arith)) ∙ sym (elements-cell old.arena a set es (is a))
-
-  powerset-here : (a : List Bool) → Satisfies a new.formula → IsSetOfSubsets (decode new.arena a id) (elements (decode old.arena a set))
+  powerset-here : (a : List Bool) → Satisfies a new.formula → IsSetOfSubsets (value.Set (set_of (map (decode mid.arena a) cells))) (set_of (present a (decode old.arena a) es))
   powerset-here a s =
       let of : CellId → Value = decode mid.arena a in
       let s0 : Satisfies a mid.formula = Satisfies-before mid new a grows s in
       let P : List Value = present a (decode old.arena a) (take (length es) es) in
       record {
-        is = subset-values a s ∙ ap (λ (l : List Value). value.Set l) (sym (members-are a s));
         each = λ w e.
-            let found = Any-from_list_any (same_value w) (map of cells) (sym (member-set_of w (map of cells)) ∙ ap (member w) (sym (members-are a s)) ∙ e) in
+            let found = Any-from_list_any (same_value w) (map of cells) (sym (member-set_of w (map of cells)) ∙ ap (member w) (sym (elements-set (set_of (map of cells)))) ∙ e) in
             let k : ℕ = found.0 in
             let d : CellId = record { index = 0 } in
             let short : k < length cells = omega (arith, length-map cells of) in
@@ -278,20 +248,36 @@ module _ (old mid new : Build) (set id : CellId) (es out : List Edge) (cells : L
         all = λ test.
             let p = h.all a s0 test in
             let d : CellId = record { index = 0 } in
-            let target : Value = value.Set (filter test (elements (decode old.arena a set))) in
+            let target : Value = value.Set (filter test (set_of (present a (decode old.arena a) es))) in
             let e : get_or (map of cells) p.index (of d) ≡ target =
             get_or-map of cells p.index d ∙ p.is d ∙ ap (λ (l : List Value). value.Set l) (filter-set_of test P ∙ ap (filter test) (items-are a)) in
             let short : p.index < length (map of cells) = (let m = p.within in omega (arith, length-map cells of)) in
-            ap (member target) (members-are a s) ∙ member-set_of target (map of cells)
+            ap (member target) (elements-set (set_of (map of cells))) ∙ member-set_of target (map of cells)
             ∙ list_any_at (same_value target) (map of cells) p.index (of d) short (ap (same_value target) e ∙ same_itself target);
       }
 
-  pub powerset : IsPowerset old new set id
-  powerset = record {
-    there = decodes.there;
-    sort = λ s g. sort-set mid new out (set_sort s) id adds grows (rw always (always-lead mid.arena.kinds (set_sort s) top cells (h.sorts s (sorts s g))));
-    members = powerset-here;
+  pub powerset-of : PowersetOf old new es id
+  powerset-of = record {
+    value = record {
+      there = decodes.there;
+      value = λ a s.
+          let items : List Value = present a (decode old.arena a) es in
+          subset-values a s ∙ subsets-are (map (decode mid.arena a) cells) (set_of items) (set_of_rising items) (powerset-here a s);
+    };
+    sort = λ s g. sort-set mid new out (set_sort s) id adds grows (rw always (always-lead mid.arena.kinds (set_sort s) top cells (h.sorts s g)));
   }
+
+-- with one edge for alike members
+pub powerset : (old mid new : Build) (set id : CellId) (es fs : List Edge) → mid.arena ≡ old.arena → Grows mid new → JoinsAll old.arena mid.formula es es fs → PowersetOf mid new fs id
+    → ((a : List Bool) → decode old.arena a set ≡ kind_value old.arena.texts a (decode old.arena a) (Set es)) → ((s : Sort) → OfSort old.arena.kinds (set_sort s) set → LeadTo old.arena.kinds s es)
+    → IsPowerset old new set id
+powerset old mid new set id es fs same grows joins p is sorts = record {
+  value = Decodes-same new id _ _ p.value
+      (λ a s.
+      ap (λ (c : Cells). all_subsets (set_of (present a (decode c a) fs))) same
+      ∙ ap all_subsets (joined-set old.arena mid.formula a es fs joins (Satisfies-before mid new a grows s) ∙ sym (elements-cell old.arena a set es (is a))));
+  sort = λ s h. p.sort s (subst (λ (c : Cells). LeadTo c.kinds s fs) (sym same) (joins.sorts s (sorts s h)));
+}
 
 -- ---- what the calls ask for
 

@@ -31,7 +31,8 @@ use Rattle.cell_merge.specs.Sorts.{OfSort}
 use Rattle.cell_merge.proofs.SortLaws.{sort-word}
 use Rattle.cell_merge.proofs.Unions.{AreNamed-later}
 use Rattle.set_rewriter.specs.Counts.{Counts, size}
-use Rattle.set_rewriter.specs.inner.Steps.{CellAndEdges, CountsEdges, OneSort}
+use Rattle.cell_merge.specs.Edges.{OneSort}
+use Rattle.set_rewriter.specs.inner.Steps.{CellAndEdges, CountsEdges}
 use Rattle.cell_merge.specs.Edges.{any_edge}
 use Rattle.cell_merge.proofs.Edges.{any-present, elements-cell}
 use Rattle.cell_merge.proofs.Chosen.{set_of-same}

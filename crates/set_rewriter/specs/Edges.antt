@@ -9,17 +9,11 @@ use Rattle.cell_arena.specs.Growth.{Decodes}
 use Rattle.cell_merge.specs.Sorts.{Sort, OfSort, set_of as set_sort}
 use Rattle.cell_arena.specs.declared.kinds.CellId.{CellId}
 use Rattle.cell_arena.specs.declared.kinds.CellKind.{CellKind}
-use Rattle.cell_arena.specs.declared.kinds.CellKind.TheVariants.{Set}
 
 -- the cell is the set of these members, and has each sort of sets that both have
 pub record MakesSet (old new : Build) (x y id : CellId) (members : List Bool → List Value) : Type 0 where
   pub value : Decodes new id (λ a. value.Set (members a))
   pub sort : (s : Sort) → OfSort old.arena.kinds (set_sort s) x → OfSort old.arena.kinds (set_sort s) y → OfSort new.arena.kinds (set_sort s) id
-
--- the edges of a set; of any other kind none
-abbrev pub edges_of : CellKind → List (Lit × CellId)
-edges_of (Set es) = es
-edges_of k = []
 
 -- the values of the edges that are there and whose other literal is true
 abbrev pub kept : List Bool → (CellId → Value) → List (Lit × CellId) → List Lit → List Value

@@ -2,19 +2,19 @@
 
 ghost use Rattle.cell_arena.specs.Decode.{decode, present};
 ghost use Rattle.cell_arena.specs.Growth.{Grows as BuildGrows};
-ghost use Rattle.cell_merge.specs.Edges.{any_edge};
+ghost use Rattle.cell_merge.specs.Edges.{OneSort, any_edge};
 ghost use Rattle.cell_merge.specs.Picks.{IsSetCell};
 ghost use Rattle.cell_merge.specs.Sorts.{IsOver};
 ghost use Rattle.sat_formula.specs.Formula.{Grows, HasValue};
 ghost use Rattle.set_rewriter.specs.Counts.{Counts};
-ghost use Rattle.set_rewriter.specs.inner.Steps.{CellAndEdges, CountsEdges, OneSort};
+ghost use Rattle.set_rewriter.specs.inner.Steps.{CellAndEdges, CountsEdges};
 ghost use Rattle.std.specs.Prelude.{◌<◌, IfOk, length, pos};
 ghost use Rattle.tla_values.specs.Order.{same_value};
 ghost use Rattle.tla_values.specs.Sets.{set_of};
 ghost use Rattle.word_blaster.specs.Word.{IsExact};
 
 use cell_arena::{Arena, Build, CellId, CellKind};
-use cell_merge::same_in;
+use cell_merge::{join_alike, same_in};
 use sat_formula::{Formula, Lit, Word};
 use std::alloc::AllocError;
 use word_blaster::{add_bit, natural};
@@ -79,7 +79,8 @@ fn count_word(
     ensures exact { IfOk result (λ r. IsExact formula.new width r.0 r.1 (λ a. pos (length (set_of (present a (decode arena.now a) edges.now))))) }
     ensures grows { Grows formula.old formula.new }
 {
-    let bits = count_edges(arena, formula, edges)?;
+    let distinct = join_alike(arena, formula, edges)?;
+    let bits = count_edges(arena, formula, distinct.as_slice())?;
     let (word, outside) = natural(arena.alloc(), formula, bits.as_slice(), width)?;
     Ok((word, outside))
 }

@@ -3,18 +3,18 @@
 ghost use Rattle.cell_arena.specs.Cells.{kind_at};
 ghost use Rattle.cell_arena.specs.Decode.{decode};
 ghost use Rattle.cell_arena.specs.Growth.{Grows as BuildGrows};
-ghost use Rattle.cell_merge.specs.Edges.{AreNamed};
+ghost use Rattle.cell_merge.specs.Edges.{AreNamed, TestsEach, edges_of};
 ghost use Rattle.cell_merge.specs.Picks.{IsSetCell};
-ghost use Rattle.tla_values.specs.Sets.{elements, inter_of, minus, set_of};
+ghost use Rattle.tla_values.specs.Sets.{elements, inter_of, member, minus, set_of};
 ghost use Rattle.cell_merge.specs.Sorts.{IsOver, SetsOfOneType};
 ghost use Rattle.sat_formula.specs.Formula.{Grows};
-ghost use Rattle.sat_formula.specs.Lit.{IsBelow, lit_value};
-ghost use Rattle.set_rewriter.specs.Edges.{MakesSet, edges_of, kept};
-ghost use Rattle.set_rewriter.specs.inner.Steps.{KeepsEdges, Marks, wanted_is};
-ghost use Rattle.std.specs.Prelude.{◌≡◌, All, Bool, IfOk, List, length};
+ghost use Rattle.sat_formula.specs.Lit.{IsBelow};
+ghost use Rattle.set_rewriter.specs.Edges.{MakesSet, kept};
+ghost use Rattle.set_rewriter.specs.inner.Steps.{KeepsEdges};
+ghost use Rattle.std.specs.Prelude.{◌≡◌, All, IfOk, length, map, not};
 
 use cell_arena::{Arena, Build, CellId, CellKind};
-use cell_merge::{known, member_in};
+use cell_merge::{known, members_in};
 use sat_formula::{Formula, Lit};
 use std::alloc::{AllocError, Global};
 use tla_values::List;
@@ -64,37 +64,31 @@ pub fn filter(b: &mut Build, set: CellId, keep: &[Lit]) -> Result<CellId, AllocE
     Ok(id)
 }
 
-// The literal or its negation.
-#[tactic(auto, using(crate::proofs::Marking::turned_value))]
-fn turned(l: Lit, same: bool) -> Lit
-    ensures var { result.var ≡ l.var }
-    ensures value { (a : List Bool) → lit_value result a ≡ wanted_is same (lit_value l a) }
-{
-    if same { l } else { l.negated() }
-}
-
-// For each edge of the first set a literal: whether its value is a member of the second, or none.
+// For each edge of the first set a literal: where the edge is there, whether its value is no member
+// of the second.
 #[tactic(auto, using(sat_formula::proofs::Extension::gates))]
-fn marks(
+fn others_in(
     arena: &Arena,
     formula: &mut Formula,
     x: CellId,
     y: CellId,
-    wanted: bool,
 ) -> Result<Vec<Lit>, AllocError>
     requires over { IsOver arena.now formula.old }
     requires types { SetsOfOneType arena.now.kinds x y }
-    ensures marks { IfOk result (λ marks. let es = edges_of (kind_at arena.now.kinds x) in Marks arena.now formula.new y wanted es (length es) marks.items) }
+    ensures tests { IfOk result (λ ls. let es = edges_of (kind_at arena.now.kinds x) in
+        TestsEach arena.now formula.new es (length es) (λ a v. not (member v (elements (decode arena.now a y)))) ls.items) }
     ensures grows { Grows formula.old formula.new }
 {
-    let mut marks = Vec::new(arena.alloc());
-    if let CellKind::Set(edges) = arena.kind(x) {
-        for (_, e) in edges.as_slice() {
-            let found = member_in(arena, formula, *e, y)?;
-            marks.push(turned(found, wanted))?;
-        }
-    }
-    Ok(marks)
+    let found = members_in(arena, formula, x, y)?;
+    let others = negations(arena.alloc(), found.as_slice())?;
+    Ok(others)
+}
+
+// The negation of each literal.
+fn negations(alloc: Global, lits: &[Lit]) -> Result<Vec<Lit>, AllocError>
+    ensures { IfOk result (λ r. r.items ≡ map (λ l. record { var = l.var; neg = not l.neg }) lits.now) }
+{
+    lits.iter().map(|l| l.negated()).collect(alloc)
 }
 
 /// The members of both sets.
@@ -104,7 +98,7 @@ pub fn inter(b: &mut Build, x: CellId, y: CellId) -> Result<CellId, AllocError>
     ensures made { IfOk result (λ id. MakesSet b.old b.new x x id (λ a. inter_of (elements (decode b.old.arena a x)) (elements (decode b.old.arena a y)))) }
     ensures grows { BuildGrows b.old b.new }
 {
-    let keep = marks(&b.arena, &mut b.formula, x, y, true)?;
+    let keep = members_in(&b.arena, &mut b.formula, x, y)?;
     let id = filter(b, x, keep.as_slice())?;
     Ok(id)
 }
@@ -116,7 +110,7 @@ pub fn minus(b: &mut Build, x: CellId, y: CellId) -> Result<CellId, AllocError>
     ensures made { IfOk result (λ id. MakesSet b.old b.new x x id (λ a. minus (elements (decode b.old.arena a x)) (elements (decode b.old.arena a y)))) }
     ensures grows { BuildGrows b.old b.new }
 {
-    let keep = marks(&b.arena, &mut b.formula, x, y, false)?;
+    let keep = others_in(&b.arena, &mut b.formula, x, y)?;
     let id = filter(b, x, keep.as_slice())?;
     Ok(id)
 }

@@ -4,11 +4,12 @@ ghost use Rattle.cell_arena.specs.Growth.{Grows as BuildGrows};
 ghost use Rattle.cell_merge.specs.Picks.{IsSetCell};
 ghost use Rattle.sat_formula.specs.Formula.{Grows};
 ghost use Rattle.set_rewriter.specs.Subsets.{IsPowerset, PicksSubset};
-ghost use Rattle.set_rewriter.specs.inner.Steps.{EdgesOfSort, FreeBits, SetsAndEdge, SubsetCells, WithEach, WithEdge};
+ghost use Rattle.set_rewriter.specs.inner.Steps.{EdgesOfSort, FreeBits, PowersetOf, SetsAndEdge, SubsetCells, WithEach, WithEdge};
 ghost use Rattle.std.specs.Prelude.{◌≡◌, ◌∷◌, IfOk, [], length, map};
 
 use crate::filters::filter;
 use cell_arena::{Build, CellId, CellKind};
+use cell_merge::join_alike;
 use sat_formula::{Formula, Lit};
 use std::alloc::{AllocError, Global};
 use tla_values::List;
@@ -104,21 +105,32 @@ fn always(alloc: Global, top: Lit, cells: &[CellId]) -> Result<Vec<(Lit, CellId)
     cells.iter().map(|c| (top, *c)).collect(alloc)
 }
 
-/// All subsets of the set. Of n edges it makes 2^n + 1 cells, and adds nothing to the formula.
+// The set of all subsets of the edges.
+#[tactic(auto, using(cell_arena::proofs::Growing::growing))]
+fn subset_set(b: &mut Build, edges: &[(Lit, CellId)]) -> Result<CellId, AllocError>
+    requires { EdgesOfSort b.old edges.now }
+    ensures powerset { IfOk result (PowersetOf b.old b.new edges.now) }
+    ensures grows { BuildGrows b.old b.new }
+{
+    let cells = subset_cells(b, edges)?;
+    let top = b.formula.top();
+    let all = always(b.arena.alloc(), top, cells.as_slice())?;
+    let id = b.set(List::from_vec(all))?;
+    Ok(id)
+}
+
+/// All subsets of the set. Of n edges, of which no two are alike, it makes 2^n + 1 cells, and adds
+/// nothing to the formula.
 #[tactic(auto, using(cell_arena::proofs::Growing::growing))]
 pub fn subsets(b: &mut Build, set: CellId) -> Result<CellId, AllocError>
     requires { IsSetCell b.old set }
     ensures powerset { IfOk result (IsPowerset b.old b.new set) }
     ensures grows { BuildGrows b.old b.new }
 {
-    let alloc = b.arena.alloc();
     let CellKind::Set(es) = b.arena.kind(set) else {
         return Ok(set);
     };
-    let edges = Vec::from_slice(alloc, es.as_slice())?;
-    let cells = subset_cells(b, edges.as_slice())?;
-    let top = b.formula.top();
-    let all = always(alloc, top, cells.as_slice())?;
-    let id = b.set(List::from_vec(all))?;
+    let edges = join_alike(&b.arena, &mut b.formula, es.as_slice())?;
+    let id = subset_set(b, edges.as_slice())?;
     Ok(id)
 }

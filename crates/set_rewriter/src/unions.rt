@@ -3,18 +3,18 @@
 ghost use Rattle.cell_arena.specs.Cells.{kind_at};
 ghost use Rattle.cell_arena.specs.Decode.{decode, present};
 ghost use Rattle.cell_arena.specs.Growth.{Grows as BuildGrows};
-ghost use Rattle.cell_merge.specs.Edges.{AreNamed};
+ghost use Rattle.cell_merge.specs.Edges.{AreNamed, edges_of};
 ghost use Rattle.cell_merge.specs.Picks.{IsSetCell};
 ghost use Rattle.cell_merge.specs.Sorts.{SetsOfOneType, set_of as set_sort};
 ghost use Rattle.sat_formula.specs.Formula.{Grows};
-ghost use Rattle.set_rewriter.specs.Edges.{AreImages, IsSetOfSets, MakesOf, MakesSet, MapsSet, edges_of, image_edges};
-ghost use Rattle.set_rewriter.specs.inner.Steps.{AreSets, Guards, GuardsSet, Inside, IsSetIn, JoinsAll, OneSort};
+ghost use Rattle.set_rewriter.specs.Edges.{AreImages, IsSetOfSets, MakesOf, MakesSet, MapsSet, image_edges};
+ghost use Rattle.set_rewriter.specs.inner.Steps.{AreSets, Guards, GuardsSet, Inside, IsSetIn};
 ghost use Rattle.std.specs.List.{flat_map};
-ghost use Rattle.std.specs.Prelude.{◌<◌, ◌≤◌, ◌≡◌, ◌∷◌, IfOk, OnOk, [], length};
+ghost use Rattle.std.specs.Prelude.{◌<◌, ◌≤◌, ◌≡◌, IfOk, OnOk, length};
 ghost use Rattle.tla_values.specs.Sets.{elements, set_of, union_of};
 
 use cell_arena::{Arena, Build, CellId, CellKind};
-use cell_merge::{Join, known, merge_edges};
+use cell_merge::{Join, join_alike, known, merge_edges};
 use sat_formula::{Formula, Lit};
 use std::alloc::{AllocError, Global};
 use tla_values::List;
@@ -41,35 +41,6 @@ pub fn union(b: &mut Build, x: CellId, y: CellId) -> Result<CellId, AllocError>
     )?;
     let id = b.set(List::from_vec(edges))?;
     Ok(id)
-}
-
-// A list of one edge.
-fn one_edge(alloc: Global, edge: (Lit, CellId)) -> Result<Vec<(Lit, CellId)>, AllocError>
-    ensures { IfOk result (λ v. v.items ≡ edge ∷ []) }
-{
-    let mut edges = Vec::new(alloc);
-    edges.push(edge)?;
-    Ok(edges)
-}
-
-// The edges with one for the members that are alike.
-#[tactic(auto, using(sat_formula::proofs::Extension::gates))]
-fn join_all(
-    arena: &Arena,
-    formula: &mut Formula,
-    edges: &[(Lit, CellId)],
-) -> Result<Vec<(Lit, CellId)>, AllocError>
-    requires edges { OneSort arena.now.kinds formula.old.vars edges.now }
-    ensures joins { IfOk result (λ out. JoinsAll arena.now formula.new edges.now edges.now out.items) }
-    ensures grows { Grows formula.old formula.new }
-{
-    let alloc = arena.alloc();
-    let mut out = Vec::new(alloc);
-    for edge in edges {
-        let one = one_edge(alloc, *edge)?;
-        out = merge_edges(arena, formula, Join::Either, out.as_slice(), one.as_slice())?;
-    }
-    Ok(out)
 }
 
 // The edges with other cells.
@@ -100,7 +71,7 @@ pub fn map(b: &mut Build, set: CellId, images: &[CellId]) -> Result<CellId, Allo
         return Ok(set);
     };
     let imaged = with_images(b.arena.alloc(), es.as_slice(), images)?;
-    let edges = join_all(&b.arena, &mut b.formula, imaged.as_slice())?;
+    let edges = join_alike(&b.arena, &mut b.formula, imaged.as_slice())?;
     let id = b.set(List::from_vec(edges))?;
     Ok(id)
 }
@@ -185,7 +156,7 @@ fn joined_inside(
     ensures grows { Grows formula.old formula.new }
 {
     let all = inside(arena, formula, sets)?;
-    let edges = join_all(arena, formula, all.as_slice())?;
+    let edges = join_alike(arena, formula, all.as_slice())?;
     Ok(edges)
 }
 

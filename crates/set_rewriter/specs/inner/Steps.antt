@@ -1,5 +1,5 @@
 -- The steps of loops over edges.
-use Rattle.std.specs.Prelude.{◌≡◌, ℕ, ◌<◌, Bool, true, false, ◌&&◌, ◌||◌, not, List, [], ◌∷◌, ◌++◌, map, filter, take, All, length, slice_index_or, ℤ, pos, neg_ℤ, ◌≤ℤ◌, ◌^◌, if◌then◌else◌}
+use Rattle.std.specs.Prelude.{◌≡◌, ℕ, ◌<◌, Bool, true, ◌&&◌, ◌||◌, List, [], ◌∷◌, ◌++◌, map, filter, take, All, length, slice_index_or, ℤ, pos, neg_ℤ, ◌≤ℤ◌, ◌^◌, if◌then◌else◌}
 use Rattle.std.specs.List.{list_any}
 use Rattle.sat_formula.specs.declared.lit.Lit.{Lit}
 use Rattle.sat_formula.specs.declared.cnf.Cnf.{Cnf}
@@ -15,9 +15,10 @@ use Rattle.cell_arena.specs.Decode.{decode, present}
 use Rattle.cell_arena.specs.Growth.{Decodes}
 use Rattle.cell_arena.specs.declared.build.Build.{Build}
 use Rattle.cell_merge.specs.Sorts.{Sort, OfSort, number, set_of as set_sort}
-use Rattle.cell_merge.specs.Edges.{any_edge, LeadTo, AreNamed}
+use Rattle.cell_merge.specs.Edges.{any_edge, LeadTo, AreNamed, OneSort}
 use Rattle.set_rewriter.specs.Edges.{kept}
 use Rattle.set_rewriter.specs.Ranges.{from_on, lies}
+use Rattle.set_rewriter.specs.Subsets.{all_subsets}
 use Rattle.tla_values.specs.declared.value.Value.TheVariants as value
 
 -- the value, where it is there
@@ -31,25 +32,6 @@ pub record KeepsEdges (f : Cnf) (es front : List (Lit × CellId)) (keep : List L
   pub members : (a : List Bool) → Satisfies a f → (of : CellId → Value) (p : Value → Bool) →
       any_edge a of p out ≡ list_any p (kept a of front keep)
 
--- whether the test answers what is wanted
-abbrev pub wanted_is : Bool → Bool → Bool
-wanted_is true t = t
-wanted_is false t = not t
-
--- for each of the first n edges a literal: whether its value is a member of the set, or is none, as
--- is wanted
-pub record Marks (c : Cells) (f : Cnf) (set : CellId) (wanted : Bool) (es : List (Lit × CellId)) (n : ℕ) (marks : List Lit) : Type 0 where
-  pub named : All (IsBelow f.vars) marks
-  pub count : length marks ≡ n
-  pub values : (a : List Bool) → Satisfies a f → (i : ℕ) → i < n → (e : Lit × CellId) (l : Lit) →
-      lit_value (slice_index_or marks i l) a ≡ wanted_is wanted (member (decode c a (slice_index_or es i e).1) (elements (decode c a set)))
-
--- edges of one sort over the first n variables
-pub record OneSort (ks : List CellKind) (n : ℕ) (es : List (Lit × CellId)) : Type 0 where
-  pub sort : Sort
-  pub cells : LeadTo ks sort es
-  pub named : AreNamed n es
-
 -- a set of some sort
 pub record IsSetIn (ks : List CellKind) (id : CellId) : Type 0 where
   pub sort : Sort
@@ -60,12 +42,6 @@ pub record AreSets (ks : List CellKind) (n : ℕ) (es : List (Lit × CellId)) : 
   pub sort : Sort
   pub cells : LeadTo ks (set_sort sort) es
   pub named : AreNamed n es
-
--- edges that have the members of the first ones
-pub record JoinsAll (c : Cells) (f : Cnf) (es front out : List (Lit × CellId)) : Type 0 where
-  pub named : AreNamed f.vars out
-  pub sorts : (s : Sort) → LeadTo c.kinds s es → LeadTo c.kinds s out
-  pub members : (a : List Bool) → Satisfies a f → (p : Value → Bool) → any_edge a (decode c a) p out ≡ any_edge a (decode c a) p front
 
 -- more edges, each there only where the literal is true
 pub record Guards (f : Cnf) (l : Lit) (es front old new : List (Lit × CellId)) : Type 0 where
@@ -130,6 +106,11 @@ pub record CountsEdges (c : Cells) (f : Cnf) (es : List (Lit × CellId)) (bits :
   pub below : WordBelow f.vars bits
   pub value : (a : List Bool) → Satisfies a f → bit_number (values bits a) ≡ length (set_of (present a (decode c a) es))
 
+-- a set whose members are just the sets of those members that pass some test
+pub record IsSetOfSubsets (v : Value) (members : List Value) : Type 0 where
+  pub each : (w : Value) → member w (elements v) ≡ true → (test : Value → Bool) × (w ≡ value.Set (filter test members))
+  pub all : (test : Value → Bool) → member (value.Set (filter test members)) (elements v) ≡ true
+
 -- a set of some of the items
 pub record IsSome (v : Value) (items : List Value) : Type 0 where
   pub some : List Value
@@ -173,3 +154,8 @@ pub record SetsAndEdge (b : Build) (cells : List CellId) (e : Lit × CellId) : T
 -- edges of one sort over the build
 pub record EdgesOfSort (b : Build) (es : List (Lit × CellId)) : Type 0 where
   pub edges : OneSort b.arena.kinds b.formula.vars es
+
+-- the cell is the set of all subsets of the edges
+pub record PowersetOf (old new : Build) (es : List (Lit × CellId)) (id : CellId) : Type 0 where
+  pub value : Decodes new id (λ a. all_subsets (set_of (present a (decode old.arena a) es)))
+  pub sort : (s : Sort) → LeadTo old.arena.kinds s es → OfSort new.arena.kinds (set_sort (set_sort s)) id

@@ -1,63 +1,26 @@
-use Rattle.std.proofs.Common.{◌≡◌, true, sym, ◌∙◌, ap, arith, not, ◌&&◌, ◌||◌}
-use Rattle.std.proofs.lemmas.List.Folds.{list_any_more, list_all_more}
-use Rattle.sat_formula.specs.Lit.{lit_value}
-use Rattle.sat_formula.proofs.Extension.{Satisfies-older, Grows-trans}
+use Rattle.std.proofs.Common.{◌≡◌, ◌<◌, true, false, not, length, sym, ◌∙◌, ap, arith}
+use Rattle.std.proofs.lemmas.List.{get_or_default}
+use Rattle.sat_formula.specs.declared.lit.Lit.{Lit}
+use Rattle.sat_formula.proofs.Extension.{Satisfies-older, Grows-refl, Grows-trans}
 use Rattle.tla_values.specs.Order.{same_value}
 use Rattle.tla_values.specs.declared.value.Value.{Value}
 use Rattle.tla_values.proofs.Extensional.{same_itself}
-use Rattle.tla_values.specs.Sets.{member, elements}
-use Rattle.cell_arena.specs.Decode.{decode}
-use Rattle.cell_merge.proofs.Edges.{negated-value, member-all, subset-all, left-there, right-there, one-bit, one-word, one-text, one-set, one-other, sets-back, same-sets-typed, same-bits, same-words}
+use Rattle.cell_arena.specs.declared.kinds.CellId.{CellId}
+use Rattle.cell_merge.specs.Sorts.{OfSort}
+use Rattle.cell_merge.proofs.Edges.{left-there, right-there, one-bit, one-word, one-text, one-set, one-other, is-set, negated-value, same-bits, same-words}
 use Rattle.cell_merge.proofs.Names.{IsOver-later, same-names, words-alike, texts-alike}
+use Rattle.cell_merge.proofs.Pairs.{edges-are, edge-older, edge-named, edge-type, member-type, same-compared, compares-none, compares-more, compares-off, compares-all, meets-more, meets-all, pairs-on}
 use Rattle.cell_merge.proofs.equality.+same.Goals as goal
-use Rattle.cell_merge.proofs.equality.+same.Goals.{same_in-in-Bit+in_default-kind, same_in-in-Word+in_default-kind-2, same_in-in-Text+in_default-kind-3, same_in-in_default}
+use Rattle.cell_merge.proofs.equality.+same.Goals.{same_in-in-Bit+in_default-kind, same_in-in-Word+in_default-kind-2, same_in-in-Text+in_default-kind-3, same_in-in_default, compare-in-Set+else-loop-edge-test, compare-in_default, meet-in-Set+else-loop-i-test, meet-in_default}
+
+abbrev none-lit : Lit
+none-lit = record { var = 0; neg = false }
+
+abbrev none-edge : Lit × CellId
+none-edge = (none-lit, record { index = 0 })
 
 same-alike : {v : Value} {w : Value} → v ≡ w → same_value v w ≡ true
 same-alike {v = v} e = ap (same_value v) (sym e) ∙ same_itself v
-
-pub member_in-loop-l-preserved : goal.member_in-loop-l-preserved
-member_in-loop-l-preserved t c =
-    let k = c.args.arena.now in
-    record {
-      grows = Grows-trans _ _ _ c.loop-l.invariant.grows (Grows-trans _ _ _ c.in_ok-one.ensures.grows (Grows-trans _ _ _ c.in_ok-holds.ensures.grows c.in_ok-any.ensures.grows));
-      value = record {
-        below = c.in_ok-any.ensures.value.below;
-        value = λ a s3.
-            let s2 = Satisfies-older _ _ a c.in_ok-any.ensures.grows s3 in
-            let s1 = Satisfies-older _ _ a c.in_ok-holds.ensures.grows s2 in
-            let s0 = Satisfies-older _ _ a c.in_ok-one.ensures.grows s1 in
-            rw (c.in_ok-any.ensures.value.value a s3, c.in_ok-holds.ensures.value.value a s2, c.in_ok-one.ensures.value.value a s1, c.loop-l.invariant.value.value a s0)
-            (sym (list_any_more (λ e. lit_value e.0 a && same_value (decode k a c.args.x) (decode k a e.1)) c.as_slice-l-items.result.now c.loop-l.l-index _ c.loop-l-test.true));
-      };
-    }
-
-pub member_in-returns-after-loop-l-clause-value : goal.member_in-returns-after-loop-l-clause-value
-member_in-returns-after-loop-l-clause-value t c = record {
-  below = c.loop-l.invariant.value.below;
-  value = λ a s. c.loop-l.invariant.value.value a s ∙ member-all c.args.arena.now a c.args.x c.args.set _ c.in-Set.edges _ c.loop-l.l-index (c.kind.ensures.decodes a) c.in-Set.is c.as_slice-l-items.ensures (omega arith);
-}
-
-pub subset_in-loop-l-preserved : goal.subset_in-loop-l-preserved
-subset_in-loop-l-preserved t c =
-    let k = c.args.arena.now in
-    record {
-      grows = Grows-trans _ _ _ c.loop-l.invariant.grows (Grows-trans _ _ _ c.in_ok-found.ensures.grows (Grows-trans _ _ _ c.in_ok-holds.ensures.grows c.in_ok-all.ensures.grows));
-      value = record {
-        below = c.in_ok-all.ensures.value.below;
-        value = λ a s3.
-            let s2 = Satisfies-older _ _ a c.in_ok-all.ensures.grows s3 in
-            let s1 = Satisfies-older _ _ a c.in_ok-holds.ensures.grows s2 in
-            let s0 = Satisfies-older _ _ a c.in_ok-found.ensures.grows s1 in
-            rw (c.in_ok-all.ensures.value.value a s3, c.in_ok-holds.ensures.value.value a s2, negated-value _ _ a c.negated.ensures, c.in_ok-found.ensures.value.value a s1, c.loop-l.invariant.value.value a s0)
-            (sym (list_all_more (λ e. not (lit_value e.0 a) || member (decode k a e.1) (elements (decode k a c.args.y))) c.as_slice-l-items.result.now c.loop-l.l-index _ c.loop-l-test.true));
-      };
-    }
-
-pub subset_in-returns-after-loop-l-clause-value : goal.subset_in-returns-after-loop-l-clause-value
-subset_in-returns-after-loop-l-clause-value t c = record {
-  below = c.loop-l.invariant.value.below;
-  value = λ a s. c.loop-l.invariant.value.value a s ∙ subset-all c.args.arena.now a c.args.x c.args.y _ c.in-Set.edges _ c.loop-l.l-index (c.kind.ensures.decodes a) c.in-Set.is c.as_slice-l-items.ensures (omega arith);
-}
 
 pub same_in-alike-requires-clause-x_there : goal.same_in-alike-requires-clause-x_there
 same_in-alike-requires-clause-x_there t c = left-there _ _ _ c.requires.types
@@ -112,25 +75,6 @@ same_in-returns-in-Text-kind-clause-value t c = record {
       (sym c.kind.ensures.same ∙ c.in-Text.is) (sym c.kind-in-Text.ensures.same ∙ c.in-Text-kind.is);
 }
 
-pub same_in-subset_in-requires : goal.same_in-subset_in-requires
-same_in-subset_in-requires t c =
-    (omega arith, (c.requires.over, one-set _ _ _ c.requires.types _ (sym c.kind.ensures.same ∙ c.in-Set.is)))
-
-pub same_in-subset_in-requires-in-Set : goal.same_in-subset_in-requires-in-Set
-same_in-subset_in-requires-in-Set t c =
-    (omega arith, (IsOver-later _ _ _ c.requires.over c.in_ok-there-in-Set.ensures.grows, sets-back _ _ _ (one-set _ _ _ c.requires.types _ (sym c.kind.ensures.same ∙ c.in-Set.is))))
-
-pub same_in-returns-in-Set-clause-value : goal.same_in-returns-in-Set-clause-value
-same_in-returns-in-Set-clause-value t c = record {
-  below = c.in_ok-sets-in-Set.ensures.value.below;
-  value = λ a s2.
-      let s1 = Satisfies-older _ _ a c.in_ok-sets-in-Set.ensures.grows s2 in
-      let s0 = Satisfies-older _ _ a c.in_ok-back-in-Set.ensures.grows s1 in
-      rw (c.in_ok-sets-in-Set.ensures.value.value a s2, c.in_ok-back-in-Set.ensures.value.value a s1, c.in_ok-there-in-Set.ensures.value.value a s0)
-      (sym (same-sets-typed c.args.arena.now a c.args.x c.args.y _ c.requires.over.built (sym c.kind.ensures.same ∙ c.in-Set.is)
-      (one-set _ _ _ c.requires.types _ (sym c.kind.ensures.same ∙ c.in-Set.is))));
-}
-
 pub same_in-returns-clause-value : goal.same_in-returns-clause-value
 same_in-returns-clause-value t c =
     let never : ⊥ = elim c.match-kind.branch [
@@ -141,3 +85,125 @@ same_in-returns-clause-value t c =
           (λ v f. w.in_default.not-Text v (c.kind.ensures.same ∙ f)) (λ es f. w.in_default.not-Set es (c.kind.ensures.same ∙ f))
     ] in
     absurd never
+
+pub same_in-same_sets-requires : goal.same_in-same_sets-requires
+same_in-same_sets-requires t c = (omega arith, (c.requires.over, one-set _ _ _ c.requires.types _ (sym c.kind.ensures.same ∙ c.in-Set.is)))
+
+pub pair-returns-clause-pairs : goal.pair-returns-clause-pairs
+pair-returns-clause-pairs t c =
+    pairs-on _ _ _ _ _ _ _ _ _ _ _ _ _ c.in_ok-found.ensures.grows c.in_ok-there.ensures.grows c.in_ok-covered.ensures.grows c.in_ok-here.ensures.grows
+    c.in_ok-one.ensures.value c.in_ok-here.ensures.value c.in_ok-found.ensures.value c.in_ok-there.ensures.value c.in_ok-covered.ensures.value
+
+pub compare-loop-edge-init : goal.compare-loop-edge-init
+compare-loop-edge-init t c = record {
+  grows = Grows-refl _;
+  compares = compares-none _ _ _ _ c.negated-none.result _ _ (let v = ap (λ (l : Lit). l.var) c.negated-none.ensures in let b = c.top.ensures.below in omega arith)
+      (λ a s. negated-value _ _ a c.negated-none.ensures ∙ ap not (c.top.ensures.forced a s)) c.new-found.ensures.items c.in_ok-covered.ensures;
+}
+
+pub compare-loop-edge-preserved-in-Some-false : goal.compare-loop-edge-preserved-in-Some-false
+compare-loop-edge-preserved-in-Some-false t c =
+    let i = c.loop-edge.invariant in
+    record {
+      grows = i.grows;
+      compares = compares-off _ _ c.as_slice-edge-items.result.now _ c.loop-edge.edge-index _ c.negated-none.result _ _ _ c.loop-edge-test.true (get_or_default _ _ _ _ c.loop-edge-test.true) i.compares
+          (let v = ap (λ (l : Lit). l.var) c.negated-none.ensures in let b = c.top.ensures.below in let g = i.grows.vars in omega arith)
+          (λ a s. c.in-Some-false.ensures.value a s ∙ c.in-Some-false.field-0-test) c.in_ok-push.ensures.items;
+    }
+
+pub compare-meet-requires : goal.compare-meet-requires
+compare-meet-requires t c =
+    let i = c.loop-edge.invariant in
+    let older = edge-older c.args.arena.now _ _ c.in-Set.edges c.as_slice-edge-items.result.now c.loop-edge.edge-index none-edge c.kind.ensures.held c.in-Set.is c.as_slice-edge-items.ensures c.loop-edge-test.true in
+    let fits = c.requires.over.fits in
+    let grown = i.grows.vars in (
+      omega arith,
+      (
+        IsOver-later _ _ _ c.requires.over i.grows,
+        (
+          record {
+            types = edge-type _ _ _ _ c.in-Set.edges _ _ _ c.requires.types c.kind.ensures.same c.in-Set.is c.as_slice-edge-items.ensures c.loop-edge-test.true;
+            below = edge-named c.args.arena.now _ _ c.in-Set.edges c.as_slice-edge-items.result.now c.loop-edge.edge-index none-edge c.kind.ensures.held c.in-Set.is c.as_slice-edge-items.ensures c.loop-edge-test.true _ (omega arith);
+          },
+          record {
+            there = c.requires.types.right.0;
+            named = rw c.as_slice.ensures.value i.compares.covered.named;
+            count = rw c.as_slice.ensures.value i.compares.covered.count;
+          },
+        ),
+      ),
+    )
+
+pub compare-loop-edge-preserved : goal.compare-loop-edge-preserved
+compare-loop-edge-preserved t c =
+    let i = c.loop-edge.invariant in
+    record {
+      grows = Grows-trans _ _ _ i.grows c.in_ok-here.ensures.grows;
+      compares = compares-more _ _ _ c.as_slice-edge-items.result.now _ c.loop-edge.edge-index _ _ _ _ _ _ c.loop-edge-test.true (get_or_default _ _ _ _ c.loop-edge-test.true) i.compares c.in_ok-here.ensures.grows
+          c.in_ok-push-2.ensures.items (rw c.as_slice.ensures.value at c.in_ok-here.ensures.meets);
+    }
+
+pub compare-returns-clause-compares : goal.compare-returns-clause-compares
+compare-returns-clause-compares t c = elim c.match-kind.branch [
+  | compare-in-Set+else-loop-edge-test w ↦ rw (w.formula-is, w.found-is, w.covered-is)
+      (compares-all _ _ w.as_slice-edge-items.result.now _ _ w.loop-edge.edge-index _ w.loop-edge.invariant.compares (omega arith)
+      (edges-are c.args.arena.now.kinds c.args.x _ w.in-Set.edges _ c.kind.ensures.same w.in-Set.is w.as_slice-edge-items.ensures))
+  | compare-in_default w ↦
+      let f = is-set (OfSort c.args.arena.now.kinds c.requires.types.sort) _ c.requires.types.left.1 in
+      absurd (w.in_default.not-Set f.0 (c.kind.ensures.same ∙ f.1))
+]
+
+pub meet-pair-requires : goal.meet-pair-requires
+meet-pair-requires t c =
+    let i = c.loop-i.invariant in
+    let lt : c.loop-i.i < length c.as_slice-es.result.now = omega arith in
+    let older = edge-older c.args.arena.now _ _ c.in-Set.edges c.as_slice-es.result.now c.loop-i.i none-edge c.kind.ensures.held c.in-Set.is c.as_slice-es.ensures lt in
+    let long = c.requires.tests.count ∙ ap length (edges-are c.args.arena.now.kinds c.args.set _ c.in-Set.edges _ c.kind.ensures.same c.in-Set.is c.as_slice-es.ensures) in
+    let le : c.loop-i.i < length c.args.covered.now = omega arith in
+    let fits = c.requires.over.fits in
+    let grown = i.grows.vars in
+    let left = c.requires.types.below in
+    let covered = c.requires.tests.named c.loop-i.i none-lit le in (
+      omega arith,
+      (
+        IsOver-later _ _ _ c.requires.over i.grows,
+        record {
+          types = member-type _ _ _ _ c.in-Set.edges _ _ _ c.requires.types.types c.kind.ensures.same c.in-Set.is c.as_slice-es.ensures lt;
+          left = omega arith;
+          right = edge-named c.args.arena.now _ _ c.in-Set.edges c.as_slice-es.result.now c.loop-i.i none-edge c.kind.ensures.held c.in-Set.is c.as_slice-es.ensures lt _ (omega arith);
+          found = i.meets.found.below;
+          covered = omega arith;
+        },
+      ),
+    )
+
+pub meet-loop-i-preserved : goal.meet-loop-i-preserved
+meet-loop-i-preserved t c =
+    let i = c.loop-i.invariant in
+    let lt : c.loop-i.i < length c.as_slice-es.result.now = omega arith in
+    let long = c.requires.tests.count ∙ ap length (edges-are c.args.arena.now.kinds c.args.set _ c.in-Set.edges _ c.kind.ensures.same c.in-Set.is c.as_slice-es.ensures) in
+    let le : c.loop-i.i < length c.args.covered.now = omega arith in
+    record {
+      grows = Grows-trans _ _ _ i.grows c.in_ok-here.ensures.grows;
+      meets = meets-more _ _ _ _ c.as_slice-es.result.now c.loop-i.i _ _ c.args.covered.now _ _ _ _ _ lt le (get_or_default _ _ _ _ lt) (get_or_default _ _ _ _ le) i.meets c.in_ok-here.ensures.grows c.in_ok-here.ensures.pairs c.in_ok-push.ensures.items;
+    }
+
+pub meet-returns-clause-meets : goal.meet-returns-clause-meets
+meet-returns-clause-meets t c = elim c.match-kind.branch [
+  | meet-in-Set+else-loop-i-test w ↦ rw (w.formula-is, w.found-is, w.more-is)
+      (meets-all _ _ _ w.as_slice-es.result.now _ w.loop-i.i _ _ w.loop-i.invariant.meets (omega arith) (edges-are c.args.arena.now.kinds c.args.set _ w.in-Set.edges _ c.kind.ensures.same w.in-Set.is w.as_slice-es.ensures))
+  | meet-in_default w ↦
+      let f = is-set (OfSort c.args.arena.now.kinds c.requires.types.types.sort) _ c.requires.types.types.right.1 in
+      absurd (w.in_default.not-Set f.0 (c.kind.ensures.same ∙ f.1))
+]
+
+pub same_sets-returns-clause-value : goal.same_sets-returns-clause-value
+same_sets-returns-clause-value t c = record {
+  below = c.in_ok-both.ensures.value.below;
+  value = λ a s3.
+      let s2 = Satisfies-older _ _ a c.in_ok-both.ensures.grows s3 in
+      let s1 = Satisfies-older _ _ a c.in_ok-back.ensures.grows s2 in
+      let s0 = Satisfies-older _ _ a c.in_ok-there.ensures.grows s1 in
+      rw (c.in_ok-both.ensures.value.value a s3, c.in_ok-back.ensures.value.value a s2, c.in_ok-there.ensures.value.value a s1, c.as_slice.ensures.value, c.as_slice-2.ensures.value)
+      (same-compared c.args.arena.now _ a c.args.x c.args.y _ _ c.requires.over.built c.requires.types s0 c.in_ok-found.ensures.compares);
+}

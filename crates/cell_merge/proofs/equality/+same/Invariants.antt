@@ -1,29 +1,33 @@
-use Rattle.std.proofs.Common.{◌+◌, ◌*◌, ◌&&◌, ◌||◌, not, take}
-use Rattle.std.specs.List.{list_any, list_all}
-use Rattle.sat_formula.specs.Lit.{lit_value}
-use Rattle.sat_formula.specs.Formula.{Grows, HasValue}
-use Rattle.tla_values.specs.Order.{same_value}
-use Rattle.tla_values.specs.Sets.{member, elements}
-use Rattle.cell_arena.specs.Decode.{decode}
+use Rattle.std.proofs.Common.{◌+◌, ◌*◌}
+use Rattle.sat_formula.specs.Formula.{Grows}
+use Rattle.cell_arena.specs.Cells.{kind_at}
+use Rattle.cell_merge.specs.Edges.{edges_of}
+use Rattle.cell_merge.specs.inner.Pairs.{Meets, Compares}
 use Rattle.cell_merge.proofs.equality.+same.Given as goal
 
-abbrev pub decreases-member_in : goal.decreases-member_in
-decreases-member_in l = 3 * (l.x.index + l.set.index)
+abbrev pub decreases-meet : goal.decreases-meet
+decreases-meet l = 4 * (l.edge.1.index + l.set.index)
 
-abbrev pub decreases-subset_in : goal.decreases-subset_in
-decreases-subset_in l = 3 * (l.x.index + l.y.index) + 1
+abbrev pub decreases-compare : goal.decreases-compare
+decreases-compare l = 4 * (l.x.index + l.y.index)
+
+abbrev pub decreases-same_sets : goal.decreases-same_sets
+decreases-same_sets l = 4 * (l.x.index + l.y.index) + 1
 
 abbrev pub decreases-same_in : goal.decreases-same_in
-decreases-same_in l = 3 * (l.x.index + l.y.index) + 2
+decreases-same_in l = 4 * (l.x.index + l.y.index) + 2
 
-abbrev pub invariant-member_in-loop-l : goal.invariant-member_in-loop-l
-invariant-member_in-loop-l l = record {
-  grows : Grows l.fn.formula l.formula;
-  value : HasValue l.formula l.any (λ a. list_any (λ e. lit_value e.0 a && same_value (decode l.arena a l.x) (decode l.arena a e.1)) (take l.l-index l.l-items));
+abbrev pub decreases-pair : goal.decreases-pair
+decreases-pair l = 4 * (l.x.1.index + l.y.1.index) + 3
+
+abbrev pub invariant-compare-loop-edge : goal.invariant-compare-loop-edge
+invariant-compare-loop-edge l = record {
+  grows : Grows l.initial.formula l.formula;
+  compares : Compares l.arena l.formula l.edge-items (edges_of (kind_at l.arena.kinds l.y)) l.edge-index (l.found.items, l.covered.items);
 }
 
-abbrev pub invariant-subset_in-loop-l : goal.invariant-subset_in-loop-l
-invariant-subset_in-loop-l l = record {
+abbrev pub invariant-meet-loop-i : goal.invariant-meet-loop-i
+invariant-meet-loop-i l = record {
   grows : Grows l.fn.formula l.formula;
-  value : HasValue l.formula l.all (λ a. list_all (λ e. not (lit_value e.0 a) || member (decode l.arena a e.1) (elements (decode l.arena a l.y))) (take l.l-index l.l-items));
+  meets : Meets l.arena l.formula l.edge l.es l.i l.covered (l.found, l.more.items);
 }

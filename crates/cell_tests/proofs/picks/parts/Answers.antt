@@ -5,7 +5,7 @@ use Rattle.cell_arena.specs.declared.kinds.CellKind.{CellKind}
 use Rattle.cell_arena.proofs.Growing.{kind-before, Grows-trans}
 use Rattle.cell_merge.specs.Sorts.{OfSort, number, set_of}
 use Rattle.cell_merge.proofs.SortLaws.{OfSort-later}
-use Rattle.set_rewriter.specs.Edges.{edges_of}
+use Rattle.cell_merge.specs.Edges.{edges_of}
 use Rattle.cell_tests.proofs.picks.parts.Goals as goal
 
 pub map-requires-clause-set : goal.map-requires-clause-set

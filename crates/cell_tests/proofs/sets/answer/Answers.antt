@@ -1,16 +1,14 @@
-use Rattle.cell_merge.specs.Sorts.{number, set_of}
-use Rattle.cell_merge.proofs.SortLaws.{OfSort-later}
+use Rattle.cell_merge.specs.Sorts.{set_of}
+use Rattle.cell_tests.proofs.MemberSorts.{as-type}
 use Rattle.cell_tests.proofs.sets.answer.Goals as goal
 
 pub choose_cell-requires-clause-types : goal.choose_cell-requires-clause-types
-choose_cell-requires-clause-types c = record { sort = set_of number; left = c.requires.x_sort; right = c.requires.y_sort }
+choose_cell-requires-clause-types c = as-type _ _ _ c.requires.types
 
-pub same-requires : goal.same-requires
-same-requires c = record { sort = set_of number; left = c.requires.x_sort; right = c.requires.y_sort }
+pub two_edges-requires-clause-types : goal.two_edges-requires-clause-types
+two_edges-requires-clause-types c = as-type _ _ _ c.requires.types
 
-pub member-requires : goal.member-requires
-member-requires c = record {
-  sort = number;
-  left = c.in_ok-k.ensures.sort;
-  right = OfSort-later _ _ (set_of number) _ c.requires.y_sort c.in_ok-k.ensures.grows;
-}
+pub big_union-requires : goal.big_union-requires
+big_union-requires c =
+    let t = c.requires.types in
+    record { sort = t.sort; is = c.in_ok-sets.ensures.sort (set_of t.sort) t.left t.right }

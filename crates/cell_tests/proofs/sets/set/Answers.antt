@@ -4,9 +4,11 @@ use Rattle.sat_formula.specs.declared.lit.Lit.{Lit}
 use Rattle.sat_formula.specs.Lit.{IsBelow}
 use Rattle.cell_arena.specs.declared.kinds.CellId.{CellId}
 use Rattle.cell_arena.proofs.Growing.{Grows-trans}
-use Rattle.cell_merge.specs.Sorts.{OfSort, number}
+use Rattle.cell_merge.specs.Sorts.{OfSort}
+use Rattle.cell_merge.proofs.SortLaws.{sort-set}
 use Rattle.cell_merge.proofs.Layering.{LeadTo-later}
 use Rattle.cell_merge.proofs.Unions.{AreNamed-later}
+use Rattle.cell_tests.specs.Kinds.{sort_of}
 use Rattle.cell_tests.proofs.sets.set.Goals as goal
 
 pub loop-i-preserved : goal.loop-i-preserved
@@ -22,6 +24,9 @@ loop-i-preserved c =
     record {
       grows = Grows-trans _ _ _ i.grows r.grows;
       bits = All-weaker (IsBelow m) (IsBelow n) (λ l h. omega arith) c.args.bits.now i.bits;
-      cells = rw c.in_ok-push.ensures.items (All-push (λ (e : Lit × CellId). OfSort b.arena.kinds number e.1) list edge (LeadTo-later c.loop-i.b b number list i.cells r.grows) r.sort);
+      cells = rw c.in_ok-push.ensures.items (All-push (λ (e : Lit × CellId). OfSort b.arena.kinds (sort_of c.args.kind) e.1) list edge (LeadTo-later c.loop-i.b b (sort_of c.args.kind) list i.cells r.grows) r.sort);
       named = rw c.in_ok-push.ensures.items (All-push (λ (e : Lit × CellId). IsBelow n e.0) list edge (AreNamed-later m n list i.named more) c.literal_of-l.ensures);
     }
+
+pub returns-clause-sort : goal.returns-clause-sort
+returns-clause-sort c = sort-set _ _ _ (sort_of c.args.kind) _ c.in_ok-id.ensures.cell c.in_ok-id.ensures.grows (rw c.from_vec.ensures c.loop-i.invariant.cells)

@@ -1,6 +1,7 @@
-use Rattle.cell_merge.specs.Sorts.{number, set_of}
+use Rattle.cell_merge.specs.Sorts.{set_of}
 use Rattle.cell_merge.proofs.SortLaws.{OfSort-later}
+use Rattle.cell_tests.specs.Kinds.{sort_of}
 use Rattle.cell_tests.proofs.sets.text_of.Goals as goal
 
-pub answer-requires-clause-x_sort : goal.answer-requires-clause-x_sort
-answer-requires-clause-x_sort c = OfSort-later _ _ (set_of number) _ c.in_ok-left.ensures.sort c.in_ok-right.ensures.grows
+pub solved-requires-clause-left : goal.solved-requires-clause-left
+solved-requires-clause-left c = OfSort-later _ _ (set_of (sort_of c.args.kind)) _ c.in_ok-left.ensures.sort c.in_ok-right.ensures.grows

@@ -5,7 +5,8 @@ use Rattle.cell_arena.proofs.Growing.{Grows-trans, Grows-formula}
 use Rattle.cell_merge.proofs.Edges.{edges-sort}
 use Rattle.cell_merge.proofs.Chosen.{lead-there}
 use Rattle.tla_values.specs.Sets.{set_of}
-use Rattle.set_rewriter.specs.Edges.{edges_of, kept}
+use Rattle.cell_merge.specs.Edges.{edges_of}
+use Rattle.set_rewriter.specs.Edges.{kept}
 use Rattle.set_rewriter.proofs.Made.{made, set-found}
 use Rattle.set_rewriter.proofs.filters.filter.Goals as goal
 

@@ -11,7 +11,7 @@ loop-i-preserved-in-Some-false c =
     let r = c.in_ok-both.ensures in
     record {
       grows = Grows-trans _ _ _ i.grows r.grows;
-      keeps = keeps-passed _ _ c.args.edges.now c.args.keep.now c.loop-i.i _ _ _ _ lt le i.keeps r.grows r.value (λ a s. c.in-Some-false.ensures a s ∙ c.in-Some-false.field-0-test);
+      keeps = keeps-passed _ _ c.args.edges.now c.args.keep.now c.loop-i.i _ _ _ _ lt le i.keeps r.grows r.value (λ a s. c.in-Some-false.ensures.value a s ∙ c.in-Some-false.field-0-test);
     }
 
 pub loop-i-preserved : goal.loop-i-preserved

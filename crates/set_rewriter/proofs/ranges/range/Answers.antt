@@ -24,7 +24,7 @@ loop-i-preserved-in-Some-false c =
     record {
       grows = Grows-trans _ _ _ i.grows c.in_ok-edge.ensures.grows;
       candidates = candidates-passed _ _ _ c.args.x c.args.y _ _ c.loop-i.i _ _ c.requires.numbers i.grows c.in_ok-edge.ensures.grows (to_z-of_z w128 c.number_at-n.result (record { sfits = c.number_at-n.type_inv }) ∙ c.number_at-n.ensures) i.candidates c.in_ok-edge.ensures.candidate
-          (λ a s. c.in-Some-false.ensures a s ∙ c.in-Some-false.field-0-test);
+          (λ a s. c.in-Some-false.ensures.value a s ∙ c.in-Some-false.field-0-test);
     }
 
 pub loop-i-preserved : goal.loop-i-preserved

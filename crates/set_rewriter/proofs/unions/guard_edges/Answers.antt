@@ -9,7 +9,7 @@ loop-m-preserved-in-Some-false c =
     let r = c.in_ok-both.ensures in
     record {
       grows = Grows-trans _ _ _ i.grows r.grows;
-      guards = guards-passed _ _ c.args.l c.args.edges.now c.loop-m.m-index _ _ _ _ c.loop-m-test.true i.guards r.grows r.value (λ a s. c.in-Some-false.ensures a s ∙ c.in-Some-false.field-0-test);
+      guards = guards-passed _ _ c.args.l c.args.edges.now c.loop-m.m-index _ _ _ _ c.loop-m-test.true i.guards r.grows r.value (λ a s. c.in-Some-false.ensures.value a s ∙ c.in-Some-false.field-0-test);
     }
 
 pub loop-m-preserved : goal.loop-m-preserved

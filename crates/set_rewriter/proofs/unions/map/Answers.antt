@@ -4,13 +4,15 @@ use Rattle.cell_arena.specs.declared.kinds.CellKind.{CellKind}
 use Rattle.cell_arena.specs.Decode.{decode, present}
 use Rattle.cell_arena.proofs.Growing.{Grows-trans, Grows-formula}
 use Rattle.cell_merge.proofs.Chosen.{lead-there}
-use Rattle.set_rewriter.specs.Edges.{edges_of, image_edges}
-use Rattle.set_rewriter.proofs.Made.{maps, edges-named}
+use Rattle.cell_merge.specs.Edges.{edges_of}
+use Rattle.set_rewriter.specs.Edges.{image_edges}
+use Rattle.cell_merge.proofs.Unions.{edges-named}
+use Rattle.set_rewriter.proofs.Made.{maps}
 use Rattle.set_rewriter.proofs.Gathering.{images-sort, images-named, joined-set}
 use Rattle.set_rewriter.proofs.unions.map.Goals as goal
 
-pub join_all-requires : goal.join_all-requires
-join_all-requires c =
+pub join_alike-requires : goal.join_alike-requires
+join_alike-requires c =
     let b = c.args.b.now in
     let r = c.requires.images in
     rw (c.as_slice-2.ensures.value, c.in_ok-imaged.ensures, c.as_slice.ensures) (record {

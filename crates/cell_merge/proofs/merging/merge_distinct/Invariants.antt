@@ -1,7 +1,7 @@
 use Rattle.std.proofs.Common.{drop}
 use Rattle.sat_formula.specs.Formula.{Grows}
 use Rattle.cell_merge.specs.inner.Parts.{Joining}
-use Rattle.cell_merge.proofs.merging.merge_edges.Given as goal
+use Rattle.cell_merge.proofs.merging.merge_distinct.Given as goal
 
 abbrev pub invariant-loop-l : goal.invariant-loop-l
 invariant-loop-l l = record {
