@@ -1,0 +1,129 @@
+// What texts say, a case a line: `UNITS => PARTS`, the parts as `showing` shows them.
+//
+// The expected parts are written by hand, from what the text says (Specifying Systems, sections 2.2 and 17.1).
+ghost use Rattle.std.specs.Prelude.{◌≤◌, length, IfSome};
+
+use crate::cases::{MODULES, NOT_PLAIN, PLAIN, WITHOUT_JOB};
+use crate::showing::{Said, put_said};
+use plain_jobs::{module_job, plain_of};
+use std::alloc::{AllocError, Global};
+use std::test::Fail;
+use tla_lexer::tokens;
+use tla_meaning::Module;
+use tla_parser::parse;
+
+fn said_by(alloc: Global, module: &Module) -> Result<Said, AllocError> {
+    let Some(job) = module_job(alloc, b"M.tla", module)? else {
+        return Ok(Said::NoJob);
+    };
+    match plain_of(alloc, &job)? {
+        Some(plain) => Ok(Said::Says(plain)),
+        None => Ok(Said::NotPlain),
+    }
+}
+
+// What the text of a module says.
+fn said(alloc: Global, text: &[u8]) -> Result<Said, Fail> {
+    if text.len() > 100_000_000 {
+        return Err("too long".into());
+    }
+    let found = tokens(alloc, 0, text)?;
+    if found.is_empty() {
+        return Err("no tokens".into());
+    }
+    match parse(alloc, &found) {
+        Ok(module) => Ok(said_by(alloc, &module)?),
+        Err(_) => Ok(Said::NoModule),
+    }
+}
+
+fn shown(alloc: Global, text: &[u8]) -> Result<Vec<u8>, Fail> {
+    let mut out = Vec::new(alloc);
+    put_said(&mut out, &said(alloc, text)?)?;
+    Ok(out)
+}
+
+// The module of these units: `;` stands for a line feed, `$` and `%` for notes on the types Bool and Int.
+fn module_of(alloc: Global, units: &[u8]) -> Result<Vec<u8>, AllocError> {
+    let mut text = Vec::from_slice(alloc, b"---- MODULE M ----\n")?;
+    for byte in units {
+        match *byte {
+            b';' => text.push(b'\n')?,
+            b'$' => text.extend_from_slice(b"(* @type: Bool; *)")?,
+            b'%' => text.extend_from_slice(b"(* @type: Int; *)")?,
+            other => text.push(other)?,
+        }
+    }
+    text.extend_from_slice(b"\n====\n")?;
+    Ok(text)
+}
+
+// Where ` => ` stands in the line.
+fn arrow(line: &[u8]) -> Option<usize>
+    ensures { IfSome result (λ i. i ≤ length line.now) }
+{
+    for i in 0..line.len() {
+        if line[i..].starts_with(b" => ") {
+            return Some(i);
+        }
+    }
+    None
+}
+
+// The lines of the table that say something else than they should, each with what it says.
+fn differing(alloc: Global, table: &str) -> Result<Vec<u8>, Fail> {
+    let mut report = Vec::new(alloc);
+    for line in table.lines() {
+        differs(alloc, line.as_bytes(), &mut report)?;
+    }
+    Ok(report)
+}
+
+fn differs(alloc: Global, line: &[u8], report: &mut Vec<u8>) -> Result<(), Fail> {
+    let Some(at) = arrow(line) else {
+        report.extend_from_slice(b"no arrow: ")?;
+        report.extend_from_slice(line)?;
+        report.push(b'\n')?;
+        return Ok(());
+    };
+    let found = shown(alloc, module_of(alloc, &line[..at])?.as_slice())?;
+    let rest = &line[at..];
+    if !rest.ends_with(found.as_slice()) || rest.len() != found.len() + 4 {
+        report.extend_from_slice(line)?;
+        report.extend_from_slice(b" BUT ")?;
+        report.extend_from_slice(found.as_slice())?;
+        report.push(b'\n')?;
+    }
+    Ok(())
+}
+
+#[test]
+fn plain_modules_say_their_parts(rt: HostRuntime) -> Result<(), Fail> {
+    let report = differing(rt.alloc(), PLAIN)?;
+    assert_eq!(rt; report.as_slice(), b"".as_slice());
+    Ok(())
+}
+
+#[test]
+fn other_trees_and_notes_are_not_plain(rt: HostRuntime) -> Result<(), Fail> {
+    let report = differing(rt.alloc(), NOT_PLAIN)?;
+    assert_eq!(rt; report.as_slice(), b"".as_slice());
+    Ok(())
+}
+
+#[test]
+fn other_units_are_no_job(rt: HostRuntime) -> Result<(), Fail> {
+    let report = differing(rt.alloc(), WITHOUT_JOB)?;
+    assert_eq!(rt; report.as_slice(), b"".as_slice());
+    Ok(())
+}
+
+#[test]
+fn modules_on_many_lines_say_their_parts(rt: HostRuntime) -> Result<(), Fail> {
+    let alloc = rt.alloc();
+    for (text, expected) in &MODULES {
+        let found = shown(alloc, text.as_bytes())?;
+        assert_eq!(rt; found.as_slice(), expected.as_bytes());
+    }
+    Ok(())
+}
