@@ -1,5 +1,5 @@
 -- How many items there are for a variable.
-use Rattle.std.proofs.Common.{◌≡◌, ℕ, zero, suc, ◌+◌, ◌<◌, ◌≤◌, Bool, true, false, List, [], ◌∷◌, length, take, get_or, refl, sym, ◌∙◌, ap, subst, arith, None}
+use Rattle.std.proofs.Common.{◌≡◌, ℕ, zero, suc, ◌+◌, ◌<◌, ◌≤◌, Bool, true, false, List, [], ◌∷◌, length, take, get_or, refl, sym, ◌∙◌, ap, arith, None}
 use Rattle.std.specs.Prelude.{◌&&◌, cond, nat_eq, not, count_by, if◌then◌else◌, IsTrue}
 use Rattle.std.specs.List.{list_all}
 use mathlib.Core.Bool.{beq}

@@ -1,7 +1,7 @@
 -- A job means what its parts say.
-use Rattle.std.proofs.Common.{◌≡◌, ℕ, zero, suc, ◌+◌, ◌<◌, ◌≤◌, Bool, true, false, List, [], ◌∷◌, map, length, get_or, Option, Some, None, All, ◌⊎◌, inl, inr, refl, sym, ◌∙◌, ap, subst, arith}
-use Rattle.std.specs.Prelude.{◌&&◌, ◌||◌, cond, not, nat_eq, nat_lt, is_some, count_by, if◌then◌else◌, IsTrue}
-use Rattle.std.specs.List.{list_all, list_any}
+use Rattle.std.proofs.Common.{◌≡◌, ℕ, ◌+◌, ◌<◌, ◌≤◌, Bool, true, false, List, [], ◌∷◌, map, length, get_or, Option, Some, None, All, inl, inr, refl, sym, ◌∙◌, ap, subst, arith}
+use Rattle.std.specs.Prelude.{◌&&◌, ◌||◌, cond, not, nat_eq, nat_lt, is_some, count_by, if◌then◌else◌}
+use Rattle.std.specs.List.{list_all}
 use Rattle.std.specs.Ordering.{is_eq}
 use Rattle.std.specs.declared.cmp.Ordering.{Ordering}
 use Rattle.std.specs.declared.cmp.Ordering.TheVariants.{Less, Equal, Greater}
@@ -24,7 +24,7 @@ use Rattle.tla_meaning.specs.Numbers.{Width}
 use Rattle.tla_meaning.specs.Operators.{yes_no}
 use Rattle.plain_jobs.specs.Holds.{AreTruths, IsTruth, MeansSo, all_hold_in, asks_for, holds_in, some_hold_in, value_at}
 use Rattle.plain_jobs.specs.Parts.{branches_of, conjuncts_of, part}
-use Rattle.plain_jobs.specs.Plain.{GivesEach, IsBranch, IsPlain, IsSaid, IsStart, IsWhole, gives, is_guard, is_item}
+use Rattle.plain_jobs.specs.Plain.{GivesEach, IsBranch, IsPlain, IsStart, IsWhole, gives, is_guard, is_item}
 use Rattle.plain_jobs.specs.declared.parts.Part.{Part}
 use Rattle.plain_jobs.specs.declared.parts.Part.TheVariants.{Variable, Truth, TruthValues, Conjuncts, Branches, Other}
 use Rattle.plain_jobs.specs.declared.plain.Plain.{Plain}

@@ -1,21 +1,19 @@
 -- The job of a module in the fixed layout says what the module's lines do.
-use Rattle.std.proofs.Common.{◌≡◌, ℕ, zero, suc, ◌+◌, ◌<◌, ◌≤◌, Bool, true, false, List, [], ◌∷◌, length, map, Option, Some, None, option_map, All, refl, sym, ◌∙◌, ap, subst, arith}
-use Rattle.std.specs.Prelude.{◌&&◌, ◌||◌, cond, not, nat_eq, nat_lt, is_some, count_by, if◌then◌else◌, IsTrue}
+use Rattle.std.proofs.Common.{◌≡◌, ℕ, suc, ◌+◌, ◌<◌, ◌≤◌, Bool, true, false, List, [], ◌∷◌, length, map, Option, Some, None, option_map, All, refl, sym, ◌∙◌, ap, subst, arith}
+use Rattle.std.specs.Prelude.{◌&&◌, ◌||◌, cond, not, nat_eq, nat_lt, if◌then◌else◌}
 use Rattle.std.specs.List.{list_all}
-use Rattle.std.proofs.lemmas.Bool.{and_parts, eqb-true, eq-eqb, ltb-true}
+use Rattle.std.proofs.lemmas.Bool.{and_parts, eqb-true, eq-eqb}
 use Rattle.std.proofs.lemmas.List.Elements.{All-nil, All-cons}
 use Rattle.tla_meaning.specs.declared.boolean.BooleanModule.{BooleanModule}
 use Rattle.tla_meaning.specs.declared.boolean.Conjunct.{Conjunct}
-use Rattle.tla_meaning.specs.declared.expr.Decl.{Decl}
-use Rattle.tla_meaning.specs.declared.expr.Expr.{Expr}
 use Rattle.tla_meaning.specs.declared.op.Op.TheVariants as op
 use Rattle.tla_meaning.specs.declared.place.Place.{Place}
-use Rattle.tla_meaning.specs.BooleanLayout.{IsBooleanModule, behind, branch_trees, conjunct_text, conjunct_tree, conjunct_trees, conjunction_tree, declarations, gives_each, init_line, is_branch, is_guard, job_of, leaf, next_tree, operand, operator, place_at, tree}
+use Rattle.tla_meaning.specs.BooleanLayout.{IsBooleanModule, behind, branch_trees, conjunct_text, conjunct_tree, conjunct_trees, conjunction_tree, declarations, gives_each, init_line, is_branch, is_guard, job_of, leaf, operand, operator, place_at, tree}
 use Rattle.plain_jobs.specs.Layout.{said_by}
 use Rattle.plain_jobs.specs.Parts.{all_conjuncts, branches_of, conjuncts_of, each_conjuncts, part}
-use Rattle.plain_jobs.specs.Plain.{GivesEach, IsBranch, IsPlain, IsSaid, IsStart, IsWhole, gives, is_boolean, is_item}
+use Rattle.plain_jobs.specs.Plain.{GivesEach, IsBranch, IsPlain, gives, is_boolean, is_item}
 use Rattle.plain_jobs.specs.declared.parts.Part.{Part}
-use Rattle.plain_jobs.specs.declared.parts.Part.TheVariants.{Conjuncts, Truth}
+use Rattle.plain_jobs.specs.declared.parts.Part.TheVariants.{Conjuncts}
 use Rattle.plain_jobs.proofs.Counts.{as_counted, counted}
 use Rattle.plain_jobs.proofs.Trees.{part-roll}
 

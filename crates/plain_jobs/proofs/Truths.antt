@@ -1,12 +1,9 @@
 -- What conjuncts say of the values of any state.
-use Rattle.std.proofs.Common.{◌≡◌, ℕ, zero, suc, ◌+◌, ◌<◌, Bool, true, false, List, [], ◌∷◌, ◌++◌, map, length, get_or, Option, Some, None, option_map, All, refl, sym, ◌∙◌, ap, subst, arith}
+use Rattle.std.proofs.Common.{◌≡◌, ℕ, ◌<◌, Bool, true, false, List, [], ◌∷◌, ◌++◌, map, length, Option, Some, None, option_map, All, refl, sym, ◌∙◌, ap, subst, arith}
 use Rattle.std.specs.Prelude.{◌&&◌, ◌||◌, slice_get, if◌then◌else◌}
-use Rattle.std.specs.List.{list_all, list_any}
 use Rattle.std.proofs.lemmas.List.Elements.{All-head, All-tail, All-nil, All-cons}
 use Rattle.std.proofs.lemmas.List.Folds.{list_all-append}
 use Rattle.std.proofs.lemmas.Option.{slice_get-get_or}
-use Rattle.tla_values.specs.Order.{same_value}
-use Rattle.tla_values.specs.Sets.{member}
 use Rattle.tla_values.specs.declared.value.Value.{Value}
 use Rattle.tla_values.specs.declared.value.Value.TheVariants as value
 use Rattle.tla_meaning.specs.declared.actions.Assignable.{Assignable}
@@ -32,7 +29,7 @@ use Rattle.tla_meaning.specs.Operators.{yes_no}
 use Rattle.tla_meaning.specs.Scopes.{Denotation}
 use Rattle.tla_meaning.proofs.MeaningLemmas.{belongs-out, val-roll, denotation-roll}
 use Rattle.plain_jobs.specs.Holds.{all_hold_in, asks_for, holds_in, some_hold_in, value_at}
-use Rattle.plain_jobs.specs.Parts.{part, part_at, all_conjuncts, each_conjuncts, conjunction, disjunction, element, equal, leaf}
+use Rattle.plain_jobs.specs.Parts.{part, part_at, all_conjuncts, each_conjuncts, conjunction, disjunction, element, equal}
 use Rattle.plain_jobs.specs.declared.parts.Part.{Part}
 use Rattle.plain_jobs.specs.declared.parts.Part.TheVariants.{Variable, Truth, TruthValues, Conjuncts, Branches, Other}
 use Rattle.plain_jobs.proofs.Trees.{part-roll}

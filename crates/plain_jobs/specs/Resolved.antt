@@ -1,5 +1,5 @@
 -- The job of a module of variables and three definitions. Source: Specifying Systems, section 17.1.
-use Rattle.std.specs.Prelude.{◌≡◌, ℕ, Bool, true, false, not, ◌&&◌, List, [], ◌∷◌, map, codes, Option, Some, None, IsTrue}
+use Rattle.std.specs.Prelude.{◌≡◌, ℕ, true, false, not, ◌&&◌, List, [], ◌∷◌, map, codes, Option, Some, None, IsTrue}
 use Rattle.std.specs.List.{list_all, position}
 use Rattle.std.specs.Str.{bytes_eq}
 use Rattle.tla_meaning.specs.declared.expr.Decl.{Decl}
@@ -12,7 +12,6 @@ use Rattle.tla_meaning.specs.declared.modules.Module.{Module}
 use Rattle.tla_meaning.specs.declared.modules.Unit.TheVariants.{Declare, Define}
 use Rattle.tla_meaning.specs.declared.op.Op.{Op}
 use Rattle.tla_meaning.specs.declared.op.Op.TheVariants as op
-use Rattle.tla_meaning.specs.declared.place.Place.{Place}
 use Rattle.tla_meaning.specs.BooleanLayout.{are_different, defined_names, is_among, no_part}
 
 -- ---- trees

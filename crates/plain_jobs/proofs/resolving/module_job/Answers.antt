@@ -1,5 +1,4 @@
-use Rattle.std.proofs.Common.{◌∙◌, ◌≡◌, ◌∷◌, [], false, ap, rules, sym}
-use Rattle.tla_meaning.specs.declared.modules.Unit.TheVariants.{Declare, Define}
+use Rattle.std.proofs.Common.{◌≡◌, [], rules}
 use Rattle.plain_jobs.proofs.Units.{four, some_says}
 use Rattle.plain_jobs.proofs.resolving.module_job.Goals as goal
 
