@@ -33,6 +33,8 @@ INSTANCE Sequences
 RECURSIVE G(_, _), H
 \* @type: (Int) => Int;
 G(a, b) == IF a = 0 THEN b ELSE G(a - 1, b)
+RECURSIVE P(_, _, _)
+P(a, b, c) == a
 THEOREM Spec == []x
 Init == x = FALSE
 ====
@@ -50,6 +52,8 @@ local instance Naturals
 instance Sequences
 recursive G/2 H/0
 define G a b < @type: (Int) => Int;> (if (eq a 0) b (G (sub a 1) b))
+recursive P/3
+define P a b c <> a
 theorem (temporal x)
 define Init <> (eq x FALSE)"#;
 

@@ -147,7 +147,7 @@ unit_token LocalWord t u = record (flushed u) { local = true; note = t.notes }
 unit_token InstanceWord t u = instance_token t u
 unit_token Comma t u = record u { expects = true }
 unit_token WithWord t u = record u { expects = true }
-unit_token Underscore t u = record u { recursive = with_blank u.recursive }
+unit_token Underscore t u = record u { recursive = with_blank u.recursive; expects = false }
 unit_token Defines t u = cond (is_defining u.section) u (record u { operand = None })
 unit_token LeftBracket t u = bracket_token LeftBracket t u
 unit_token RightBracket t u = bracket_token RightBracket t u

@@ -1,5 +1,5 @@
 // The units of a module.
-ghost use Rattle.std.specs.Prelude.{◌≡◌, ◌++◌, ◌∷◌, [], cond, true, fold, IfOk};
+ghost use Rattle.std.specs.Prelude.{false, ◌≡◌, ◌++◌, ◌∷◌, [], cond, true, fold, IfOk};
 ghost use Rattle.tla_meaning.specs.declared.modules.Unit.TheVariants.{Assume, Define, Theorem};
 ghost use Rattle.tla_parser.specs.declared.items.Item.TheVariants.{Piece};
 ghost use Rattle.tla_parser.specs.Trees.{name_of};
@@ -482,10 +482,11 @@ fn expecting(read: Units) -> Units
 }
 
 fn more_blanks(read: Units) -> Result<Units, AllocError>
-    ensures { IfOk result (λ u. u ≡ record read { recursive = with_blank read.recursive }) }
+    ensures { IfOk result (λ u. u ≡ record read { recursive = with_blank read.recursive; expects = false }) }
 {
     let mut read = read;
     read.recursive = with_blank(read.recursive)?;
+    read.expects = false;
     Ok(read)
 }
 
