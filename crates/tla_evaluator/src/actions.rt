@@ -12,9 +12,8 @@ use crate::context::Context;
 use crate::expressions::Site;
 use crate::outcomes::join_faults;
 use crate::sets::choices_of;
-use crate::stops::Stop;
+use crate::stops::{Stop, Stored};
 use crate::trees::{after, any_mentions, front};
-use std::alloc::AllocError;
 use tla_meaning::{Assignable, Effect, Expr, Fault, Op, Place};
 use tla_values::{List, Text, Value};
 
@@ -28,7 +27,7 @@ fn fails_by(fault: Fault) -> Effect
 }
 
 // The effect of what stops a part.
-fn stopped(stop: Stop) -> Result<Effect, AllocError>
+fn stopped(stop: Stop) -> Stored<Effect>
     ensures { IfOk result (FailsBy stop) }
 {
     match stop {
@@ -80,7 +79,7 @@ fn at_no_body(choices: &[List<Value>], place: Place) -> Effect
 
 impl Context<'_> {
     // By the outcome of a tree.
-    pub(crate) fn by_value(&self, e: &Expr) -> Result<Effect, AllocError>
+    pub(crate) fn by_value(&self, e: &Expr) -> Stored<Effect>
         ensures { IfOk result (λ f. f ≡ effect_of (value_in self.now e.now)) }
     {
         match self.value(e) {
@@ -94,7 +93,7 @@ impl Context<'_> {
 
     // The effect of an action.
     #[cycle(action)]
-    pub(crate) fn action(&self, e: &Expr, assigned: Assignable) -> Result<Effect, AllocError>
+    pub(crate) fn action(&self, e: &Expr, assigned: Assignable) -> Stored<Effect>
         ensures { IfOk result (λ f. f ≡ effect_in self.now assigned e.now) }
     {
         let names = e.binds.as_slice();
@@ -112,13 +111,7 @@ impl Context<'_> {
 
     // The effect of a node that acts by its parts.
     #[cycle(action)]
-    fn act(
-        &self,
-        op: &Op,
-        site: Site<'_>,
-        args: &[Expr],
-        assigned: Assignable,
-    ) -> Result<Effect, AllocError>
+    fn act(&self, op: &Op, site: Site<'_>, args: &[Expr], assigned: Assignable) -> Stored<Effect>
         ensures { IfOk result
             (λ f. f ≡ act_in self.now assigned site.entry.place op.now site.entry.names.now
             args.now) }
@@ -140,7 +133,7 @@ impl Context<'_> {
 
     // All operands in order, as far as they hold, also where they have a fault.
     #[cycle(action)]
-    fn all_effects(&self, args: &[Expr], assigned: Assignable) -> Result<Effect, AllocError>
+    fn all_effects(&self, args: &[Expr], assigned: Assignable) -> Stored<Effect>
         ensures { IfOk result (λ f. f ≡ effects_and (effects_in self.now assigned args.now)) }
     {
         let mut fault = Fault::NoFault;
@@ -156,7 +149,7 @@ impl Context<'_> {
 
     // One operand or more, with the faults of all.
     #[cycle(action)]
-    fn some_effect(&self, args: &[Expr], assigned: Assignable) -> Result<Effect, AllocError>
+    fn some_effect(&self, args: &[Expr], assigned: Assignable) -> Stored<Effect>
         ensures { IfOk result (λ f. f ≡ effects_or (effects_in self.now assigned args.now)) }
     {
         let mut all = fails_by(Fault::NoFault);
@@ -168,12 +161,7 @@ impl Context<'_> {
     }
 
     #[cycle(action)]
-    fn if_effect(
-        &self,
-        args: &[Expr],
-        place: Place,
-        assigned: Assignable,
-    ) -> Result<Effect, AllocError>
+    fn if_effect(&self, args: &[Expr], place: Place, assigned: Assignable) -> Stored<Effect>
         ensures { IfOk result
             (λ f. f ≡ if_effect place (outcomes_in self.now args.now)
             (effects_in self.now assigned args.now)) }
@@ -190,12 +178,7 @@ impl Context<'_> {
 
     // The branch behind the first guard that is TRUE, or else that of OTHER.
     #[cycle(action)]
-    fn case_effect(
-        &self,
-        args: &[Expr],
-        place: Place,
-        assigned: Assignable,
-    ) -> Result<Effect, AllocError>
+    fn case_effect(&self, args: &[Expr], place: Place, assigned: Assignable) -> Stored<Effect>
         ensures { IfOk result
             (λ f. f ≡ case_effect place (outcomes_in self.now args.now)
             (effects_in self.now assigned args.now)) }
@@ -216,12 +199,7 @@ impl Context<'_> {
 
     // A fault of the domains, or else the body over all members.
     #[cycle(action)]
-    fn exists_effect(
-        &self,
-        args: &[Expr],
-        site: Site<'_>,
-        assigned: Assignable,
-    ) -> Result<Effect, AllocError>
+    fn exists_effect(&self, args: &[Expr], site: Site<'_>, assigned: Assignable) -> Stored<Effect>
         ensures { IfOk result
             (λ f. f ≡ exists_in self.now assigned site.entry.place site.entry.names.now args.now) }
     {
@@ -246,7 +224,7 @@ impl Context<'_> {
         names: &[Text],
         choices: &[List<Value>],
         assigned: Assignable,
-    ) -> Result<Effect, AllocError>
+    ) -> Stored<Effect>
         requires { All (λ c. All Normal c) choices.now }
         ensures { IfOk result
             (λ f. f ≡ effects_or (map (body_in self.now assigned body.now names.now) choices.now)) }

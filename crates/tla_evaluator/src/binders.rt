@@ -8,8 +8,8 @@ use crate::functions::function_of;
 use crate::records::paired;
 use crate::sequences::sequence;
 pub(crate) use crate::sets::choices_of;
-use crate::stops::Stop;
-use std::alloc::{AllocError, Global};
+use crate::stops::{Answer, Stop, Stored};
+use std::alloc::Global;
 use tla_meaning::{Op, Place};
 use tla_values::{List, Value, copy_onto, copy_value, set_of};
 
@@ -20,7 +20,7 @@ pub(crate) fn bound_table(
     place: Place,
     choices: &[List<Value>],
     values: Vec<Value>,
-) -> Result<Value, Stop>
+) -> Answer<Value>
     ensures { Gives (bound_table place op.now choices.now values.items) result }
 {
     match op {
@@ -34,7 +34,7 @@ pub(crate) fn bound_table(
 }
 
 // Whether a value is TRUE, where all are truth values.
-fn some_true(values: &[Value], place: Place) -> Result<Value, Stop>
+fn some_true(values: &[Value], place: Place) -> Answer<Value>
     ensures { Gives (bound_table place Op.Exists [] values.now) result }
 {
     let mut found = false;
@@ -48,7 +48,7 @@ fn some_true(values: &[Value], place: Place) -> Result<Value, Stop>
 }
 
 // Whether all values are TRUE, where all are truth values.
-fn all_true(values: &[Value], place: Place) -> Result<Value, Stop>
+fn all_true(values: &[Value], place: Place) -> Answer<Value>
     ensures { Gives (bound_table place Op.Forall [] values.now) result }
 {
     let mut holds = true;
@@ -67,7 +67,7 @@ fn kept_members(
     choices: &[List<Value>],
     values: &[Value],
     place: Place,
-) -> Result<Value, Stop>
+) -> Answer<Value>
     ensures { Gives (bound_table place Op.Filter choices.now values.now) result }
 {
     match kept_of(alloc, choices, values)? {
@@ -79,11 +79,7 @@ fn kept_members(
     }
 }
 
-fn kept_of(
-    alloc: Global,
-    choices: &[List<Value>],
-    values: &[Value],
-) -> Result<Option<Vec<Value>>, AllocError>
+fn kept_of(alloc: Global, choices: &[List<Value>], values: &[Value]) -> Stored<Option<Vec<Value>>>
     ensures { IfOk result
         (λ o. option_map (kept choices.now) (truths values.now) ≡ option_map (λ m. m.items) o) }
 {
@@ -104,7 +100,7 @@ fn keep_first(
     choices: &[List<Value>],
     i: usize,
     out: &mut Vec<Value>,
-) -> Result<(), AllocError>
+) -> Stored<()>
     ensures { OnOk result ((bs : Items Truth) →
         out.new.items ++ kept (drop (i + 1) choices.now) bs ≡ out.old.items ++ kept
         (drop i choices.now) (passes ∷ bs)) }
@@ -121,11 +117,7 @@ fn keep_first(
 }
 
 // The function of the choices, each with its value.
-fn function_at(
-    alloc: Global,
-    choices: &[List<Value>],
-    values: Vec<Value>,
-) -> Result<Value, AllocError>
+fn function_at(alloc: Global, choices: &[List<Value>], values: Vec<Value>) -> Stored<Value>
     ensures { IfOk result (λ v. v ≡ the_function (zip (map argument choices.now) values.items)) }
 {
     let arguments = arguments_of(alloc, choices)?;
@@ -134,7 +126,7 @@ fn function_at(
     Ok(function)
 }
 
-fn arguments_of(alloc: Global, choices: &[List<Value>]) -> Result<Vec<Value>, AllocError>
+fn arguments_of(alloc: Global, choices: &[List<Value>]) -> Stored<Vec<Value>>
     ensures { IfOk result (λ v. v.items ≡ map argument choices.now) }
 {
     let mut arguments = Vec::new(alloc);
@@ -146,7 +138,7 @@ fn arguments_of(alloc: Global, choices: &[List<Value>]) -> Result<Vec<Value>, Al
 }
 
 // One argument, or the tuple of several.
-fn argument(alloc: Global, choice: &[Value]) -> Result<Value, AllocError>
+fn argument(alloc: Global, choice: &[Value]) -> Stored<Value>
     ensures { IfOk result (λ v. v ≡ argument choice.now) }
 {
     match choice {

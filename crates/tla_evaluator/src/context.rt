@@ -9,8 +9,8 @@ ghost use Rattle.tla_evaluator.specs.inner.Gives.{Gives};
 ghost use Rattle.tla_evaluator.specs.inner.Readings.{IsReadable, with_names};
 ghost use Rattle.tla_evaluator.specs.inner.Bound.{bindings};
 
-use crate::stops::Stop;
-use std::alloc::{AllocError, Global};
+use crate::stops::{Answer, Stop, Stored};
+use std::alloc::Global;
 use std::marker::Model;
 use tla_meaning::{Place, State};
 use tla_values::{Text, Value, copy_value};
@@ -107,11 +107,7 @@ impl<'a> Context<'a> {
     }
 
     // The same with more bound names.
-    pub(crate) fn with<'b>(
-        &'b self,
-        names: &'b [Text],
-        values: &'b [Value],
-    ) -> Result<Context<'b>, AllocError>
+    pub(crate) fn with<'b>(&'b self, names: &'b [Text], values: &'b [Value]) -> Stored<Context<'b>>
         requires { All Normal values.now }
         ensures { IfOk result (λ c. c ≡ with_names self.now names.now values.now) }
     {
@@ -124,7 +120,7 @@ impl<'a> Context<'a> {
     }
 
     // The value of a constant or variable.
-    pub(crate) fn read(&self, i: usize, primed: bool, place: Place) -> Result<Value, Stop>
+    pub(crate) fn read(&self, i: usize, primed: bool, place: Place) -> Answer<Value>
         ensures { Gives (read place i (if primed then self.now.next else self.now.state)) result }
     {
         let state = if primed { self.next } else { self.state };
@@ -135,7 +131,7 @@ impl<'a> Context<'a> {
     }
 
     // The value of a bound name.
-    pub(crate) fn read_bound(&self, name: &Text, place: Place) -> Result<Value, Stop>
+    pub(crate) fn read_bound(&self, name: &Text, place: Place) -> Answer<Value>
         ensures { Gives (value_found place (find_last name.now self.now.bound)) result }
     {
         let mut i = self.bound.len();
@@ -156,7 +152,7 @@ fn same_name(a: &Text, b: &Text) -> bool
     a.bytes().cmp(b.bytes()).is_eq()
 }
 
-fn bound_value(alloc: Global, value: Option<&Value>) -> Result<Value, AllocError>
+fn bound_value(alloc: Global, value: Option<&Value>) -> Stored<Value>
     ensures { IfOk result (λ v. v ≡ unwrap_or (option_copied value.entry) (Value.Bool false)) }
 {
     match value {
@@ -170,7 +166,7 @@ fn bind_onto<'b>(
     names: &'b [Text],
     values: &'b [Value],
     bound: &mut Vec<(&'b Text, Option<&'b Value>)>,
-) -> Result<(), AllocError>
+) -> Stored<()>
     ensures { OnOk result
         (bindings bound.new.items ≡ bindings bound.old.items ++ bound_to names.now values.now) }
 {
@@ -184,7 +180,7 @@ fn bind_onto<'b>(
 pub(crate) fn names_of<'b>(
     alloc: Global,
     env: &'b [(Text, Value)],
-) -> Result<Vec<(&'b Text, Option<&'b Value>)>, AllocError>
+) -> Stored<Vec<(&'b Text, Option<&'b Value>)>>
     ensures { IfOk result (λ v. bindings v.items ≡ env.now) }
 {
     let mut bound = Vec::new(alloc);

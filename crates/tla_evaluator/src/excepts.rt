@@ -4,7 +4,8 @@ ghost use Rattle.tla_values.specs.Sets.{Normal};
 ghost use Rattle.tla_meaning.specs.Meaning.{at_path, set_path};
 ghost use Rattle.tla_evaluator.specs.inner.Excepts.{reached_of};
 
-use std::alloc::{AllocError, Global};
+use crate::stops::Stored;
+use std::alloc::Global;
 use tla_values::{Value, apply, copy_value, override_at};
 
 // What a path of arguments leads to.
@@ -33,12 +34,7 @@ pub(crate) fn at_path<'a>(f: &'a Value, path: &[Value]) -> Reached<'a>
 }
 
 // The value with a new one at the end of a path, and the value itself where the path leads out of it.
-pub(crate) fn set_path(
-    alloc: Global,
-    f: &Value,
-    path: &[Value],
-    new: &Value,
-) -> Result<Value, AllocError>
+pub(crate) fn set_path(alloc: Global, f: &Value, path: &[Value], new: &Value) -> Stored<Value>
     requires { Normal f.now }
     ensures value { IfOk result (λ v. v ≡ set_path path.now new.now f.now) }
     ensures normal { Normal f.now → Normal new.now → IfOk result Normal }

@@ -20,9 +20,9 @@ use crate::numbers::number;
 use crate::operands::value_and_items;
 use crate::operators::row_of;
 use crate::outcomes::{Joined, all_of, both, join, join_faults, nothing, truth};
-use crate::stops::Stop;
+use crate::stops::{Answer, Stop, Stored};
 use crate::trees::{after, front, has_form};
-use std::alloc::{AllocError, Global};
+use std::alloc::Global;
 use tla_meaning::{Expr, Fault, Op, Place, SetForm};
 use tla_values::{List, Text, Value, copy_text, copy_texts, copy_value};
 
@@ -36,7 +36,7 @@ pub(crate) struct Site<'b> {
 impl Context<'_> {
     // The value of a tree.
     #[cycle(eval)]
-    pub(crate) fn value(&self, e: &Expr) -> Result<Value, Stop>
+    pub(crate) fn value(&self, e: &Expr) -> Answer<Value>
         ensures { Gives (value_in self.now e.now) result }
     {
         let names = e.binds.as_slice();
@@ -49,7 +49,7 @@ impl Context<'_> {
     }
 
     #[cycle(eval)]
-    fn node(&self, op: &Op, site: Site<'_>, args: &[Expr]) -> Result<Value, Stop>
+    fn node(&self, op: &Op, site: Site<'_>, args: &[Expr]) -> Answer<Value>
         ensures { Gives (node_in self.now site.entry.place op.now site.entry.names.now args.now)
             result }
     {
@@ -80,7 +80,7 @@ impl Context<'_> {
 
     // The truth value of a tree.
     #[cycle(eval)]
-    pub(crate) fn guard(&self, e: &Expr, place: Place) -> Result<bool, Stop>
+    pub(crate) fn guard(&self, e: &Expr, place: Place) -> Answer<bool>
         ensures { Guards place (value_in self.now e.now) result }
     {
         let v = self.value(e)?;
@@ -89,7 +89,7 @@ impl Context<'_> {
 
     // The first of these trees.
     #[cycle(eval)]
-    fn first(&self, place: Place, trees: &[Expr]) -> Result<Value, Stop>
+    fn first(&self, place: Place, trees: &[Expr]) -> Answer<Value>
         ensures { Gives (first_in self.now place trees.now) result }
     {
         match trees {
@@ -100,7 +100,7 @@ impl Context<'_> {
 
     // The first of these trees, where the names of the node have values.
     #[cycle(eval)]
-    fn under(&self, site: Site<'_>, trees: &[Expr], values: &[Value]) -> Result<Value, Stop>
+    fn under(&self, site: Site<'_>, trees: &[Expr], values: &[Value]) -> Answer<Value>
         requires { All Normal values.now }
         ensures { Gives (first_in (with_names self.now site.entry.names.now values.now)
             site.entry.place trees.now) result }
@@ -111,7 +111,7 @@ impl Context<'_> {
 
     // All operands, joined.
     #[cycle(eval)]
-    fn joined(&self, trees: &[Expr]) -> Result<Joined<Value>, AllocError>
+    fn joined(&self, trees: &[Expr]) -> Stored<Joined<Value>>
         ensures fault { IfOk result (λ j. j.fault ≡ joined (outcomes_in self.now trees.now)) }
         ensures values { IfOk result (λ j. j.items.items ≡ values (outcomes_in self.now trees.now)) }
     {
@@ -125,7 +125,7 @@ impl Context<'_> {
 
     // The values of all operands, or the join of their faults.
     #[cycle(eval)]
-    pub(crate) fn operands(&self, trees: &[Expr]) -> Result<List<Value>, Stop>
+    pub(crate) fn operands(&self, trees: &[Expr]) -> Answer<List<Value>>
         ensures values { GivesAll (joined (outcomes_in self.now trees.now))
             (values (outcomes_in self.now trees.now)) result }
         ensures normal { IfOk result (λ vs. All Normal vs) }
@@ -137,7 +137,7 @@ impl Context<'_> {
 
     // An operator that joins its operands, and then has its row of the table.
     #[cycle(eval)]
-    fn strict(&self, op: &Op, place: Place, trees: &[Expr]) -> Result<Value, Stop>
+    fn strict(&self, op: &Op, place: Place, trees: &[Expr]) -> Answer<Value>
         ensures { Gives (strict (outcomes_in self.now trees.now)
             (table (Some self.now.width) place op.now)) result }
     {
@@ -147,7 +147,7 @@ impl Context<'_> {
 
     // From the left, up to the first operand that has this truth value.
     #[cycle(eval)]
-    fn junction(&self, decides: bool, place: Place, trees: &[Expr]) -> Result<Value, Stop>
+    fn junction(&self, decides: bool, place: Place, trees: &[Expr]) -> Answer<Value>
         ensures { Gives (junction decides place (outcomes_in self.now trees.now)) result }
     {
         for e in trees {
@@ -160,7 +160,7 @@ impl Context<'_> {
     }
 
     #[cycle(eval)]
-    fn implication(&self, place: Place, trees: &[Expr]) -> Result<Value, Stop>
+    fn implication(&self, place: Place, trees: &[Expr]) -> Answer<Value>
         ensures { Gives (implied place (outcomes_in self.now trees.now)) result }
     {
         match trees {
@@ -178,7 +178,7 @@ impl Context<'_> {
 
     // IF: a CASE of one guard with an OTHER.
     #[cycle(eval)]
-    fn conditional(&self, place: Place, trees: &[Expr]) -> Result<Value, Stop>
+    fn conditional(&self, place: Place, trees: &[Expr]) -> Answer<Value>
         ensures { Gives (if_chosen place (outcomes_in self.now trees.now)) result }
     {
         if trees.len() == 3 {
@@ -190,7 +190,7 @@ impl Context<'_> {
 
     // Guards in order, each with its branch; a tree alone at the end is that of OTHER.
     #[cycle(eval)]
-    fn cases(&self, place: Place, trees: &[Expr]) -> Result<Value, Stop>
+    fn cases(&self, place: Place, trees: &[Expr]) -> Answer<Value>
         ensures { Gives (case_chosen place (outcomes_in self.now trees.now)) result }
     {
         let arms = trees.len() / 2;
@@ -205,7 +205,7 @@ impl Context<'_> {
 
     // `\in`, `\notin` and `\subseteq`: a value and a set form.
     #[cycle(eval)]
-    fn membership(&self, op: &Op, place: Place, trees: &[Expr]) -> Result<Value, Stop>
+    fn membership(&self, op: &Op, place: Place, trees: &[Expr]) -> Answer<Value>
         ensures { Gives (in_form place (membership_test op.now place)
             (outcomes_in self.now trees.now) (forms_in self.now trees.now)) result }
     {
@@ -222,7 +222,7 @@ impl Context<'_> {
 
     // A binder: the domains, and then the body over all members.
     #[cycle(eval)]
-    fn binder(&self, op: &Op, site: Site<'_>, args: &[Expr]) -> Result<Value, Stop>
+    fn binder(&self, op: &Op, site: Site<'_>, args: &[Expr]) -> Answer<Value>
         ensures { Gives (bound_in self.now site.entry.place op.now site.entry.names.now args.now)
             result }
     {
@@ -245,12 +245,7 @@ impl Context<'_> {
 
     // The body at each choice, joined.
     #[cycle(eval)]
-    fn bodies(
-        &self,
-        site: Site<'_>,
-        trees: &[Expr],
-        choices: &[List<Value>],
-    ) -> Result<List<Value>, Stop>
+    fn bodies(&self, site: Site<'_>, trees: &[Expr], choices: &[List<Value>]) -> Answer<List<Value>>
         requires { All (All Normal) choices.now }
         ensures { GivesAll (joined
             (bodies_in self.now site.entry.place site.entry.names.now trees.now choices.now))
@@ -267,7 +262,7 @@ impl Context<'_> {
 
     // EXCEPT: the function and all indexes, and then the updates in order.
     #[cycle(eval)]
-    fn except(&self, counts: &[usize], site: Site<'_>, args: &[Expr]) -> Result<Value, Stop>
+    fn except(&self, counts: &[usize], site: Site<'_>, args: &[Expr]) -> Answer<Value>
         ensures { Gives (except_in self.now site.entry.place counts.now site.entry.names.now
             args.now) result }
     {
@@ -285,7 +280,7 @@ impl Context<'_> {
     }
 
     #[cycle(eval)]
-    fn indexes(&self, counts: &[usize], trees: &[Expr]) -> Result<List<(usize, List<Value>)>, Stop>
+    fn indexes(&self, counts: &[usize], trees: &[Expr]) -> Answer<List<(usize, List<Value>)>>
         ensures { GivesAll (joined (outcomes_in self.now (index_trees counts.now trees.now)))
             (paths_in self.now counts.now trees.now) result }
     {
@@ -313,7 +308,7 @@ impl Context<'_> {
         trees: &[Expr],
         paths: &[(usize, List<Value>)],
         start: Value,
-    ) -> Result<Value, Stop>
+    ) -> Answer<Value>
         requires { Normal start }
         ensures { Gives (updated site.entry.place
             (updates_in self.now site.entry.place site.entry.names.now paths.now trees.now) start)
@@ -337,7 +332,7 @@ impl Context<'_> {
         sides: &[Expr],
         path: &[Value],
         function: Value,
-    ) -> Result<Value, Stop>
+    ) -> Answer<Value>
         requires { Normal function }
         ensures { Updates site.entry.place
             (update_in self.now site.entry.place site.entry.names.now path.now sides.now) function
@@ -358,7 +353,7 @@ impl Context<'_> {
 
     // A fold over a sequence: the body of the value so far and each item, in order.
     #[cycle(eval)]
-    fn fold(&self, site: Site<'_>, args: &[Expr]) -> Result<Value, Stop>
+    fn fold(&self, site: Site<'_>, args: &[Expr]) -> Answer<Value>
         ensures { Gives (fold_in self.now site.entry.place site.entry.names.now args.now) result }
     {
         let operands = self.operands(after(args, 1))?;
@@ -375,7 +370,7 @@ impl Context<'_> {
         args: &[Expr],
         start: Value,
         items: &[(Value, Value)],
-    ) -> Result<Value, Stop>
+    ) -> Answer<Value>
         requires start { Normal start }
         requires items { All Normal (results items.now) }
         ensures { Gives (folded
@@ -394,7 +389,7 @@ impl Context<'_> {
 
     // The set form of a tree, or the set that its value is.
     #[cycle(eval)]
-    fn form(&self, e: &Expr) -> Result<SetForm, Stop>
+    fn form(&self, e: &Expr) -> Answer<SetForm>
         ensures { GivesForm (form_in self.now e.now) result }
     {
         if has_form(&e.op) {
@@ -407,7 +402,7 @@ impl Context<'_> {
 
     // The form of a node that describes a set by what belongs to it.
     #[cycle(eval)]
-    fn form_of(&self, op: &Op, place: Place, trees: &[Expr]) -> Result<SetForm, Stop>
+    fn form_of(&self, op: &Op, place: Place, trees: &[Expr]) -> Answer<SetForm>
         ensures { GivesForm (form_node self.now place op.now trees.now) result }
     {
         match op {
@@ -434,7 +429,7 @@ impl Context<'_> {
 
     // `Seq(F)` and `SUBSET F`.
     #[cycle(eval)]
-    fn one_form(&self, op: &Op, place: Place, trees: &[Expr]) -> Result<SetForm, Stop>
+    fn one_form(&self, op: &Op, place: Place, trees: &[Expr]) -> Answer<SetForm>
         ensures { GivesForm (form_of_one place (one_form op.now) (forms_in self.now trees.now))
             result }
     {
@@ -449,7 +444,7 @@ impl Context<'_> {
 
     // `[S -> F]`: the set S, and the form F.
     #[cycle(eval)]
-    fn function_set(&self, place: Place, trees: &[Expr]) -> Result<SetForm, Stop>
+    fn function_set(&self, place: Place, trees: &[Expr]) -> Answer<SetForm>
         ensures { GivesForm (function_form place (outcomes_in self.now trees.now)
             (forms_in self.now trees.now)) result }
     {
@@ -466,7 +461,7 @@ impl Context<'_> {
 
     // Forms that are each to be a set form.
     #[cycle(eval)]
-    fn set_forms(&self, place: Place, trees: &[Expr]) -> Result<List<SetForm>, Stop>
+    fn set_forms(&self, place: Place, trees: &[Expr]) -> Answer<List<SetForm>>
         ensures { GivesSetForms place (forms_in self.now trees.now) result }
     {
         let forms = self.forms(trees)?;
@@ -479,7 +474,7 @@ impl Context<'_> {
 
     // All forms, or the join of their faults.
     #[cycle(eval)]
-    fn forms(&self, trees: &[Expr]) -> Result<List<SetForm>, Stop>
+    fn forms(&self, trees: &[Expr]) -> Answer<List<SetForm>>
         ensures { GivesForms (forms_in self.now trees.now) result }
     {
         let mut all = nothing(self.alloc());
@@ -491,7 +486,7 @@ impl Context<'_> {
     }
 }
 
-fn one_value(alloc: Global, v: &Value) -> Result<Vec<Value>, AllocError>
+fn one_value(alloc: Global, v: &Value) -> Stored<Vec<Value>>
     ensures { IfOk result (λ l. l.items ≡ v.now ∷ []) }
 {
     let mut values = Vec::new(alloc);
@@ -499,7 +494,7 @@ fn one_value(alloc: Global, v: &Value) -> Result<Vec<Value>, AllocError>
     Ok(values)
 }
 
-fn two_values(alloc: Global, a: Value, b: &Value) -> Result<Vec<Value>, AllocError>
+fn two_values(alloc: Global, a: Value, b: &Value) -> Stored<Vec<Value>>
     ensures { IfOk result (λ l. l.items ≡ a ∷ b.now ∷ []) }
 {
     let mut values = Vec::new(alloc);

@@ -11,14 +11,14 @@ ghost use Rattle.tla_evaluator.specs.inner.Results.{with_last};
 
 use crate::numbers::fits;
 use crate::operands::{Row, is_sequence};
-use crate::stops::Stop;
-use std::alloc::{AllocError, Global};
+use crate::stops::{Answer, Stop, Stored};
+use std::alloc::Global;
 use tla_meaning::Op;
 use tla_values::{List, Value, apply, copy_text, copy_value, domain_of, find_argument};
 
 impl Row<'_> {
     // One function.
-    pub(crate) fn function(&self, op: &Op) -> Result<Value, Stop>
+    pub(crate) fn function(&self, op: &Op) -> Answer<Value>
         requires { All Normal self.now.operands.now }
         ensures { Gives (on_function self.now.place
             (of_function (Some self.now.width) self.now.place op.now)
@@ -30,7 +30,7 @@ impl Row<'_> {
         }
     }
 
-    fn of_function(&self, op: &Op, pairs: &List<(Value, Value)>) -> Result<Value, Stop>
+    fn of_function(&self, op: &Op, pairs: &List<(Value, Value)>) -> Answer<Value>
         requires { Normal (Value.Fun pairs.now) }
         ensures { Gives (of_function (Some self.now.width) self.now.place op.now pairs.now) result }
     {
@@ -51,11 +51,7 @@ impl Row<'_> {
     }
 
     // The value at an argument, and Wrong where it is none.
-    pub(crate) fn value_at(
-        &self,
-        pairs: &List<(Value, Value)>,
-        argument: &Value,
-    ) -> Result<Value, Stop>
+    pub(crate) fn value_at(&self, pairs: &List<(Value, Value)>, argument: &Value) -> Answer<Value>
         requires { Normal (Value.Fun pairs.now) }
         ensures { Gives (or_wrong self.now.place (apply pairs.now argument.now)) result }
     {
@@ -66,7 +62,7 @@ impl Row<'_> {
     }
 
     // `f @@ g`: the left one wins.
-    pub(crate) fn merge(&self) -> Result<Value, Stop>
+    pub(crate) fn merge(&self) -> Answer<Value>
         ensures { Gives (table None self.now.place Op.Merge self.now.operands.now) result }
     {
         match self.operands {
@@ -76,11 +72,7 @@ impl Row<'_> {
     }
 }
 
-fn merged(
-    alloc: Global,
-    left: &List<(Value, Value)>,
-    right: &List<(Value, Value)>,
-) -> Result<Value, AllocError>
+fn merged(alloc: Global, left: &List<(Value, Value)>, right: &List<(Value, Value)>) -> Stored<Value>
     ensures { IfOk result (λ v. v ≡ the_function (left.now ++ right.now)) }
 {
     let mut pairs = Vec::new(alloc);
@@ -91,7 +83,7 @@ fn merged(
 }
 
 // `a :> v`.
-pub(crate) fn single(alloc: Global, argument: &Value, value: &Value) -> Result<Value, AllocError>
+pub(crate) fn single(alloc: Global, argument: &Value, value: &Value) -> Stored<Value>
     ensures { IfOk result (λ v. v ≡ Value.Fun ((argument.now, value.now) ∷ [])) }
 {
     let mut pairs = Vec::new(alloc);
@@ -102,17 +94,14 @@ pub(crate) fn single(alloc: Global, argument: &Value, value: &Value) -> Result<V
 }
 
 // The function of the pairs, the first of those with one argument.
-pub(crate) fn function_of(alloc: Global, pairs: Vec<(Value, Value)>) -> Result<Value, AllocError>
+pub(crate) fn function_of(alloc: Global, pairs: Vec<(Value, Value)>) -> Stored<Value>
     ensures { IfOk result (λ v. v ≡ the_function pairs.items) }
 {
     let function = with_each_pair(alloc, pairs)?;
     Ok(Value::Fun(List::from_vec(function)))
 }
 
-fn with_each_pair(
-    alloc: Global,
-    pairs: Vec<(Value, Value)>,
-) -> Result<Vec<(Value, Value)>, AllocError>
+fn with_each_pair(alloc: Global, pairs: Vec<(Value, Value)>) -> Stored<Vec<(Value, Value)>>
     ensures { IfOk result (λ v. v.items ≡ function_of pairs.items) }
 {
     let mut function = Vec::new(alloc);
@@ -123,7 +112,7 @@ fn with_each_pair(
 }
 
 // One more pair, where its argument is a new one.
-fn add_pair(function: &mut Vec<(Value, Value)>, pair: (Value, Value)) -> Result<(), AllocError>
+fn add_pair(function: &mut Vec<(Value, Value)>, pair: (Value, Value)) -> Stored<()>
     requires { IsTrue (increasing (arguments function.old.items)) }
     ensures { OnOk result (function.new.items ≡ with_last function.old.items pair) }
 {
@@ -140,7 +129,7 @@ pub(crate) fn copy_pairs_onto(
     alloc: Global,
     pairs: &[(Value, Value)],
     out: &mut Vec<(Value, Value)>,
-) -> Result<(), AllocError>
+) -> Stored<()>
     ensures { OnOk result (out.new.items ≡ out.old.items ++ pairs.now) }
 {
     for (argument, value) in pairs {

@@ -8,13 +8,13 @@ ghost use Rattle.tla_evaluator.specs.inner.Gives.{Gives};
 
 use crate::functions::single;
 use crate::operands::Row;
-use crate::stops::Stop;
+use crate::stops::{Answer, Stop};
 use tla_meaning::Op;
 use tla_values::{Value, same_value};
 
 impl Row<'_> {
     // `~a`.
-    pub(crate) fn negation(&self) -> Result<Value, Stop>
+    pub(crate) fn negation(&self) -> Answer<Value>
         ensures { Gives (table None self.now.place Op.Not self.now.operands.now) result }
     {
         match self.operands {
@@ -24,7 +24,7 @@ impl Row<'_> {
     }
 
     // `a <=> b`.
-    pub(crate) fn equivalence(&self) -> Result<Value, Stop>
+    pub(crate) fn equivalence(&self) -> Answer<Value>
         ensures { Gives (table None self.now.place Op.Iff self.now.operands.now) result }
     {
         match self.operands {
@@ -37,7 +37,7 @@ impl Row<'_> {
     }
 
     // Two operands of any kind.
-    pub(crate) fn two(&self, op: &Op) -> Result<Value, Stop>
+    pub(crate) fn two(&self, op: &Op) -> Answer<Value>
         requires { All Normal self.now.operands.now }
         ensures { Gives (on_two self.now.place (of_two self.now.place op.now)
             self.now.operands.now) result }
@@ -48,7 +48,7 @@ impl Row<'_> {
         }
     }
 
-    fn of_two(&self, op: &Op, a: &Value, b: &Value) -> Result<Value, Stop>
+    fn of_two(&self, op: &Op, a: &Value, b: &Value) -> Answer<Value>
         requires { Normal a.now }
         ensures { Gives (of_two self.now.place op.now a.now b.now) result }
     {

@@ -8,13 +8,13 @@ ghost use Rattle.tla_evaluator.specs.inner.Gives.{Gives, GivesForm};
 ghost use Rattle.tla_evaluator.specs.inner.Nodes.{one_form, tested};
 
 use crate::forms::{all_belong, belongs, is_set_form};
-use crate::stops::Stop;
+use crate::stops::{Answer, Stop};
 use std::alloc::Global;
 use tla_meaning::{Op, Place, SetForm};
 use tla_values::{Boxed, List, Value};
 
 // `\in`, `\notin` and `\subseteq`, of a value and a form that is to be a set form.
-pub(crate) fn tested(op: &Op, v: &Value, form: &SetForm, place: Place) -> Result<Value, Stop>
+pub(crate) fn tested(op: &Op, v: &Value, form: &SetForm, place: Place) -> Answer<Value>
     ensures { Gives (tested op.now place v.now form.now) result }
 {
     if !is_set_form(form) {
@@ -32,7 +32,7 @@ pub(crate) fn tested(op: &Op, v: &Value, form: &SetForm, place: Place) -> Result
 }
 
 // `Seq(F)` and `SUBSET F`.
-pub(crate) fn one_form(alloc: Global, op: &Op, form: SetForm, place: Place) -> Result<SetForm, Stop>
+pub(crate) fn one_form(alloc: Global, op: &Op, form: SetForm, place: Place) -> Answer<SetForm>
     ensures { GivesForm (form_of_one place (one_form op.now) (Made form ∷ [])) result }
 {
     if !is_set_form(&form) {
@@ -57,7 +57,7 @@ pub(crate) fn functions_from(
     domain: Value,
     forms: List<SetForm>,
     place: Place,
-) -> Result<SetForm, Stop>
+) -> Answer<SetForm>
     ensures { GivesForm (functions_from place (set_items (out-Value domain))
         (map (λ f. Made f) forms)) result }
 {

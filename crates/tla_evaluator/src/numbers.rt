@@ -8,14 +8,14 @@ ghost use Rattle.tla_evaluator.specs.inner.Families.{of_numbers};
 ghost use Rattle.tla_evaluator.specs.inner.Gives.{Gives};
 
 use crate::operands::Row;
-use crate::stops::Stop;
-use std::alloc::{AllocError, Global};
+use crate::stops::{Answer, Stop, Stored};
+use std::alloc::Global;
 use tla_meaning::{Op, Place};
 use tla_values::{List, Value};
 
 impl Row<'_> {
     // Two numbers.
-    pub(crate) fn numbers(&self, op: &Op) -> Result<Value, Stop>
+    pub(crate) fn numbers(&self, op: &Op) -> Answer<Value>
         ensures { Gives (on_numbers self.now.place
             (of_numbers (Some self.now.width) self.now.place op.now)
             (map out-Value self.now.operands.now)) result }
@@ -26,7 +26,7 @@ impl Row<'_> {
         }
     }
 
-    fn of_numbers(&self, op: &Op, a: i128, b: i128) -> Result<Value, Stop>
+    fn of_numbers(&self, op: &Op, a: i128, b: i128) -> Answer<Value>
         ensures { Gives (of_numbers (Some self.now.width) self.now.place op.now a b) result }
     {
         match op {
@@ -65,7 +65,7 @@ impl Row<'_> {
     }
 
     // `-a`.
-    pub(crate) fn negative(&self) -> Result<Value, Stop>
+    pub(crate) fn negative(&self) -> Answer<Value>
         ensures { Gives (table (Some self.now.width) self.now.place Op.Neg self.now.operands.now)
             result }
     {
@@ -89,7 +89,7 @@ pub(crate) fn fits(n: i128, width: u32) -> bool
     -top <= n && n < top
 }
 
-pub(crate) fn number(n: i128, width: u32, place: Place) -> Result<Value, Stop>
+pub(crate) fn number(n: i128, width: u32, place: Place) -> Answer<Value>
     requires narrow { width ≤ 64 }
     requires wide { 4 ≤ width }
     ensures { Gives (number (Some width) place n) result }
@@ -114,7 +114,7 @@ fn times(a: i128, b: i128, width: u32) -> Option<i128>
     }
 }
 
-fn raised(a: i128, n: i128, width: u32, place: Place) -> Result<Value, Stop>
+fn raised(a: i128, n: i128, width: u32, place: Place) -> Answer<Value>
     requires narrow { width ≤ 64 }
     requires wide { 4 ≤ width }
     ensures { Gives (power (Some width) place a n) result }
@@ -146,7 +146,7 @@ fn small_power(a: i128, n: u128) -> i128
 }
 
 // The power of any other number, which grows with each factor.
-fn large_power(a: i128, n: u128, width: u32, place: Place) -> Result<Value, Stop>
+fn large_power(a: i128, n: u128, width: u32, place: Place) -> Answer<Value>
     requires narrow { width ≤ 64 }
     requires wide { 4 ≤ width }
     requires base { 2 ≤ unsigned_abs a }
@@ -163,7 +163,7 @@ fn large_power(a: i128, n: u128, width: u32, place: Place) -> Result<Value, Stop
 }
 
 // `a..b`.
-fn numbers_between(alloc: Global, a: i128, b: i128) -> Result<Value, AllocError>
+fn numbers_between(alloc: Global, a: i128, b: i128) -> Stored<Value>
     ensures { IfOk result (λ v. v ≡ Value.Set (range a b)) }
 {
     let mut members = Vec::new(alloc);

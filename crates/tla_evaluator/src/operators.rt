@@ -10,7 +10,7 @@ use crate::operands::Row;
 use crate::records::record;
 use crate::sequences::sequence;
 use crate::sets::truth_values;
-use crate::stops::{Stop, told};
+use crate::stops::{Answer, Stop, told};
 use std::alloc::{AllocError, Global};
 use tla_meaning::{Op, Outcome, Place};
 use tla_values::{List, Value, set_of};
@@ -40,7 +40,7 @@ pub(crate) fn row_of(
     place: Place,
     operands: Vec<Value>,
     width: u32,
-) -> Result<Value, Stop>
+) -> Answer<Value>
     requires narrow { width ≤ 64 }
     requires wide { 4 ≤ width }
     requires normal { All Normal operands.items }

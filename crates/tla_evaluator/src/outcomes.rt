@@ -3,8 +3,8 @@ ghost use Rattle.std.specs.Prelude.{◌≡◌, [], OnOk};
 ghost use Rattle.tla_meaning.specs.Outcomes.{before, join_faults, least};
 ghost use Rattle.tla_evaluator.specs.inner.Gives.{GivesAll, Guards, Joins, both, worse};
 
-use crate::stops::Stop;
-use std::alloc::{AllocError, Global};
+use crate::stops::{Answer, Stop, Stored};
+use std::alloc::Global;
 use std::cmp::Ordering;
 use tla_meaning::{Fault, Outcome, Place};
 use tla_values::{List, Value};
@@ -61,7 +61,7 @@ fn worse(s: Stop, t: Stop) -> Stop
 }
 
 // Both, or the join of their faults.
-pub(crate) fn both<X: Drop, Y: Drop>(a: Result<X, Stop>, b: Result<Y, Stop>) -> Result<(X, Y), Stop>
+pub(crate) fn both<X: Drop, Y: Drop>(a: Answer<X>, b: Answer<Y>) -> Answer<(X, Y)>
     ensures { result ≡ both a b }
 {
     match a {
@@ -94,7 +94,7 @@ pub(crate) fn nothing<T>(alloc: Global) -> Joined<T>
 }
 
 // One more.
-pub(crate) fn join<T: Drop>(joined: &mut Joined<T>, one: Result<T, Stop>) -> Result<(), AllocError>
+pub(crate) fn join<T: Drop>(joined: &mut Joined<T>, one: Answer<T>) -> Stored<()>
     ensures { OnOk result
         (Joins joined.old.fault joined.old.items.items one joined.new.fault joined.new.items.items) }
 {
@@ -116,7 +116,7 @@ pub(crate) fn join<T: Drop>(joined: &mut Joined<T>, one: Result<T, Stop>) -> Res
 }
 
 // All of what was joined, or the join of the faults.
-pub(crate) fn all_of<T: Drop>(joined: Joined<T>) -> Result<List<T>, Stop>
+pub(crate) fn all_of<T: Drop>(joined: Joined<T>) -> Answer<List<T>>
     ensures { GivesAll joined.fault joined.items.items result }
 {
     match joined.fault {
@@ -127,7 +127,7 @@ pub(crate) fn all_of<T: Drop>(joined: Joined<T>) -> Result<List<T>, Stop>
 }
 
 // The truth value of a guard.
-pub(crate) fn truth(v: Value, place: Place) -> Result<bool, Stop>
+pub(crate) fn truth(v: Value, place: Place) -> Answer<bool>
     ensures { Guards place (Outcome.Val v) result }
 {
     match v {

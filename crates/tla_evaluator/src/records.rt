@@ -8,14 +8,14 @@ use crate::functions::function_of;
 use crate::operands::Row;
 use crate::sequences::sequence;
 use crate::sets::{choices_of, each_to};
-use crate::stops::Stop;
-use std::alloc::{AllocError, Global};
+use crate::stops::{Answer, Stop, Stored};
+use std::alloc::Global;
 use tla_meaning::Op;
 use tla_values::{List, Text, Value, copy_text, copy_value, set_of};
 
 impl Row<'_> {
     // `[a: S, b: T]`.
-    pub(crate) fn record_set(&self, names: &List<Text>) -> Result<Value, Stop>
+    pub(crate) fn record_set(&self, names: &List<Text>) -> Answer<Value>
         ensures { Gives (table None self.now.place (Op.RecSet names.now) self.now.operands.now)
             result }
     {
@@ -30,7 +30,7 @@ impl Row<'_> {
     }
 
     // `S \X T`.
-    pub(crate) fn product(&self) -> Result<Value, Stop>
+    pub(crate) fn product(&self) -> Answer<Value>
         ensures { Gives (table None self.now.place Op.Product self.now.operands.now) result }
     {
         match choices_of(self.alloc, self.operands)? {
@@ -49,7 +49,7 @@ pub(crate) fn paired(
     alloc: Global,
     arguments: &[Value],
     values: Vec<Value>,
-) -> Result<Vec<(Value, Value)>, AllocError>
+) -> Stored<Vec<(Value, Value)>>
     ensures { IfOk result (λ v. v.items ≡ zip arguments.now values.items) }
 {
     let mut pairs = Vec::new(alloc);
@@ -65,7 +65,7 @@ fn push_pair(
     arguments: &[Value],
     value: Value,
     pairs: &mut Vec<(Value, Value)>,
-) -> Result<(), AllocError>
+) -> Stored<()>
     ensures { (values : Items Value) → pairs.old.items ≡ zip arguments.now values →
         OnOk result (pairs.new.items ≡ zip arguments.now (values ++ value ∷ [])) }
 {
@@ -77,7 +77,7 @@ fn push_pair(
     Ok(())
 }
 
-fn texts_of(alloc: Global, names: &[Text]) -> Result<Vec<Value>, AllocError>
+fn texts_of(alloc: Global, names: &[Text]) -> Stored<Vec<Value>>
     ensures { IfOk result (λ v. v.items ≡ map (λ n. Value.Text n) names.now) }
 {
     let mut texts = Vec::new(alloc);
@@ -89,17 +89,13 @@ fn texts_of(alloc: Global, names: &[Text]) -> Result<Vec<Value>, AllocError>
 }
 
 // `[a |-> x, b |-> y]`.
-pub(crate) fn record(
-    alloc: Global,
-    names: &List<Text>,
-    values: Vec<Value>,
-) -> Result<Value, AllocError>
+pub(crate) fn record(alloc: Global, names: &List<Text>, values: Vec<Value>) -> Stored<Value>
     ensures { IfOk result (λ v. v ≡ record_of names.now values.items) }
 {
     record_at(alloc, names.as_slice(), values)
 }
 
-fn record_at(alloc: Global, names: &[Text], values: Vec<Value>) -> Result<Value, AllocError>
+fn record_at(alloc: Global, names: &[Text], values: Vec<Value>) -> Stored<Value>
     ensures { IfOk result (λ v. v ≡ record_of names.now values.items) }
 {
     let texts = texts_of(alloc, names)?;
@@ -113,7 +109,7 @@ pub(crate) fn functions(
     alloc: Global,
     arguments: &List<Value>,
     results: &List<Value>,
-) -> Result<Value, AllocError>
+) -> Stored<Value>
     ensures { IfOk result (λ v. v ≡ functions arguments.now results.now) }
 {
     let lists = each_to(alloc, arguments.as_slice(), results.as_slice())?;
@@ -122,11 +118,7 @@ pub(crate) fn functions(
     Ok(set)
 }
 
-fn functions_at(
-    alloc: Global,
-    arguments: &[Value],
-    lists: Vec<List<Value>>,
-) -> Result<Vec<Value>, AllocError>
+fn functions_at(alloc: Global, arguments: &[Value], lists: Vec<List<Value>>) -> Stored<Vec<Value>>
     ensures { IfOk result (λ v. v.items ≡ map (λ ys. Value.Fun (zip arguments.now ys)) lists.items) }
 {
     let mut members = Vec::new(alloc);
@@ -137,11 +129,7 @@ fn functions_at(
     Ok(members)
 }
 
-fn records_at(
-    alloc: Global,
-    names: &[Text],
-    lists: Vec<List<Value>>,
-) -> Result<Vec<Value>, AllocError>
+fn records_at(alloc: Global, names: &[Text], lists: Vec<List<Value>>) -> Stored<Vec<Value>>
     ensures { IfOk result (λ v. v.items ≡ map (record_of names.now) lists.items) }
 {
     let mut members = Vec::new(alloc);
@@ -152,7 +140,7 @@ fn records_at(
     Ok(members)
 }
 
-fn sequences_of(alloc: Global, lists: Vec<List<Value>>) -> Result<Vec<Value>, AllocError>
+fn sequences_of(alloc: Global, lists: Vec<List<Value>>) -> Stored<Vec<Value>>
     ensures { IfOk result (λ v. v.items ≡ map sequence lists.items) }
 {
     let mut members = Vec::new(alloc);

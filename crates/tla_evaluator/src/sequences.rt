@@ -9,14 +9,14 @@ ghost use Rattle.tla_evaluator.specs.inner.Gives.{Gives};
 
 use crate::numbers::number;
 use crate::operands::{Row, is_sequence};
-use crate::stops::Stop;
-use std::alloc::{AllocError, Global};
+use crate::stops::{Answer, Stop, Stored};
+use std::alloc::Global;
 use tla_meaning::{Op, Outcome, Place};
 use tla_values::{List, Value, copy_value};
 
 impl Row<'_> {
     // One sequence.
-    pub(crate) fn sequence(&self, op: &Op) -> Result<Value, Stop>
+    pub(crate) fn sequence(&self, op: &Op) -> Answer<Value>
         ensures { Gives (on_sequence self.now.place
             (of_items (Some self.now.width) self.now.place op.now)
             (map out-Value self.now.operands.now)) result }
@@ -33,7 +33,7 @@ impl Row<'_> {
         }
     }
 
-    fn of_items(&self, op: &Op, pairs: &[(Value, Value)]) -> Result<Value, Stop>
+    fn of_items(&self, op: &Op, pairs: &[(Value, Value)]) -> Answer<Value>
         ensures { Gives (of_items (Some self.now.width) self.now.place op.now (results pairs.now))
             result }
     {
@@ -52,7 +52,7 @@ impl Row<'_> {
     }
 
     // `s \o t`.
-    pub(crate) fn concatenation(&self) -> Result<Value, Stop>
+    pub(crate) fn concatenation(&self) -> Answer<Value>
         ensures { Gives (table None self.now.place Op.Concat self.now.operands.now) result }
     {
         match self.operands {
@@ -69,7 +69,7 @@ impl Row<'_> {
     }
 
     // `Append(s, e)`.
-    pub(crate) fn appended(&self) -> Result<Value, Stop>
+    pub(crate) fn appended(&self) -> Answer<Value>
         ensures { Gives (table None self.now.place Op.Append self.now.operands.now) result }
     {
         match self.operands {
@@ -86,7 +86,7 @@ impl Row<'_> {
     }
 
     // `SubSeq(s, m, n)`.
-    pub(crate) fn subsequence(&self) -> Result<Value, Stop>
+    pub(crate) fn subsequence(&self) -> Answer<Value>
         ensures { Gives (table None self.now.place Op.SubSeq self.now.operands.now) result }
     {
         match self.operands {
@@ -96,7 +96,7 @@ impl Row<'_> {
     }
 
     // The items from m to n of a function that is to be a sequence.
-    fn part_from(&self, pairs: &List<(Value, Value)>, m: &i128, n: &i128) -> Result<Value, Stop>
+    fn part_from(&self, pairs: &List<(Value, Value)>, m: &i128, n: &i128) -> Answer<Value>
         ensures { Gives (on_items self.now.place (λ xs. part_of self.now.place xs m.now n.now)
             (items_of pairs.now)) result }
     {
@@ -108,7 +108,7 @@ impl Row<'_> {
     }
 
     // The items from m to n.
-    fn part(&self, pairs: &[(Value, Value)], m: &i128, n: &i128) -> Result<Value, Stop>
+    fn part(&self, pairs: &[(Value, Value)], m: &i128, n: &i128) -> Answer<Value>
         ensures { Gives (part_of self.now.place (results pairs.now) m.now n.now) result }
     {
         if *n < *m {
@@ -126,14 +126,14 @@ impl Row<'_> {
 }
 
 // The sequence of the items.
-pub(crate) fn sequence(alloc: Global, items: Vec<Value>) -> Result<Value, AllocError>
+pub(crate) fn sequence(alloc: Global, items: Vec<Value>) -> Stored<Value>
     ensures { IfOk result (λ v. v ≡ sequence items.items) }
 {
     let pairs = numbered(alloc, items)?;
     Ok(Value::Fun(List::from_vec(pairs)))
 }
 
-fn numbered(alloc: Global, items: Vec<Value>) -> Result<Vec<(Value, Value)>, AllocError>
+fn numbered(alloc: Global, items: Vec<Value>) -> Stored<Vec<(Value, Value)>>
     ensures { IfOk result (λ v. v.items ≡ numbered 1 items.items) }
 {
     let mut pairs = Vec::new(alloc);
@@ -155,7 +155,7 @@ pub(crate) fn copy_results_onto(
     alloc: Global,
     pairs: &[(Value, Value)],
     out: &mut Vec<Value>,
-) -> Result<(), AllocError>
+) -> Stored<()>
     ensures { OnOk result (out.new.items ≡ out.old.items ++ results pairs.now) }
 {
     for (_, value) in pairs {
@@ -166,7 +166,7 @@ pub(crate) fn copy_results_onto(
 }
 
 // The sequence of the results of some pairs.
-fn sequence_of_results(alloc: Global, pairs: &[(Value, Value)]) -> Result<Value, AllocError>
+fn sequence_of_results(alloc: Global, pairs: &[(Value, Value)]) -> Stored<Value>
     ensures { IfOk result (λ v. v ≡ sequence (results pairs.now)) }
 {
     let mut items = Vec::new(alloc);
@@ -174,11 +174,7 @@ fn sequence_of_results(alloc: Global, pairs: &[(Value, Value)]) -> Result<Value,
     sequence(alloc, items)
 }
 
-fn joined(
-    alloc: Global,
-    left: &[(Value, Value)],
-    right: &[(Value, Value)],
-) -> Result<Value, AllocError>
+fn joined(alloc: Global, left: &[(Value, Value)], right: &[(Value, Value)]) -> Stored<Value>
     ensures { IfOk result (λ v. v ≡ sequence (results left.now ++ results right.now)) }
 {
     let mut items = Vec::new(alloc);
@@ -188,7 +184,7 @@ fn joined(
 }
 
 // The sequence of some results and one more item.
-fn with_last(alloc: Global, pairs: &[(Value, Value)], last: &Value) -> Result<Value, AllocError>
+fn with_last(alloc: Global, pairs: &[(Value, Value)], last: &Value) -> Stored<Value>
     ensures { IfOk result (λ v. v ≡ sequence (results pairs.now ++ last.now ∷ [])) }
 {
     let mut items = Vec::new(alloc);

@@ -12,14 +12,14 @@ ghost use Rattle.tla_evaluator.specs.inner.Results.{all_of};
 use crate::numbers::number;
 use crate::operands::Row;
 use crate::records::functions;
-use crate::stops::Stop;
-use std::alloc::{AllocError, Global};
+use crate::stops::{Answer, Stop, Stored};
+use std::alloc::Global;
 use tla_meaning::{Op, Outcome};
 use tla_values::{List, Value, copy_onto, copy_value, inter_of, minus, set_of, union_of};
 
 impl Row<'_> {
     // One set.
-    pub(crate) fn set(&self, op: &Op) -> Result<Value, Stop>
+    pub(crate) fn set(&self, op: &Op) -> Answer<Value>
         ensures { Gives (on_set self.now.place (of_set (Some self.now.width) self.now.place op.now)
             (map out-Value self.now.operands.now)) result }
     {
@@ -29,7 +29,7 @@ impl Row<'_> {
         }
     }
 
-    fn of_set(&self, op: &Op, members: &List<Value>) -> Result<Value, Stop>
+    fn of_set(&self, op: &Op, members: &List<Value>) -> Answer<Value>
         ensures { Gives (of_set (Some self.now.width) self.now.place op.now members.now) result }
     {
         match op {
@@ -42,7 +42,7 @@ impl Row<'_> {
     }
 
     // `UNION S`.
-    fn union_of_all(&self, sets: &List<Value>) -> Result<Value, Stop>
+    fn union_of_all(&self, sets: &List<Value>) -> Answer<Value>
         ensures { Gives (on_all_sets self.now.place
             (λ xss. Outcome.Val (Value.Set (union_all xss))) sets.now) result }
     {
@@ -56,7 +56,7 @@ impl Row<'_> {
     }
 
     // Two sets.
-    pub(crate) fn sets(&self, op: &Op) -> Result<Value, Stop>
+    pub(crate) fn sets(&self, op: &Op) -> Answer<Value>
         requires { All Normal self.now.operands.now }
         ensures { Gives (on_sets self.now.place (of_sets self.now.place op.now)
             (map out-Value self.now.operands.now)) result }
@@ -67,7 +67,7 @@ impl Row<'_> {
         }
     }
 
-    fn of_sets(&self, op: &Op, left: &List<Value>, right: &List<Value>) -> Result<Value, Stop>
+    fn of_sets(&self, op: &Op, left: &List<Value>, right: &List<Value>) -> Answer<Value>
         requires left { Normal (Value.Set left.now) }
         requires right { Normal (Value.Set right.now) }
         ensures { Gives (of_sets self.now.place op.now left.now right.now) result }
@@ -83,7 +83,7 @@ impl Row<'_> {
 }
 
 // `BOOLEAN`.
-pub(crate) fn truth_values(alloc: Global) -> Result<Value, AllocError>
+pub(crate) fn truth_values(alloc: Global) -> Stored<Value>
     ensures { IfOk result (λ v. v ≡ Value.Set (Value.Bool false ∷ Value.Bool true ∷ [])) }
 {
     let mut members = Vec::new(alloc);
@@ -93,7 +93,7 @@ pub(crate) fn truth_values(alloc: Global) -> Result<Value, AllocError>
 }
 
 // The members of all sets, one after another, where all values are sets.
-fn all_members(alloc: Global, sets: &[Value]) -> Result<Option<Vec<Value>>, AllocError>
+fn all_members(alloc: Global, sets: &[Value]) -> Stored<Option<Vec<Value>>>
     ensures { IfOk result
         (λ o. option_map all_of (all_set_items sets.now) ≡ option_map (λ v. v.items) o) }
 {
@@ -110,7 +110,7 @@ fn all_members(alloc: Global, sets: &[Value]) -> Result<Option<Vec<Value>>, Allo
 // ---- subsets, and choices of members
 
 // A list with one more item in front.
-fn with_first(alloc: Global, x: &Value, xs: &[Value]) -> Result<List<Value>, AllocError>
+fn with_first(alloc: Global, x: &Value, xs: &[Value]) -> Stored<List<Value>>
     ensures { IfOk result (λ l. l ≡ x.now ∷ xs.now) }
 {
     let mut items = Vec::new(alloc);
@@ -126,7 +126,7 @@ fn push_with_first(
     x: &Value,
     lists: &[List<Value>],
     out: &mut Vec<List<Value>>,
-) -> Result<(), AllocError>
+) -> Stored<()>
     ensures { OnOk result (out.new.items ≡ out.old.items ++ map (λ ys. x.now ∷ ys) lists.now) }
 {
     for list in lists {
@@ -137,7 +137,7 @@ fn push_with_first(
 }
 
 // Moves the lists to the end of others.
-fn move_onto(lists: Vec<List<Value>>, out: &mut Vec<List<Value>>) -> Result<(), AllocError>
+fn move_onto(lists: Vec<List<Value>>, out: &mut Vec<List<Value>>) -> Stored<()>
     ensures { OnOk result (out.new.items ≡ out.old.items ++ lists.items) }
 {
     for list in lists {
@@ -147,7 +147,7 @@ fn move_onto(lists: Vec<List<Value>>, out: &mut Vec<List<Value>>) -> Result<(), 
 }
 
 // The lists that leave out some items.
-fn sublists(alloc: Global, items: &[Value]) -> Result<Vec<List<Value>>, AllocError>
+fn sublists(alloc: Global, items: &[Value]) -> Stored<Vec<List<Value>>>
     ensures { IfOk result (λ v. v.items ≡ sublists items.now) }
 {
     let mut lists = Vec::new(alloc);
@@ -161,7 +161,7 @@ fn sublists(alloc: Global, items: &[Value]) -> Result<Vec<List<Value>>, AllocErr
 }
 
 // Each list besides with one more item in front.
-fn add_with_first(alloc: Global, x: &Value, lists: &mut Vec<List<Value>>) -> Result<(), AllocError>
+fn add_with_first(alloc: Global, x: &Value, lists: &mut Vec<List<Value>>) -> Stored<()>
     ensures { OnOk result
         (lists.new.items ≡ lists.old.items ++ map (λ ys. x.now ∷ ys) lists.old.items) }
 {
@@ -172,11 +172,7 @@ fn add_with_first(alloc: Global, x: &Value, lists: &mut Vec<List<Value>>) -> Res
 }
 
 // One item of the set in front of each list, in every way.
-fn with_each(
-    alloc: Global,
-    set: &[Value],
-    lists: &[List<Value>],
-) -> Result<Vec<List<Value>>, AllocError>
+fn with_each(alloc: Global, set: &[Value], lists: &[List<Value>]) -> Stored<Vec<List<Value>>>
     ensures { IfOk result (λ v. v.items ≡ with_each set.now lists.now) }
 {
     let mut all = Vec::new(alloc);
@@ -187,10 +183,7 @@ fn with_each(
 }
 
 // One item of each set, in every way, where all values are sets.
-pub(crate) fn choices_of(
-    alloc: Global,
-    sets: &[Value],
-) -> Result<Option<Vec<List<Value>>>, AllocError>
+pub(crate) fn choices_of(alloc: Global, sets: &[Value]) -> Stored<Option<Vec<List<Value>>>>
     ensures { IfOk result
         (λ o. option_map choices (all_set_items sets.now) ≡ option_map (λ cs. cs.items) o) }
 {
@@ -218,7 +211,7 @@ pub(crate) fn each_to(
     alloc: Global,
     arguments: &[Value],
     results: &[Value],
-) -> Result<Vec<List<Value>>, AllocError>
+) -> Stored<Vec<List<Value>>>
     ensures { IfOk result (λ v. v.items ≡ each_to arguments.now results.now) }
 {
     let mut lists = Vec::new(alloc);
@@ -232,7 +225,7 @@ pub(crate) fn each_to(
 }
 
 // `SUBSET S`.
-fn subsets_of(alloc: Global, set: &List<Value>) -> Result<Value, AllocError>
+fn subsets_of(alloc: Global, set: &List<Value>) -> Stored<Value>
     ensures { IfOk result (λ v. v ≡ subsets set.now) }
 {
     let lists = sublists(alloc, set.as_slice())?;
@@ -242,7 +235,7 @@ fn subsets_of(alloc: Global, set: &List<Value>) -> Result<Value, AllocError>
 }
 
 // Each list as a set.
-fn sets_of(alloc: Global, lists: Vec<List<Value>>) -> Result<Vec<Value>, AllocError>
+fn sets_of(alloc: Global, lists: Vec<List<Value>>) -> Stored<Vec<Value>>
     ensures { IfOk result (λ v. v.items ≡ map (λ ys. Value.Set ys) lists.items) }
 {
     let mut sets = Vec::new(alloc);

@@ -8,6 +8,12 @@ use std::alloc::{AllocError, AllocFailed};
 use tla_meaning::{Outcome, Place};
 use tla_values::Value;
 
+// What is made, or want of memory.
+pub(crate) type Stored<T> = Result<T, AllocError>;
+
+// What is given, or what stops the evaluation.
+pub(crate) type Answer<T> = Result<T, Stop>;
+
 // A fault at its place, or want of memory.
 #[derive(Drop)]
 pub(crate) enum Stop {
@@ -33,7 +39,7 @@ impl<T: Drop> From<AllocFailed<T>> for Stop {
 }
 
 // The answer of a public call.
-pub(crate) fn told(answer: Result<Value, Stop>) -> Result<Outcome, AllocError>
+pub(crate) fn told(answer: Answer<Value>) -> Stored<Outcome>
     ensures { (o : Given) → Gives o answer → IfOk result (λ q. q ≡ o) }
 {
     match answer {
