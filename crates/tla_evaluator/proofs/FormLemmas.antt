@@ -1,7 +1,7 @@
 -- Set forms by their kinds, and what belongs to lists of them.
 use Rattle.std.proofs.lemmas.Bool.Decides.{nat_tests}
 use Rattle.std.proofs.lemmas.List.{length-map}
-use Rattle.std.proofs.Common.{◌≡◌, ℕ, zero, suc, ◌≤◌, ◌==◌, ◌&&◌, Bool, true, false, length, drop, arith, List, [], ◌∷◌, refl, ap, ◌∙◌, sym}
+use Rattle.std.proofs.Common.{◌≡◌, ℕ, zero, suc, ◌≤◌, ◌==◌, ◌&&◌, ◌||◌, map, Bool, true, false, length, drop, arith, List, [], ◌∷◌, refl, ap, ◌∙◌, sym}
 use Rattle.tla_values.specs.Order.{Layer, same_value, text_cmp, value_cmp}
 use Rattle.tla_values.proofs.Laws.{value_back}
 use Rattle.std.specs.declared.cmp.Ordering.{Ordering}
@@ -18,7 +18,44 @@ use Rattle.tla_meaning.specs.declared.forms.SetForm.TheFolds.{fold_out-SetForm, 
 use Rattle.tla_meaning.specs.Forms.{set_passes, function_passes, belongs, all_belong, part_belongs, fields_at, has_fields, is_natural, is_number, is_text, passes, results, same_set}
 use Rattle.tla_meaning.specs.Shapes.{items_of}
 use Rattle.tla_values.specs.Sets.{arguments, member}
-use Rattle.std.specs.List.{list_all}
+use Rattle.std.specs.List.{list_all, list_any}
+
+-- tests of what is made of items
+any_map : {X Y : Type 0} (f : Y → Bool) (g : X → Y) (xs : List X) → list_any (λ x. f (g x)) xs ≡ list_any f (map g xs)
+any_map f g [] = refl
+any_map f g (x ∷ xs) = ap (λ b. f (g x) || b) (any_map f g xs)
+
+all_map : {X Y : Type 0} (e : X → Bool) (f : Y → Bool) (g : X → Y) (xs : List X) → ((x : X) → e x ≡ f (g x)) → list_all e xs ≡ list_all f (map g xs)
+all_map e f g [] h = refl
+all_map e f g (x ∷ xs) h = ap (λ b. b && list_all e xs) (h x) ∙ ap (λ b. f (g x) && b) (all_map e f g xs h)
+
+all_same : {X : Type 0} (e f : X → Bool) (xs : List X) → ((x : X) → e x ≡ f x) → list_all e xs ≡ list_all f xs
+all_same e f [] h = refl
+all_same e f (x ∷ xs) h = ap (λ b. b && list_all e xs) (h x) ∙ ap (λ b. f x && b) (all_same e f xs h)
+
+-- a conjunction by its first part
+pub and_then : (a b r : Bool) → a ≡ true → r ≡ b → r ≡ (a && b)
+and_then true b r e f = f
+and_then false b r e f = absurd (cc)
+
+pub and_else : (a b : Bool) → a ≡ false → false ≡ (a && b)
+and_else true b e = absurd (cc)
+and_else false b e = refl
+
+-- equal sets, where one or both are made of other items
+module _ (ps : List (Value × Value)) where
+  pub arguments_same : (xs : List Value) → (list_all (λ x. list_any (λ q. same_value x q.0) ps) xs && list_all (λ q. member q.0 xs) ps) ≡ same_set xs (arguments ps)
+  arguments_same xs =
+      ap (λ b. b && list_all (λ q. member q.0 xs) ps) (all_same _ (λ x. member x (arguments ps)) xs (λ x. any_map (same_value x) (λ q. q.0) ps))
+      ∙ ap (λ b. list_all (λ x. member x (arguments ps)) xs && b) (all_map _ (λ y. member y xs) (λ q. q.0) ps (λ q. refl))
+
+  pub fields_same : (ns : List (List ℕ)) →
+      (list_all (λ n. list_any (λ q. same_value (Text n) q.0) ps) ns && list_all (λ q. list_any (λ n. same_value q.0 (Text n)) ns) ps) ≡ has_fields ns ps
+  fields_same ns =
+      ap (λ b. b && list_all (λ q. list_any (λ n. same_value q.0 (Text n)) ns) ps)
+      (all_map _ (λ x. member x (arguments ps)) (λ n. Text n) ns (λ n. any_map (same_value (Text n)) (λ q. q.0) ps))
+      ∙ ap (λ b. list_all (λ x. member x (arguments ps)) (map (λ n. Text n) ns) && b)
+      (all_map _ (λ y. member y (map (λ n. Text n) ns)) (λ q. q.0) ps (λ q. any_map (same_value q.0) (λ n. Text n) ns))
 
 pub belongs_out : (f : SetForm) (v : Value) → belongs f v ≡ part_belongs (map-SetForm SetForm (Value → Bool) belongs (out-SetForm f)) v
 unfolding belongs

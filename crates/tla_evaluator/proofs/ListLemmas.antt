@@ -22,13 +22,16 @@ pub sublists_more : (xs : List Value) (i : ℕ) (x : Value) (ls new : List (List
 sublists_more xs i x ls new low le is e f =
     f ∙ ap (λ l. l ++ map (λ ys. x ∷ ys) l) e ∙ ap sublists (sym (at_place xs i x low le is))
 
-pub each_to_more : (xs ts : List Value) (i : ℕ) (ls ls' new : List (List Value)) → 0 < i → i ≤ length xs →
-    ls ≡ each_to (drop i xs) ts → ls' ≡ ls → new ≡ with_each ts ls' → new ≡ each_to (drop (i - 1) xs) ts
-each_to_more xs ts i ls ls' new low le e s f =
-    let lt : i - 1 < length xs = omega arith in
-    let n : suc (i - 1) ≡ i = omega arith in
-    f ∙ ap (with_each ts) (s ∙ e) ∙ ap (λ k. with_each ts (each_to (drop k xs) ts)) (sym n)
-    ∙ ap (λ l. each_to l ts) (sym (drop-cons xs (i - 1) (value.Bool false) lt))
+-- only the number of arguments counts
+pub each_to_more : (xs ts : List Value) (i : ℕ) (ls ls' new : List (List Value)) → i < length xs →
+    ls ≡ each_to (take i xs) ts → ls' ≡ ls → new ≡ with_each ts ls' → new ≡ each_to (take (i + 1) xs) ts
+each_to_more xs ts i ls ls' new lt e s f =
+    f ∙ ap (with_each ts) (s ∙ e) ∙ sym (ap (λ n. each_to (take n xs) ts) (add-one i) ∙ longer xs i lt)
+  where
+    longer : (xs : List Value) (i : ℕ) → i < length xs → each_to (take (suc i) xs) ts ≡ with_each ts (each_to (take i xs) ts)
+    longer [] i lt = absurd (omega arith)
+    longer (x ∷ xs) zero lt = refl
+    longer (x ∷ xs) (suc i) lt = ap (with_each ts) (longer xs i (omega arith))
 
 pub with_each_more : (xs : List Value) (yss all new whole : List (List Value)) (i : ℕ) (x : Value) → i < length xs → x ≡ get_or xs i x →
     all ++ with_each (drop i xs) yss ≡ whole → new ≡ all ++ map (λ ys. x ∷ ys) yss → new ++ with_each (drop (i + 1) xs) yss ≡ whole

@@ -1,11 +1,12 @@
 -- Numbers outside a width, and powers.
-use Rattle.std.proofs.Common.{◌≡◌, ℕ, zero, suc, ◌+◌, ◌-◌, ◌*◌, ◌^◌, ◌<◌, ◌≤◌, true, false, nat_lt, ℤ, pos, negsuc, ◌*ℤ◌, ◌+ℤ◌, ◌≤ℤ◌, nat_abs, Some, refl, ap, ◌∙◌, sym, subst, arith, FitsSigned, cond, add-one, ◌-ℤ◌, ◌<ℤ◌, int_le, if◌then◌else◌, ◌%◌, ◌/◌, to_z, of_z}
+use Rattle.std.proofs.Common.{◌≡◌, ℕ, zero, suc, ◌+◌, ◌-◌, ◌*◌, ◌^◌, ◌<◌, ◌≤◌, true, false, nat_lt, ℤ, pos, negsuc, ◌*ℤ◌, ◌+ℤ◌, ◌≤ℤ◌, nat_abs, Some, refl, ap, ◌∙◌, sym, subst, arith, FitsSigned, cond, min, Bool, add-one, ◌-ℤ◌, ◌<ℤ◌, int_le, if◌then◌else◌, ◌%◌, ◌/◌, to_z, of_z}
 use mir.Syntax.{w128}
-use Rattle.std.proofs.lemmas.Bool.{le-ltb, ltb-false, ltb-true}
+use Rattle.std.proofs.lemmas.Bool.{le-ltb, lt-ltb, ltb-false, ltb-true}
 use Rattle.std.proofs.lemmas.Int.{ints, to_z-of_z, unsigned_abs-mul}
 use Rattle.std.proofs.Math.Pow.{pow_mono}
 use Rattle.std.proofs.Math.Nat.{one-le-pow}
 use Rattle.std.specs.Int.RustNames.{unsigned_abs}
+use Rattle.std.specs.Int.{saturate_signed}
 use Rattle.tla_meaning.specs.declared.place.Place.{Place}
 use Rattle.tla_meaning.specs.declared.outcome.Outcome.TheVariants.{Big, Val}
 use Rattle.tla_values.specs.declared.value.Value.TheVariants as value
@@ -20,11 +21,25 @@ beyond w (negsuc m) le h =
     le-ltb m (2 ^ (w - 1)) (let k : 2 ^ (w - 1) ≤ 2 ^ 127 = pow_mono {i = w - 1} {j = 127} (omega arith) in
     let d : (m < 2 ^ 127) → ⊥ = λ lt. h (record { sfits = lt }) in omega (arith, d))
 
-pub beyond_product : (w : ℕ) (a b : ℤ) → w ≤ 64 → FitsSigned w128 a → FitsSigned w128 b →
-    (FitsSigned w128 (to_z w128 (of_z w128 a) *ℤ to_z w128 (of_z w128 b)) → ⊥) → in_width (Some w) (a *ℤ b) ≡ false
-beyond_product w a b le fa fb h =
-    beyond w (a *ℤ b) le (subst (λ x. FitsSigned w128 (x *ℤ b) → ⊥) (to_z-of_z w128 a fa)
-    (subst (λ y. FitsSigned w128 (to_z w128 (of_z w128 a) *ℤ y) → ⊥) (to_z-of_z w128 b fb) h))
+-- the number of 128 bits that is nearest to z is in the same widths
+module _ (w : ℕ) (le : w ≤ 64) where
+  far : 2 ^ (w - 1) ≤ 2 ^ 127 - 1
+  far = let k : 2 ^ (w - 1) ≤ 2 ^ 126 = pow_mono {i = w - 1} {j = 126} (omega arith) in omega (arith, k)
+
+  least_same : (n : ℕ) → nat_lt (min n (2 ^ 127 - 1)) (2 ^ (w - 1)) ≡ nat_lt n (2 ^ (w - 1))
+  least_same n = go (nat_lt n (2 ^ (w - 1))) refl
+    where
+      go : (b : Bool) → nat_lt n (2 ^ (w - 1)) ≡ b → nat_lt (min n (2 ^ 127 - 1)) (2 ^ (w - 1)) ≡ b
+      go true e = let l = ltb-true n (2 ^ (w - 1)) e in let k = far in lt-ltb (min n (2 ^ 127 - 1)) (2 ^ (w - 1)) (omega (arith, l, k))
+      go false e = let l = ltb-false n (2 ^ (w - 1)) e in let k = far in le-ltb (min n (2 ^ 127 - 1)) (2 ^ (w - 1)) (omega (arith, l, k))
+
+  pub saturated : (z : ℤ) → in_width (Some w) (saturate_signed w128 z) ≡ in_width (Some w) z
+  saturated (pos n) = least_same n
+  saturated (negsuc n) = least_same n
+
+  pub unsaturated : (z : ℤ) → in_width (Some w) z ≡ true → saturate_signed w128 z ≡ z
+  unsaturated (pos n) e = let l = ltb-true n (2 ^ (w - 1)) e in let k = far in let m : min n (2 ^ 127 - 1) ≡ n = omega (arith, l, k) in ap pos m
+  unsaturated (negsuc n) e = let l = ltb-true n (2 ^ (w - 1)) e in let k = far in let m : min n (2 ^ 127 - 1) ≡ n = omega (arith, l, k) in ap negsuc m
 
 -- ---- powers
 

@@ -17,7 +17,9 @@ use Rattle.tla_meaning.specs.Operators.{on_all_sets, on_items, table}
 use Rattle.tla_meaning.specs.Outcomes.{IsNormalOutcome}
 use Rattle.tla_meaning.proofs.NormalTable.{table_normal}
 use Rattle.tla_evaluator.proofs.NumberLemmas.{size, out_size}
+use Rattle.std.specs.Option.{ok_or}
 use Rattle.tla_evaluator.specs.declared.stops.Stop.{Stop}
+use Rattle.tla_evaluator.specs.declared.stops.Stop.TheVariants as stop
 use Rattle.tla_evaluator.specs.inner.Gives.{Gives}
 use Rattle.tla_evaluator.specs.inner.Results.{all_of}
 use Rattle.tla_meaning.specs.Forms.{results}
@@ -48,17 +50,24 @@ union_all_is (xs ∷ xss) = ap (union_of xs) (union_all_is xss) ∙ sym (set_of-
 some_is : {X : Type 0} (x y : X) → Some x ≡ Some y → x ≡ y
 some_is x y e = cc
 
-pub union_found : (p : Place) (vs ws : List Value) (ms items : List Value) (v : Value) → ws ≡ vs →
-    option_map all_of (all_set_items ws) ≡ Some ms → items ≡ ms → v ≡ Set (set_of items) →
-    on_all_sets p (λ xss. Val (Set (union_all xss))) vs ≡ Val v
-union_found p vs ws ms items v ew e ei ev = sym (go (all_set_items vs) (ap (λ l. option_map all_of (all_set_items l)) (sym ew) ∙ e))
-  where
-    go : (o : Option (List (List Value))) → option_map all_of o ≡ Some ms →
-        Val v ≡ elim o [ None ↦ Wrong p | Some xss ↦ Val (Set (union_all xss)) ]
-    go None k = absurd (cc)
-    go (Some xss) k =
-        let m : all_of xss ≡ ms = some_is (all_of xss) ms k in
-        ap Val (ev ∙ ap (λ l. Set (set_of l)) (ei ∙ sym m) ∙ ap Set (sym (union_all_is xss)))
+-- what is made of the items of all sets, where there are such, and what stops it else
+module _ {X Y : Type 0} (h : List (List Value) → X) (g : Y → X) (p : Place) (f : List (List Value) → Outcome) (vs : List Value) (o : Option Y) where
+  pub sets_give : (y : Y) (q : Outcome) → option_map h (all_set_items vs) ≡ option_map g o → o ≡ Some y →
+      ((xss : List (List Value)) → h xss ≡ g y → f xss ≡ q) → on_all_sets p f vs ≡ q
+  sets_give y q e is go = found (all_set_items vs) (e ∙ ap (option_map g) is)
+    where
+      found : (l : Option (List (List Value))) → option_map h l ≡ Some (g y) → elim l [ None ↦ Wrong p | Some xss ↦ f xss ] ≡ q
+      found None k = absurd (cc)
+      found (Some xss) k = go xss (some_is (h xss) (g y) k)
+
+  pub sets_stop : (s : Stop) → option_map h (all_set_items vs) ≡ option_map g o → Err s ≡ ok_or o (stop.Wrong p) → Gives (on_all_sets p f vs) (Err s)
+  sets_stop s e is = lost o (all_set_items vs) e is
+    where
+      lost : (o : Option Y) (l : Option (List (List Value))) → option_map h l ≡ option_map g o → Err s ≡ ok_or o (stop.Wrong p) →
+          Gives (elim l [ None ↦ Wrong p | Some xss ↦ f xss ]) (Err s)
+      lost None None k is = let q : s ≡ stop.Wrong p = cc in subst (λ s. Gives (Wrong p) (Err s)) (sym q) refl
+      lost None (Some xss) k is = absurd (cc)
+      lost (Some y) l k is = absurd (cc)
 
 -- ---- numbers in order
 

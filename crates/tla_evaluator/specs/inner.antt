@@ -8,3 +8,4 @@ pub mod Nodes
 pub mod Readings
 pub mod Results
 pub mod SetForms
+pub mod Truths

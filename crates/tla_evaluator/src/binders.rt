@@ -1,8 +1,10 @@
 // What a binder gives of its choices and of the body's value at each.
+ghost use Rattle.std.specs.List.{list_all, list_any};
 ghost use Rattle.std.specs.Prelude.{◌≡◌, ◌+◌, ◌++◌, ◌∷◌, [], Bool as Truth, IfOk, List as Items, OnOk, drop, map, option_map, zip};
 ghost use Rattle.tla_meaning.specs.Meaning.{argument, bound_table, kept, truths};
 ghost use Rattle.tla_meaning.specs.Shapes.{the_function};
 ghost use Rattle.tla_evaluator.specs.inner.Gives.{Gives};
+ghost use Rattle.tla_evaluator.specs.inner.Truths.{GivesTruths};
 
 use crate::functions::function_of;
 use crate::records::paired;
@@ -24,73 +26,56 @@ pub(crate) fn bound_table(
     ensures { Gives (bound_table place op.now choices.now values.items) result }
 {
     match op {
-        Op::Exists => some_true(&values, place),
-        Op::Forall => all_true(&values, place),
-        Op::Filter => kept_members(alloc, choices, &values, place),
+        Op::Exists => Ok(Value::Bool(some_true(truths(alloc, &values, place)?.as_slice()))),
+        Op::Forall => Ok(Value::Bool(all_true(truths(alloc, &values, place)?.as_slice()))),
+        Op::Filter => {
+            let passes = truths(alloc, &values, place)?;
+            Ok(set_of(
+                alloc,
+                List::from_vec(kept(alloc, choices, passes.as_slice())?),
+            )?)
+        }
         Op::MapTo => Ok(set_of(alloc, List::from_vec(values))?),
         Op::Lambda => Ok(function_at(alloc, choices, values)?),
         _ => Err(Stop::Wrong(place)),
     }
 }
 
-// Whether a value is TRUE, where all are truth values.
-fn some_true(values: &[Value], place: Place) -> Answer<Value>
-    ensures { Gives (bound_table place Op.Exists [] values.now) result }
+// The values, where all are truth values.
+fn truths(alloc: Global, values: &[Value], place: Place) -> Answer<List<bool>>
+    ensures { GivesTruths place values.now result }
 {
-    let mut found = false;
+    let mut all = Vec::new(alloc);
     for v in values {
         match v {
-            Value::Bool(b) => found = found || *b,
+            Value::Bool(b) => all.push(*b)?,
             _ => return Err(Stop::Wrong(place)),
         }
     }
-    Ok(Value::Bool(found))
+    Ok(List::from_vec(all))
 }
 
-// Whether all values are TRUE, where all are truth values.
-fn all_true(values: &[Value], place: Place) -> Answer<Value>
-    ensures { Gives (bound_table place Op.Forall [] values.now) result }
+fn some_true(truths: &[bool]) -> bool
+    ensures { result ≡ list_any (λ b. b) truths.now }
 {
-    let mut holds = true;
-    for v in values {
-        match v {
-            Value::Bool(b) => holds = holds && *b,
-            _ => return Err(Stop::Wrong(place)),
-        }
-    }
-    Ok(Value::Bool(holds))
+    truths.iter().any(|b| *b)
 }
 
-// The set of the choices at which the value is TRUE, where all are truth values.
-fn kept_members(
-    alloc: Global,
-    choices: &[List<Value>],
-    values: &[Value],
-    place: Place,
-) -> Answer<Value>
-    ensures { Gives (bound_table place Op.Filter choices.now values.now) result }
+fn all_true(truths: &[bool]) -> bool
+    ensures { result ≡ list_all (λ b. b) truths.now }
 {
-    match kept_of(alloc, choices, values)? {
-        Some(members) => {
-            let set = set_of(alloc, List::from_vec(members))?;
-            Ok(set)
-        }
-        None => Err(Stop::Wrong(place)),
-    }
+    truths.iter().all(|b| *b)
 }
 
-fn kept_of(alloc: Global, choices: &[List<Value>], values: &[Value]) -> Stored<Option<Vec<Value>>>
-    ensures { IfOk result
-        (λ o. option_map (kept choices.now) (truths values.now) ≡ option_map (λ m. m.items) o) }
+// The first members of the choices that pass.
+fn kept(alloc: Global, choices: &[List<Value>], passes: &[bool]) -> Stored<Vec<Value>>
+    ensures { IfOk result (λ v. v.items ≡ kept choices.now passes.now) }
 {
     let mut members = Vec::new(alloc);
-    for (i, v) in values.iter().enumerate() {
-        match v {
-            Value::Bool(b) => keep_first(alloc, *b, choices, i, &mut members)?,
-            _ => return Ok(None),
-        }
+    for (i, b) in passes.iter().enumerate() {
+        keep_first(alloc, *b, choices, i, &mut members)?;
     }
-    Ok(Some(members))
+    Ok(members)
 }
 
 // Adds the first member of the i-th choice, where it passes and there is one.
@@ -108,8 +93,7 @@ fn keep_first(
     if i < choices.len() {
         if let [first, ..] = choices[i].as_slice() {
             if passes {
-                let copy = copy_value(alloc, first)?;
-                out.push(copy)?;
+                out.push(copy_value(alloc, first)?)?;
             }
         }
     }
@@ -120,33 +104,21 @@ fn keep_first(
 fn function_at(alloc: Global, choices: &[List<Value>], values: Vec<Value>) -> Stored<Value>
     ensures { IfOk result (λ v. v ≡ the_function (zip (map argument choices.now) values.items)) }
 {
-    let arguments = arguments_of(alloc, choices)?;
-    let pairs = paired(alloc, arguments.as_slice(), values)?;
-    let function = function_of(alloc, pairs)?;
-    Ok(function)
-}
-
-fn arguments_of(alloc: Global, choices: &[List<Value>]) -> Stored<Vec<Value>>
-    ensures { IfOk result (λ v. v.items ≡ map argument choices.now) }
-{
     let mut arguments = Vec::new(alloc);
     for choice in choices {
-        let value = argument(alloc, choice.as_slice())?;
-        arguments.push(value)?;
+        arguments.push(argument(alloc, choice.as_slice())?)?;
     }
-    Ok(arguments)
+    function_of(alloc, paired(alloc, arguments.as_slice(), values)?)
 }
 
 // One argument, or the tuple of several.
 fn argument(alloc: Global, choice: &[Value]) -> Stored<Value>
     ensures { IfOk result (λ v. v ≡ argument choice.now) }
 {
-    match choice {
-        [only] => copy_value(alloc, only),
-        _ => {
-            let mut items = Vec::new(alloc);
-            copy_onto(alloc, choice, &mut items)?;
-            sequence(alloc, items)
-        }
+    if let [only] = choice {
+        return copy_value(alloc, only);
     }
+    let mut items = Vec::new(alloc);
+    copy_onto(alloc, choice, &mut items)?;
+    sequence(alloc, items)
 }

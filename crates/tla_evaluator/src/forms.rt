@@ -1,5 +1,5 @@
 // Set forms: what may stand on the right of a membership or an inclusion.
-ghost use Rattle.std.specs.List.{list_all};
+ghost use Rattle.std.specs.List.{list_all, list_any};
 ghost use Rattle.std.specs.Prelude.{◌≡◌, ◌&&◌, map, option_copied};
 ghost use Rattle.tla_values.specs.Order.{same_value};
 ghost use Rattle.tla_values.specs.Sets.{apply, arguments, member};
@@ -91,10 +91,7 @@ pub fn is_set_form(form: &SetForm) -> bool
 fn is_number(v: &Value) -> bool
     ensures { result ≡ is_number (out-Value v.now) }
 {
-    match v {
-        Value::Int(_) => true,
-        _ => false,
-    }
+    matches!(v, Value::Int(_))
 }
 
 fn is_natural(v: &Value) -> bool
@@ -109,10 +106,7 @@ fn is_natural(v: &Value) -> bool
 fn is_text(v: &Value) -> bool
     ensures { result ≡ is_text (out-Value v.now) }
 {
-    match v {
-        Value::Text(_) => true,
-        _ => false,
-    }
+    matches!(v, Value::Text(_))
 }
 
 // Whether the value is one of the items.
@@ -123,14 +117,9 @@ fn is_among(v: &Value, items: &[Value]) -> bool
 }
 
 fn is_argument(a: &Value, pairs: &[(Value, Value)]) -> bool
-    ensures { result ≡ member a.now (arguments pairs.now) }
+    ensures { result ≡ list_any (λ q. same_value a.now q.0) pairs.now }
 {
-    for (argument, _) in pairs {
-        if same_value(a, argument) {
-            return true;
-        }
-    }
-    false
+    pairs.iter().any(|pair| same_value(a, &pair.0))
 }
 
 // Whether the arguments are just these items.
@@ -141,20 +130,15 @@ fn same_arguments(items: &[Value], pairs: &[(Value, Value)]) -> bool
 }
 
 fn all_are_arguments(items: &[Value], pairs: &[(Value, Value)]) -> bool
-    ensures { result ≡ list_all (λ x. member x (arguments pairs.now)) items.now }
+    ensures { result ≡ list_all (λ x. list_any (λ q. same_value x q.0) pairs.now) items.now }
 {
     items.iter().all(|item| is_argument(item, pairs))
 }
 
 fn all_arguments_among(pairs: &[(Value, Value)], items: &[Value]) -> bool
-    ensures { result ≡ list_all (λ x. member x items.now) (arguments pairs.now) }
+    ensures { result ≡ list_all (λ q. member q.0 items.now) pairs.now }
 {
-    for (argument, _) in pairs {
-        if !is_among(argument, items) {
-            return false;
-        }
-    }
-    true
+    pairs.iter().all(|pair| is_among(&pair.0, items))
 }
 
 /// Whether each of the values belongs to the form. Takes no memory.
@@ -190,49 +174,27 @@ fn same_fields(names: &[Text], pairs: &[(Value, Value)]) -> bool
 }
 
 fn all_are_fields(names: &[Text], pairs: &[(Value, Value)]) -> bool
-    ensures { result ≡ list_all (λ x. member x (arguments pairs.now))
-        (map (λ n. Value.Text n) names.now) }
+    ensures { result ≡ list_all (λ n. list_any (λ q. same_value (Value.Text n) q.0) pairs.now) names.now }
 {
-    for name in names {
-        if !is_field(name, pairs) {
-            return false;
-        }
-    }
-    true
+    names.iter().all(|name| is_field(name, pairs))
 }
 
 fn is_field(name: &Text, pairs: &[(Value, Value)]) -> bool
-    ensures { result ≡ member (Value.Text name.now) (arguments pairs.now) }
+    ensures { result ≡ list_any (λ q. same_value (Value.Text name.now) q.0) pairs.now }
 {
-    for (argument, _) in pairs {
-        if is_text_of(argument, name) {
-            return true;
-        }
-    }
-    false
+    pairs.iter().any(|pair| is_text_of(&pair.0, name))
 }
 
 fn all_fields_named(pairs: &[(Value, Value)], names: &[Text]) -> bool
-    ensures { result ≡ list_all (λ x. member x (map (λ n. Value.Text n) names.now))
-        (arguments pairs.now) }
+    ensures { result ≡ list_all (λ q. list_any (λ n. same_value q.0 (Value.Text n)) names.now) pairs.now }
 {
-    for (argument, _) in pairs {
-        if !is_named(argument, names) {
-            return false;
-        }
-    }
-    true
+    pairs.iter().all(|pair| is_named(&pair.0, names))
 }
 
 fn is_named(v: &Value, names: &[Text]) -> bool
-    ensures { result ≡ member v.now (map (λ n. Value.Text n) names.now) }
+    ensures { result ≡ list_any (λ n. same_value v.now (Value.Text n)) names.now }
 {
-    for name in names {
-        if is_text_of(v, name) {
-            return true;
-        }
-    }
-    false
+    names.iter().any(|name| is_text_of(v, name))
 }
 
 fn is_text_of(v: &Value, name: &Text) -> bool

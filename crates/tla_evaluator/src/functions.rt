@@ -24,28 +24,17 @@ impl Row<'_> {
             (of_function (Some self.now.width) self.now.place op.now)
             (map out-Value self.now.operands.now)) result }
     {
-        match self.operands {
-            [Value::Fun(pairs)] => self.of_function(op, pairs),
-            _ => Err(Stop::Wrong(self.place)),
-        }
-    }
-
-    fn of_function(&self, op: &Op, pairs: &List<(Value, Value)>) -> Answer<Value>
-        requires { Normal (Value.Fun pairs.now) }
-        ensures { Gives (of_function (Some self.now.width) self.now.place op.now pairs.now) result }
-    {
+        let [Value::Fun(pairs)] = self.operands else {
+            return Err(Stop::Wrong(self.place));
+        };
         match op {
             Op::Domain => {
                 if is_sequence(pairs.as_slice()) && !fits(pairs.len() as i128, self.width) {
                     return Err(Stop::Big(self.place));
                 }
-                let arguments = domain_of(self.alloc, pairs)?;
-                Ok(arguments)
+                Ok(domain_of(self.alloc, pairs)?)
             }
-            Op::Field(name) => {
-                let field = Value::Text(copy_text(self.alloc, name)?);
-                self.value_at(pairs, &field)
-            }
+            Op::Field(name) => self.value_at(pairs, &Value::Text(copy_text(self.alloc, name)?)),
             _ => Err(Stop::Wrong(self.place)),
         }
     }
@@ -78,8 +67,7 @@ fn merged(alloc: Global, left: &List<(Value, Value)>, right: &List<(Value, Value
     let mut pairs = Vec::new(alloc);
     copy_pairs_onto(alloc, left.as_slice(), &mut pairs)?;
     copy_pairs_onto(alloc, right.as_slice(), &mut pairs)?;
-    let function = function_of(alloc, pairs)?;
-    Ok(function)
+    function_of(alloc, pairs)
 }
 
 // `a :> v`.
@@ -87,9 +75,7 @@ pub(crate) fn single(alloc: Global, argument: &Value, value: &Value) -> Stored<V
     ensures { IfOk result (λ v. v ≡ Value.Fun ((argument.now, value.now) ∷ [])) }
 {
     let mut pairs = Vec::new(alloc);
-    let argument_copy = copy_value(alloc, argument)?;
-    let value_copy = copy_value(alloc, value)?;
-    pairs.push((argument_copy, value_copy))?;
+    pairs.push((copy_value(alloc, argument)?, copy_value(alloc, value)?))?;
     Ok(Value::Fun(List::from_vec(pairs)))
 }
 
@@ -97,18 +83,11 @@ pub(crate) fn single(alloc: Global, argument: &Value, value: &Value) -> Stored<V
 pub(crate) fn function_of(alloc: Global, pairs: Vec<(Value, Value)>) -> Stored<Value>
     ensures { IfOk result (λ v. v ≡ the_function pairs.items) }
 {
-    let function = with_each_pair(alloc, pairs)?;
-    Ok(Value::Fun(List::from_vec(function)))
-}
-
-fn with_each_pair(alloc: Global, pairs: Vec<(Value, Value)>) -> Stored<Vec<(Value, Value)>>
-    ensures { IfOk result (λ v. v.items ≡ function_of pairs.items) }
-{
     let mut function = Vec::new(alloc);
     for pair in pairs {
         add_pair(&mut function, pair)?;
     }
-    Ok(function)
+    Ok(Value::Fun(List::from_vec(function)))
 }
 
 // One more pair, where its argument is a new one.
@@ -118,10 +97,7 @@ fn add_pair(function: &mut Vec<(Value, Value)>, pair: (Value, Value)) -> Stored<
 {
     match find_argument(function.as_slice(), &pair.0) {
         Ok(_) => Ok(()),
-        Err(place) => {
-            function.insert(place, pair)?;
-            Ok(())
-        }
+        Err(place) => Ok(function.insert(place, pair)?),
     }
 }
 
@@ -133,9 +109,7 @@ pub(crate) fn copy_pairs_onto(
     ensures { OnOk result (out.new.items ≡ out.old.items ++ pairs.now) }
 {
     for (argument, value) in pairs {
-        let argument_copy = copy_value(alloc, argument)?;
-        let value_copy = copy_value(alloc, value)?;
-        out.push((argument_copy, value_copy))?;
+        out.push((copy_value(alloc, argument)?, copy_value(alloc, value)?))?;
     }
     Ok(())
 }

@@ -42,16 +42,9 @@ impl Row<'_> {
         ensures { Gives (on_two self.now.place (of_two self.now.place op.now)
             self.now.operands.now) result }
     {
-        match self.operands {
-            [a, b] => self.of_two(op, a, b),
-            _ => Err(Stop::Wrong(self.place)),
-        }
-    }
-
-    fn of_two(&self, op: &Op, a: &Value, b: &Value) -> Answer<Value>
-        requires { Normal a.now }
-        ensures { Gives (of_two self.now.place op.now a.now b.now) result }
-    {
+        let [a, b] = self.operands else {
+            return Err(Stop::Wrong(self.place));
+        };
         match op {
             Op::Eq | Op::Assign => Ok(Value::Bool(same_value(a, b))),
             Op::Ne => Ok(Value::Bool(!same_value(a, b))),

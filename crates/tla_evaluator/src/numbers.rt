@@ -34,18 +34,9 @@ impl Row<'_> {
             Op::Gt => Ok(Value::Bool(b < a)),
             Op::Le => Ok(Value::Bool(a <= b)),
             Op::Ge => Ok(Value::Bool(b <= a)),
-            Op::Add => match a.checked_add(b) {
-                Some(n) => number(n, self.width, self.place),
-                None => Err(Stop::Big(self.place)),
-            },
-            Op::Sub => match a.checked_sub(b) {
-                Some(n) => number(n, self.width, self.place),
-                None => Err(Stop::Big(self.place)),
-            },
-            Op::Mul => match times(a, b, self.width) {
-                Some(n) => Ok(Value::Int(n)),
-                None => Err(Stop::Big(self.place)),
-            },
+            Op::Add => number(a.saturating_add(b), self.width, self.place),
+            Op::Sub => number(a.saturating_sub(b), self.width, self.place),
+            Op::Mul => number(a.saturating_mul(b), self.width, self.place),
             Op::Div => {
                 if b <= 0 {
                     return Err(Stop::Wrong(self.place));
@@ -101,19 +92,6 @@ pub(crate) fn number(n: i128, width: u32, place: Place) -> Answer<Value>
     }
 }
 
-// The product; `None` exactly where it is out of range.
-fn times(a: i128, b: i128, width: u32) -> Option<i128>
-    requires narrow { width ≤ 64 }
-    requires wide { 4 ≤ width }
-    ensures some { IfSome result (λ n. (n ≡ a *ℤ b) × (in_width (Some width) (a *ℤ b) ≡ true)) }
-    ensures none { IfNone result (in_width (Some width) (a *ℤ b) ≡ false) }
-{
-    match a.checked_mul(b) {
-        Some(n) => { if fits(n, width) { Some(n) } else { None } }
-        None => None,
-    }
-}
-
 fn raised(a: i128, n: i128, width: u32, place: Place) -> Answer<Value>
     requires narrow { width ≤ 64 }
     requires wide { 4 ≤ width }
@@ -154,9 +132,9 @@ fn large_power(a: i128, n: u128, width: u32, place: Place) -> Answer<Value>
 {
     let mut power: i128 = 1;
     for _k in 0..n {
-        match times(a, power, width) {
-            Some(next) => power = next,
-            None => return Err(Stop::Big(place)),
+        power = a.saturating_mul(power);
+        if !fits(power, width) {
+            return Err(Stop::Big(place));
         }
     }
     number(power, width, place)

@@ -7,11 +7,11 @@ ghost use Rattle.tla_evaluator.specs.inner.Gives.{Gives};
 use crate::functions::function_of;
 use crate::operands::Row;
 use crate::sequences::sequence;
-use crate::sets::{choices_of, each_to};
+use crate::sets::{choices_of, each_to, set_made};
 use crate::stops::{Answer, Stop, Stored};
 use std::alloc::Global;
 use tla_meaning::Op;
-use tla_values::{List, Text, Value, copy_text, copy_value, set_of};
+use tla_values::{List, Text, Value, copy_text, copy_value};
 
 impl Row<'_> {
     // `[a: S, b: T]`.
@@ -19,28 +19,18 @@ impl Row<'_> {
         ensures { Gives (table None self.now.place (Op.RecSet names.now) self.now.operands.now)
             result }
     {
-        match choices_of(self.alloc, self.operands)? {
-            Some(lists) => {
-                let members = records_at(self.alloc, names.as_slice(), lists)?;
-                let set = set_of(self.alloc, List::from_vec(members))?;
-                Ok(set)
-            }
-            None => Err(Stop::Wrong(self.place)),
-        }
+        let alloc = self.alloc;
+        let lists = choices_of(alloc, self.operands)?.ok_or(Stop::Wrong(self.place))?;
+        Ok(set_made(alloc, lists, |values| record(alloc, names, values))?)
     }
 
     // `S \X T`.
     pub(crate) fn product(&self) -> Answer<Value>
         ensures { Gives (table None self.now.place Op.Product self.now.operands.now) result }
     {
-        match choices_of(self.alloc, self.operands)? {
-            Some(lists) => {
-                let members = sequences_of(self.alloc, lists)?;
-                let set = set_of(self.alloc, List::from_vec(members))?;
-                Ok(set)
-            }
-            None => Err(Stop::Wrong(self.place)),
-        }
+        let alloc = self.alloc;
+        let lists = choices_of(alloc, self.operands)?.ok_or(Stop::Wrong(self.place))?;
+        Ok(set_made(alloc, lists, |items| sequence(alloc, items))?)
     }
 }
 
@@ -82,8 +72,7 @@ fn texts_of(alloc: Global, names: &[Text]) -> Stored<Vec<Value>>
 {
     let mut texts = Vec::new(alloc);
     for name in names {
-        let text = copy_text(alloc, name)?;
-        texts.push(Value::Text(text))?;
+        texts.push(Value::Text(copy_text(alloc, name)?))?;
     }
     Ok(texts)
 }
@@ -92,61 +81,16 @@ fn texts_of(alloc: Global, names: &[Text]) -> Stored<Vec<Value>>
 pub(crate) fn record(alloc: Global, names: &List<Text>, values: Vec<Value>) -> Stored<Value>
     ensures { IfOk result (λ v. v ≡ record_of names.now values.items) }
 {
-    record_at(alloc, names.as_slice(), values)
-}
-
-fn record_at(alloc: Global, names: &[Text], values: Vec<Value>) -> Stored<Value>
-    ensures { IfOk result (λ v. v ≡ record_of names.now values.items) }
-{
-    let texts = texts_of(alloc, names)?;
-    let pairs = paired(alloc, texts.as_slice(), values)?;
-    let function = function_of(alloc, pairs)?;
-    Ok(function)
+    let texts = texts_of(alloc, names.as_slice())?;
+    function_of(alloc, paired(alloc, texts.as_slice(), values)?)
 }
 
 // `[S -> T]`.
-pub(crate) fn functions(
-    alloc: Global,
-    arguments: &List<Value>,
-    results: &List<Value>,
-) -> Stored<Value>
+pub(crate) fn functions(alloc: Global, arguments: &[Value], results: &[Value]) -> Stored<Value>
     ensures { IfOk result (λ v. v ≡ functions arguments.now results.now) }
 {
-    let lists = each_to(alloc, arguments.as_slice(), results.as_slice())?;
-    let members = functions_at(alloc, arguments.as_slice(), lists)?;
-    let set = set_of(alloc, List::from_vec(members))?;
-    Ok(set)
-}
-
-fn functions_at(alloc: Global, arguments: &[Value], lists: Vec<List<Value>>) -> Stored<Vec<Value>>
-    ensures { IfOk result (λ v. v.items ≡ map (λ ys. Value.Fun (zip arguments.now ys)) lists.items) }
-{
-    let mut members = Vec::new(alloc);
-    for list in lists {
-        let pairs = paired(alloc, arguments, list.into_vec())?;
-        members.push(Value::Fun(List::from_vec(pairs)))?;
-    }
-    Ok(members)
-}
-
-fn records_at(alloc: Global, names: &[Text], lists: Vec<List<Value>>) -> Stored<Vec<Value>>
-    ensures { IfOk result (λ v. v.items ≡ map (record_of names.now) lists.items) }
-{
-    let mut members = Vec::new(alloc);
-    for list in lists {
-        let member = record_at(alloc, names, list.into_vec())?;
-        members.push(member)?;
-    }
-    Ok(members)
-}
-
-fn sequences_of(alloc: Global, lists: Vec<List<Value>>) -> Stored<Vec<Value>>
-    ensures { IfOk result (λ v. v.items ≡ map sequence lists.items) }
-{
-    let mut members = Vec::new(alloc);
-    for list in lists {
-        let member = sequence(alloc, list.into_vec())?;
-        members.push(member)?;
-    }
-    Ok(members)
+    let lists = each_to(alloc, arguments, results)?;
+    set_made(alloc, lists, |values| -> Stored<Value> {
+        Ok(Value::Fun(List::from_vec(paired(alloc, arguments, values)?)))
+    })
 }

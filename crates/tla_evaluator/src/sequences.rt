@@ -58,8 +58,7 @@ impl Row<'_> {
         match self.operands {
             [Value::Fun(left), Value::Fun(right)] => {
                 if is_sequence(left.as_slice()) && is_sequence(right.as_slice()) {
-                    let both = joined(self.alloc, left.as_slice(), right.as_slice())?;
-                    Ok(both)
+                    Ok(joined(self.alloc, left.as_slice(), right.as_slice())?)
                 } else {
                     Err(Stop::Wrong(self.place))
                 }
@@ -75,8 +74,7 @@ impl Row<'_> {
         match self.operands {
             [Value::Fun(pairs), last] => {
                 if is_sequence(pairs.as_slice()) {
-                    let longer = with_last(self.alloc, pairs.as_slice(), last)?;
-                    Ok(longer)
+                    Ok(with_last(self.alloc, pairs.as_slice(), last)?)
                 } else {
                     Err(Stop::Wrong(self.place))
                 }
@@ -112,14 +110,10 @@ impl Row<'_> {
         ensures { Gives (part_of self.now.place (results pairs.now) m.now n.now) result }
     {
         if *n < *m {
-            let empty = sequence_of_results(self.alloc, &[])?;
-            return Ok(empty);
+            return Ok(sequence_of_results(self.alloc, &[])?);
         }
         match bounds(pairs.len(), m, n) {
-            Some((start, end)) => {
-                let value = sequence_of_results(self.alloc, &pairs[start..end])?;
-                Ok(value)
-            }
+            Some((start, end)) => Ok(sequence_of_results(self.alloc, &pairs[start..end])?),
             None => Err(Stop::Wrong(self.place)),
         }
     }
@@ -129,19 +123,12 @@ impl Row<'_> {
 pub(crate) fn sequence(alloc: Global, items: Vec<Value>) -> Stored<Value>
     ensures { IfOk result (λ v. v ≡ sequence items.items) }
 {
-    let pairs = numbered(alloc, items)?;
-    Ok(Value::Fun(List::from_vec(pairs)))
-}
-
-fn numbered(alloc: Global, items: Vec<Value>) -> Stored<Vec<(Value, Value)>>
-    ensures { IfOk result (λ v. v.items ≡ numbered 1 items.items) }
-{
     let mut pairs = Vec::new(alloc);
     for item in items {
         let number = next_number(&pairs);
         pairs.push((number, item))?;
     }
-    Ok(pairs)
+    Ok(Value::Fun(List::from_vec(pairs)))
 }
 
 fn next_number(pairs: &Vec<(Value, Value)>) -> Value
@@ -159,8 +146,7 @@ pub(crate) fn copy_results_onto(
     ensures { OnOk result (out.new.items ≡ out.old.items ++ results pairs.now) }
 {
     for (_, value) in pairs {
-        let copy = copy_value(alloc, value)?;
-        out.push(copy)?;
+        out.push(copy_value(alloc, value)?)?;
     }
     Ok(())
 }
@@ -189,8 +175,7 @@ fn with_last(alloc: Global, pairs: &[(Value, Value)], last: &Value) -> Stored<Va
 {
     let mut items = Vec::new(alloc);
     copy_results_onto(alloc, pairs, &mut items)?;
-    let copy = copy_value(alloc, last)?;
-    items.push(copy)?;
+    items.push(copy_value(alloc, last)?)?;
     sequence(alloc, items)
 }
 

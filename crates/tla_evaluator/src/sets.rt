@@ -1,10 +1,10 @@
 // Sets.
 ghost use Rattle.std.specs.List.{All};
-ghost use Rattle.std.specs.Prelude.{◌≡◌, ◌++◌, ◌∷◌, [], IfOk, OnOk, Some, false, map, option_map, true};
+ghost use Rattle.std.specs.Prelude.{◌≡◌, ◌++◌, ◌∷◌, [], IfOk, List as Items, Ok, OnOk, Some, false, map, option_map, true};
 ghost use Rattle.tla_values.specs.Sets.{Normal};
 ghost use Rattle.tla_values.specs.declared.value.Value.{out-Value};
 ghost use Rattle.tla_meaning.specs.Operators.{on_all_sets, on_set, on_sets};
-ghost use Rattle.tla_meaning.specs.Shapes.{all_set_items, choices, each_to, sublists, subsets, union_all, with_each};
+ghost use Rattle.tla_meaning.specs.Shapes.{all_set_items, choices, each_to, sublists, subsets, the_set, union_all, with_each};
 ghost use Rattle.tla_evaluator.specs.inner.Families.{of_set, of_sets};
 ghost use Rattle.tla_evaluator.specs.inner.Gives.{Gives};
 ghost use Rattle.tla_evaluator.specs.inner.Results.{all_of};
@@ -23,15 +23,9 @@ impl Row<'_> {
         ensures { Gives (on_set self.now.place (of_set (Some self.now.width) self.now.place op.now)
             (map out-Value self.now.operands.now)) result }
     {
-        match self.operands {
-            [Value::Set(members)] => self.of_set(op, members),
-            _ => Err(Stop::Wrong(self.place)),
-        }
-    }
-
-    fn of_set(&self, op: &Op, members: &List<Value>) -> Answer<Value>
-        ensures { Gives (of_set (Some self.now.width) self.now.place op.now members.now) result }
-    {
+        let [Value::Set(members)] = self.operands else {
+            return Err(Stop::Wrong(self.place));
+        };
         match op {
             Op::Powerset => Ok(subsets_of(self.alloc, members)?),
             Op::BigUnion => self.union_of_all(members),
@@ -46,13 +40,8 @@ impl Row<'_> {
         ensures { Gives (on_all_sets self.now.place
             (λ xss. Outcome.Val (Value.Set (union_all xss))) sets.now) result }
     {
-        match all_members(self.alloc, sets.as_slice())? {
-            Some(members) => {
-                let union = set_of(self.alloc, List::from_vec(members))?;
-                Ok(union)
-            }
-            None => Err(Stop::Wrong(self.place)),
-        }
+        let members = all_members(self.alloc, sets.as_slice())?.ok_or(Stop::Wrong(self.place))?;
+        Ok(set_of(self.alloc, List::from_vec(members))?)
     }
 
     // Two sets.
@@ -61,22 +50,14 @@ impl Row<'_> {
         ensures { Gives (on_sets self.now.place (of_sets self.now.place op.now)
             (map out-Value self.now.operands.now)) result }
     {
-        match self.operands {
-            [Value::Set(left), Value::Set(right)] => self.of_sets(op, left, right),
-            _ => Err(Stop::Wrong(self.place)),
-        }
-    }
-
-    fn of_sets(&self, op: &Op, left: &List<Value>, right: &List<Value>) -> Answer<Value>
-        requires left { Normal (Value.Set left.now) }
-        requires right { Normal (Value.Set right.now) }
-        ensures { Gives (of_sets self.now.place op.now left.now right.now) result }
-    {
+        let [Value::Set(left), Value::Set(right)] = self.operands else {
+            return Err(Stop::Wrong(self.place));
+        };
         match op {
             Op::Cup => Ok(union_of(self.alloc, left, right)?),
             Op::Cap => Ok(inter_of(self.alloc, left, right)?),
             Op::Minus => Ok(minus(self.alloc, left, right)?),
-            Op::FunSet => Ok(functions(self.alloc, left, right)?),
+            Op::FunSet => Ok(functions(self.alloc, left.as_slice(), right.as_slice())?),
             _ => Err(Stop::Wrong(self.place)),
         }
     }
@@ -114,8 +95,7 @@ fn with_first(alloc: Global, x: &Value, xs: &[Value]) -> Stored<List<Value>>
     ensures { IfOk result (λ l. l ≡ x.now ∷ xs.now) }
 {
     let mut items = Vec::new(alloc);
-    let first = copy_value(alloc, x)?;
-    items.push(first)?;
+    items.push(copy_value(alloc, x)?)?;
     copy_onto(alloc, xs, &mut items)?;
     Ok(List::from_vec(items))
 }
@@ -130,18 +110,7 @@ fn push_with_first(
     ensures { OnOk result (out.new.items ≡ out.old.items ++ map (λ ys. x.now ∷ ys) lists.now) }
 {
     for list in lists {
-        let longer = with_first(alloc, x, list.as_slice())?;
-        out.push(longer)?;
-    }
-    Ok(())
-}
-
-// Moves the lists to the end of others.
-fn move_onto(lists: Vec<List<Value>>, out: &mut Vec<List<Value>>) -> Stored<()>
-    ensures { OnOk result (out.new.items ≡ out.old.items ++ lists.items) }
-{
-    for list in lists {
-        out.push(list)?;
+        out.push(with_first(alloc, x, list.as_slice())?)?;
     }
     Ok(())
 }
@@ -155,20 +124,11 @@ fn sublists(alloc: Global, items: &[Value]) -> Stored<Vec<List<Value>>>
     let mut i = items.len();
     while i > 0 {
         i -= 1;
-        add_with_first(alloc, &items[i], &mut lists)?;
+        let mut longer = Vec::new(alloc);
+        push_with_first(alloc, &items[i], lists.as_slice(), &mut longer)?;
+        lists.append(&mut longer)?;
     }
     Ok(lists)
-}
-
-// Each list besides with one more item in front.
-fn add_with_first(alloc: Global, x: &Value, lists: &mut Vec<List<Value>>) -> Stored<()>
-    ensures { OnOk result
-        (lists.new.items ≡ lists.old.items ++ map (λ ys. x.now ∷ ys) lists.old.items) }
-{
-    let mut longer = Vec::new(alloc);
-    push_with_first(alloc, x, lists.as_slice(), &mut longer)?;
-    move_onto(longer, lists)?;
-    Ok(())
 }
 
 // One item of the set in front of each list, in every way.
@@ -193,16 +153,11 @@ pub(crate) fn choices_of(alloc: Global, sets: &[Value]) -> Stored<Option<Vec<Lis
             all.push(List::new(alloc))?;
             Ok(Some(all))
         }
-        [first, rest @ ..] => match first {
-            Value::Set(items) => match choices_of(alloc, rest)? {
-                Some(lists) => {
-                    let all = with_each(alloc, items.as_slice(), lists.as_slice())?;
-                    Ok(Some(all))
-                }
-                None => Ok(None),
-            },
-            _ => Ok(None),
+        [Value::Set(items), rest @ ..] => match choices_of(alloc, rest)? {
+            Some(lists) => Ok(Some(with_each(alloc, items.as_slice(), lists.as_slice())?)),
+            None => Ok(None),
         },
+        _ => Ok(None),
     }
 }
 
@@ -216,9 +171,7 @@ pub(crate) fn each_to(
 {
     let mut lists = Vec::new(alloc);
     lists.push(List::new(alloc))?;
-    let mut i = arguments.len();
-    while i > 0 {
-        i -= 1;
+    for _ in arguments {
         lists = with_each(alloc, results, lists.as_slice())?;
     }
     Ok(lists)
@@ -229,18 +182,26 @@ fn subsets_of(alloc: Global, set: &List<Value>) -> Stored<Value>
     ensures { IfOk result (λ v. v ≡ subsets set.now) }
 {
     let lists = sublists(alloc, set.as_slice())?;
-    let members = sets_of(alloc, lists)?;
-    let subsets = set_of(alloc, List::from_vec(members))?;
-    Ok(subsets)
+    set_made(alloc, lists, |items| -> Stored<Value> {
+        Ok(Value::Set(List::from_vec(items)))
+    })
 }
 
-// Each list as a set.
-fn sets_of(alloc: Global, lists: Vec<List<Value>>) -> Stored<Vec<Value>>
-    ensures { IfOk result (λ v. v.items ≡ map (λ ys. Value.Set ys) lists.items) }
+// The set of what a function makes of each list.
+pub(crate) fn set_made<F: Fn(Vec<Value>) -> Stored<Value>>(
+    alloc: Global,
+    lists: Vec<List<Value>>,
+    make: F,
+) -> Stored<Value>
+    requires { F.IsAlwaysCallable make }
+    ensures { (f : Items Value → Value) →
+        ((items : _) (v : Value) → F.post make items (Ok v) → v ≡ f items.items) →
+        IfOk result (λ v. v ≡ the_set (map f lists.items)) }
 {
-    let mut sets = Vec::new(alloc);
+    let mut members = Vec::new(alloc);
     for list in lists {
-        sets.push(Value::Set(list))?;
+        let member = make(list.into_vec())?;
+        members.push(member)?;
     }
-    Ok(sets)
+    set_of(alloc, List::from_vec(members))
 }

@@ -1,5 +1,5 @@
 use Rattle.tla_evaluator.proofs.RowLemmas.{numbered-next}
-use Rattle.tla_evaluator.proofs.sequences.numbered.Goals as goal
+use Rattle.tla_evaluator.proofs.sequences.sequence.Goals as goal
 
 pub loop-item-preserved : goal.loop-item-preserved
 loop-item-preserved c =

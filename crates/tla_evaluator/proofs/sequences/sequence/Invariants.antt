@@ -1,6 +1,6 @@
 use Rattle.std.proofs.Common.{◌≡◌}
 use Rattle.tla_meaning.specs.Shapes.{numbered}
-use Rattle.tla_evaluator.proofs.sequences.numbered.Given as goal
+use Rattle.tla_evaluator.proofs.sequences.sequence.Given as goal
 
 abbrev pub invariant-loop-item : goal.invariant-loop-item
 invariant-loop-item l = l.pairs.items ≡ numbered 1 l.yielded

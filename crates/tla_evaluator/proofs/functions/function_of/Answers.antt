@@ -4,7 +4,7 @@ use Rattle.tla_values.proofs.SetLaws.{rising_to}
 use Rattle.tla_values.proofs.FunLaws.{rising_function}
 use Rattle.tla_evaluator.specs.inner.Results.{with_last}
 use Rattle.tla_evaluator.proofs.FunctionLemmas.{function_more}
-use Rattle.tla_evaluator.proofs.functions.with_each_pair.Goals as goal
+use Rattle.tla_evaluator.proofs.functions.function_of.Goals as goal
 
 pub add_pair-requires : goal.add_pair-requires
 add_pair-requires c = subst (λ l. IsTrue (increasing (arguments l))) (sym c.loop-pair.invariant) (rising_to _ (rising_function c.loop-pair.yielded))

@@ -1,0 +1,6 @@
+use Rattle.std.proofs.Common.{◌≡◌, ◌++◌, drop, option_map}
+use Rattle.tla_meaning.specs.Meaning.{truths}
+use Rattle.tla_evaluator.proofs.binders.truths.Given as goal
+
+abbrev pub invariant-loop-v : goal.invariant-loop-v
+invariant-loop-v l = truths l.values ≡ option_map (λ bs. l.all.items ++ bs) (truths (drop l.v-index l.values))
