@@ -348,32 +348,22 @@ guard_fault q (outcome.Val v) f a b h = go (out-Value v) h
 guard_fault q (outcome.Wrong r) f a b h = ap effect_of (sym (h (outcome.Wrong r) (outcome.Wrong r)))
 guard_fault q (outcome.Big r) f a b h = ap effect_of (sym (h (outcome.Wrong r) (outcome.Wrong r)))
 
-pub if_fault : (w : ℕ) (m : Assignable) (q : Place) (vars : List (List ℕ × Value)) (s t : State) (args : List Expr) (e : Expr) (o f : Outcome) →
-    3 ≤ length args → length args < 4 → e ≡ get_or args 0 e → o ≡ value_at w e vars s t → ((x y : Outcome) → choose q o x y ≡ f) →
-    effect_of f ≡ if_effect q (outcomes_at w args vars s t) (effects_at w m args vars s t)
-if_fault w m q vars s t [] e o f low high is h k = absurd (omega arith)
-if_fault w m q vars s t (a ∷ []) e o f low high is h k = absurd (omega arith)
-if_fault w m q vars s t (a ∷ b ∷ []) e o f low high is h k = absurd (omega arith)
-if_fault w m q vars s t (a ∷ b ∷ c ∷ []) e o f low high is h k =
-    let yes : Effect = effect_at w m b vars s t in
-    let no : Effect = effect_at w m c vars s t in
-    guard_fault q o f yes no k ∙ ap (λ x. guarded q x yes no) (h ∙ ap (λ x. value_at w x vars s t) is)
-if_fault w m q vars s t (a ∷ b ∷ c ∷ d ∷ es) e o f low high is h k = absurd (omega arith)
+-- IF is a CASE of three trees
+pub if_case : (w : ℕ) (m : Assignable) (q : Place) (vars : List (List ℕ × Value)) (s t : State) (args : List Expr) → length args ≡ 3 →
+    case_effect q (outcomes_at w args vars s t) (effects_at w m args vars s t) ≡ if_effect q (outcomes_at w args vars s t) (effects_at w m args vars s t)
+if_case w m q vars s t [] h = absurd (omega (arith, h))
+if_case w m q vars s t (a ∷ []) h = absurd (omega (arith, h))
+if_case w m q vars s t (a ∷ b ∷ []) h = absurd (omega (arith, h))
+if_case w m q vars s t (a ∷ b ∷ c ∷ []) h = refl
+if_case w m q vars s t (a ∷ b ∷ c ∷ d ∷ es) h = absurd (omega (arith, h))
 
-pub if_taken : (w : ℕ) (m : Assignable) (q : Place) (vars : List (List ℕ × Value)) (s t : State) (args : List Expr) (e y n : Expr) (v : Bool) →
-    3 ≤ length args → length args < 4 → e ≡ get_or args 0 e → y ≡ get_or args 1 y → n ≡ get_or args 2 n → value_at w e vars s t ≡ yes_no v →
-    (if v then effect_at w m y vars s t else effect_at w m n vars s t) ≡ if_effect q (outcomes_at w args vars s t) (effects_at w m args vars s t)
-if_taken w m q vars s t [] e y n v low high ie iy iz h = absurd (omega arith)
-if_taken w m q vars s t (a ∷ []) e y n v low high ie iy iz h = absurd (omega arith)
-if_taken w m q vars s t (a ∷ b ∷ []) e y n v low high ie iy iz h = absurd (omega arith)
-if_taken w m q vars s t (a ∷ b ∷ c ∷ []) e y n v low high ie iy iz h =
-    by v ∙ ap (λ o. guarded q o (effect_at w m y vars s t) (effect_at w m n vars s t)) (sym h ∙ ap (λ x. value_at w x vars s t) ie)
-    ∙ ap₂ (λ x z. guarded q (value_at w a vars s t) (effect_at w m x vars s t) (effect_at w m z vars s t)) iy iz
-  where
-    by : (v : Bool) → (if v then effect_at w m y vars s t else effect_at w m n vars s t) ≡ guarded q (yes_no v) (effect_at w m y vars s t) (effect_at w m n vars s t)
-    by true = sym (guard_true q (effect_at w m y vars s t) (effect_at w m n vars s t))
-    by false = sym (guard_false q (effect_at w m y vars s t) (effect_at w m n vars s t))
-if_taken w m q vars s t (a ∷ b ∷ c ∷ d ∷ es) e y n v low high ie iy iz h = absurd (omega arith)
+pub if_none : (w : ℕ) (m : Assignable) (q : Place) (vars : List (List ℕ × Value)) (s t : State) (args : List Expr) → (length args ≡ 3 → ⊥) →
+    fails_by (IsWrong q) ≡ if_effect q (outcomes_at w args vars s t) (effects_at w m args vars s t)
+if_none w m q vars s t [] h = refl
+if_none w m q vars s t (a ∷ []) h = refl
+if_none w m q vars s t (a ∷ b ∷ []) h = refl
+if_none w m q vars s t (a ∷ b ∷ c ∷ []) h = absurd (h refl)
+if_none w m q vars s t (a ∷ b ∷ c ∷ d ∷ es) h = refl
 
 module _ (w : ℕ) (m : Assignable) (q : Place) (vars : List (List ℕ × Value)) (s t : State) (args : List Expr) where
   -- the cases from the i-th tree on

@@ -96,14 +96,11 @@ impl Context<'_> {
     pub(crate) fn action(&self, e: &Expr, assigned: Assignable) -> Stored<Effect>
         ensures { IfOk result (λ f. f ≡ effect_in self.now assigned e.now) }
     {
+        let place = e.place;
         let names = e.binds.as_slice();
         let args = e.args.as_slice();
-        let site = Site {
-            place: e.place,
-            names,
-        };
         if is_action(&e.op, args, assigned) {
-            self.act(&e.op, site, args, assigned)
+            self.act(&e.op, Site { place, names }, args, assigned)
         } else {
             self.by_value(e)
         }
@@ -160,19 +157,17 @@ impl Context<'_> {
         Ok(all)
     }
 
+    // IF: a CASE of one guard with an OTHER.
     #[cycle(action)]
     fn if_effect(&self, args: &[Expr], place: Place, assigned: Assignable) -> Stored<Effect>
         ensures { IfOk result
             (λ f. f ≡ if_effect place (outcomes_in self.now args.now)
             (effects_in self.now assigned args.now)) }
     {
-        match args {
-            [guard, yes, no] => match self.guard(guard, place) {
-                Ok(true) => self.action(yes, assigned),
-                Ok(false) => self.action(no, assigned),
-                Err(stop) => stopped(stop),
-            },
-            _ => Ok(fails_by(Fault::IsWrong(place))),
+        if args.len() == 3 {
+            self.case_effect(args, place, assigned)
+        } else {
+            Ok(fails_by(Fault::IsWrong(place)))
         }
     }
 

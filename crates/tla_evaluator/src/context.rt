@@ -15,12 +15,15 @@ use std::marker::Model;
 use tla_meaning::{Place, State};
 use tla_values::{Text, Value, copy_value};
 
+// Bound names with their values, where they were given one.
+pub(crate) type Bound<'a> = Vec<(&'a Text, Option<&'a Value>)>;
+
 // The values of bound names, a state with a next one, and the width of numbers. The last of several of one name stands
 // for it, and a name that was given no value is FALSE.
 #[derive(Drop)]
 pub(crate) struct Context<'a> {
     alloc: Global,
-    bound: Vec<(&'a Text, Option<&'a Value>)>,
+    bound: Bound<'a>,
     state: &'a State,
     next: &'a State,
     width: u32,
@@ -48,7 +51,7 @@ impl<'a> Model for Context<'a> {
 impl<'a> Context<'a> {
     pub(crate) fn new(
         alloc: Global,
-        bound: Vec<(&'a Text, Option<&'a Value>)>,
+        bound: Bound<'a>,
         state: &'a State,
         next: &'a State,
         width: u32,
@@ -73,12 +76,7 @@ impl<'a> Context<'a> {
     }
 
     // No bound names.
-    pub(crate) fn unbound(
-        alloc: Global,
-        state: &'a State,
-        next: &'a State,
-        width: u32,
-    ) -> Context<'a>
+    pub(crate) fn unbound(alloc: Global, state: &'a State, next: &'a State, width: u32) -> Self
         requires narrow { width ≤ 64 }
         requires wide { 4 ≤ width }
         requires now { All Normal state.now.vals }
@@ -162,11 +160,7 @@ fn bound_value(alloc: Global, value: Option<&Value>) -> Stored<Value>
 }
 
 // Adds each name with its value.
-fn bind_onto<'b>(
-    names: &'b [Text],
-    values: &'b [Value],
-    bound: &mut Vec<(&'b Text, Option<&'b Value>)>,
-) -> Stored<()>
+fn bind_onto<'b>(names: &'b [Text], values: &'b [Value], bound: &mut Bound<'b>) -> Stored<()>
     ensures { OnOk result
         (bindings bound.new.items ≡ bindings bound.old.items ++ bound_to names.now values.now) }
 {
@@ -177,10 +171,7 @@ fn bind_onto<'b>(
 }
 
 // The names of an environment with their values.
-pub(crate) fn names_of<'b>(
-    alloc: Global,
-    env: &'b [(Text, Value)],
-) -> Stored<Vec<(&'b Text, Option<&'b Value>)>>
+pub(crate) fn names_of<'b>(alloc: Global, env: &'b [(Text, Value)]) -> Stored<Bound<'b>>
     ensures { IfOk result (λ v. bindings v.items ≡ env.now) }
 {
     let mut bound = Vec::new(alloc);

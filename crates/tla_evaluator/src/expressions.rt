@@ -39,13 +39,10 @@ impl Context<'_> {
     pub(crate) fn value(&self, e: &Expr) -> Answer<Value>
         ensures { Gives (value_in self.now e.now) result }
     {
+        let place = e.place;
         let names = e.binds.as_slice();
         let args = e.args.as_slice();
-        let site = Site {
-            place: e.place,
-            names,
-        };
-        self.node(&e.op, site, args)
+        self.node(&e.op, Site { place, names }, args)
     }
 
     #[cycle(eval)]
@@ -83,8 +80,7 @@ impl Context<'_> {
     pub(crate) fn guard(&self, e: &Expr, place: Place) -> Answer<bool>
         ensures { Guards place (value_in self.now e.now) result }
     {
-        let v = self.value(e)?;
-        truth(v, place)
+        truth(self.value(e)?, place)
     }
 
     // The first of these trees.
@@ -165,12 +161,10 @@ impl Context<'_> {
     {
         match trees {
             [left, right] => {
-                let premise = self.guard(left, place)?;
-                if !premise {
+                if !self.guard(left, place)? {
                     return Ok(Value::Bool(true));
                 }
-                let conclusion = self.guard(right, place)?;
-                Ok(Value::Bool(conclusion))
+                Ok(Value::Bool(self.guard(right, place)?))
             }
             _ => Err(Stop::Wrong(place)),
         }
@@ -211,9 +205,7 @@ impl Context<'_> {
     {
         match trees {
             [left, right] => {
-                let value = self.value(left);
-                let form = self.form(right);
-                let (v, set) = both(value, form)?;
+                let (v, set) = both(self.value(left), self.form(right))?;
                 tested(op, &v, &set, place)
             }
             _ => Err(Stop::Wrong(place)),
@@ -227,20 +219,11 @@ impl Context<'_> {
             result }
     {
         let sets = self.operands(front(args, site.names.len()))?;
-        match choices_of(self.alloc(), sets.as_slice())? {
-            Some(choices) => {
-                let trees = after(args, site.names.len());
-                let values = self.bodies(site, trees, choices.as_slice())?;
-                bound_table(
-                    self.alloc(),
-                    op,
-                    site.place,
-                    choices.as_slice(),
-                    values.into_vec(),
-                )
-            }
-            None => Err(Stop::Wrong(site.place)),
-        }
+        let alloc = self.alloc();
+        let choices = choices_of(alloc, sets.as_slice())?.ok_or(Stop::Wrong(site.place))?;
+        let trees = after(args, site.names.len());
+        let values = self.bodies(site, trees, choices.as_slice())?;
+        bound_table(alloc, op, site.place, choices.as_slice(), values.into_vec())
     }
 
     // The body at each choice, joined.
@@ -270,9 +253,7 @@ impl Context<'_> {
             [function, ..] => {
                 self.is_readable();
                 let rest = after(args, 1);
-                let value = self.value(function);
-                let paths = self.indexes(counts, rest);
-                let (start, found) = both(value, paths)?;
+                let (start, found) = both(self.value(function), self.indexes(counts, rest))?;
                 self.updated(site, rest, found.as_slice(), start)
             }
             [] => Err(Stop::Wrong(site.place)),
@@ -326,27 +307,20 @@ impl Context<'_> {
 
     // One update. Where the path leaves the domain nothing changes, and the right side is not evaluated.
     #[cycle(eval)]
-    fn update(
-        &self,
-        site: Site<'_>,
-        sides: &[Expr],
-        path: &[Value],
-        function: Value,
-    ) -> Answer<Value>
-        requires { Normal function }
+    fn update(&self, site: Site<'_>, sides: &[Expr], path: &[Value], value: Value) -> Answer<Value>
+        requires { Normal value }
         ensures { Updates site.entry.place
-            (update_in self.now site.entry.place site.entry.names.now path.now sides.now) function
+            (update_in self.now site.entry.place site.entry.names.now path.now sides.now) value
             result }
     {
-        match at_path(&function, path) {
+        match at_path(&value, path) {
             Reached::At(old) => {
                 self.is_readable();
                 let olds = one_value(self.alloc(), old)?;
                 let new = self.under(site, sides, olds.as_slice())?;
-                let changed = set_path(self.alloc(), &function, path, &new)?;
-                Ok(changed)
+                Ok(set_path(self.alloc(), &value, path, &new)?)
             }
-            Reached::Outside => Ok(function),
+            Reached::Outside => Ok(value),
             Reached::NoFunction => Err(Stop::Wrong(site.place)),
         }
     }
@@ -357,10 +331,8 @@ impl Context<'_> {
         ensures { Gives (fold_in self.now site.entry.place site.entry.names.now args.now) result }
     {
         let operands = self.operands(after(args, 1))?;
-        match value_and_items(operands.into_vec()) {
-            Some((start, items)) => self.folded(site, args, start, items.as_slice()),
-            None => Err(Stop::Wrong(site.place)),
-        }
+        let (start, items) = value_and_items(operands.into_vec()).ok_or(Stop::Wrong(site.place))?;
+        self.folded(site, args, start, items.as_slice())
     }
 
     #[cycle(eval)]
@@ -395,8 +367,7 @@ impl Context<'_> {
         if has_form(&e.op) {
             self.form_of(&e.op, e.place, e.args.as_slice())
         } else {
-            let v = self.value(e)?;
-            Ok(SetForm::Plain(v))
+            Ok(SetForm::Plain(self.value(e)?))
         }
     }
 
@@ -415,10 +386,7 @@ impl Context<'_> {
                 let forms = self.set_forms(place, trees)?;
                 Ok(SetForm::Records(copy_texts(self.alloc(), names)?, forms))
             }
-            Op::Product => {
-                let forms = self.set_forms(place, trees)?;
-                Ok(SetForm::Tuples(forms))
-            }
+            Op::Product => Ok(SetForm::Tuples(self.set_forms(place, trees)?)),
             Op::Noted(_) => match trees {
                 [noted, ..] => self.form(noted),
                 [] => Err(Stop::Wrong(place)),
@@ -434,10 +402,7 @@ impl Context<'_> {
             result }
     {
         match trees {
-            [only] => {
-                let part = self.form(only)?;
-                one_form(self.alloc(), op, part, place)
-            }
+            [only] => one_form(self.alloc(), op, self.form(only)?, place),
             _ => Err(Stop::Wrong(place)),
         }
     }
@@ -450,9 +415,7 @@ impl Context<'_> {
     {
         match trees {
             [first, ..] => {
-                let value = self.value(first);
-                let results = self.forms(after(trees, 1));
-                let (domain, forms) = both(value, results)?;
+                let (domain, forms) = both(self.value(first), self.forms(after(trees, 1)))?;
                 functions_from(self.alloc(), domain, forms, place)
             }
             [] => Err(Stop::Wrong(place)),
@@ -489,16 +452,11 @@ impl Context<'_> {
 fn one_value(alloc: Global, v: &Value) -> Stored<Vec<Value>>
     ensures { IfOk result (λ l. l.items ≡ v.now ∷ []) }
 {
-    let mut values = Vec::new(alloc);
-    values.push(copy_value(alloc, v)?)?;
-    Ok(values)
+    Ok(vec![in alloc; copy_value(alloc, v)?]?)
 }
 
 fn two_values(alloc: Global, a: Value, b: &Value) -> Stored<Vec<Value>>
     ensures { IfOk result (λ l. l.items ≡ a ∷ b.now ∷ []) }
 {
-    let mut values = Vec::new(alloc);
-    values.push(a)?;
-    values.push(copy_value(alloc, b)?)?;
-    Ok(values)
+    Ok(vec![in alloc; a, copy_value(alloc, b)?]?)
 }

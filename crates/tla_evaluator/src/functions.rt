@@ -16,6 +16,9 @@ use std::alloc::Global;
 use tla_meaning::Op;
 use tla_values::{List, Value, apply, copy_text, copy_value, domain_of, find_argument};
 
+// Arguments, each with its value.
+pub(crate) type Pairs = Vec<(Value, Value)>;
+
 impl Row<'_> {
     // One function.
     pub(crate) fn function(&self, op: &Op) -> Answer<Value>
@@ -80,7 +83,7 @@ pub(crate) fn single(alloc: Global, argument: &Value, value: &Value) -> Stored<V
 }
 
 // The function of the pairs, the first of those with one argument.
-pub(crate) fn function_of(alloc: Global, pairs: Vec<(Value, Value)>) -> Stored<Value>
+pub(crate) fn function_of(alloc: Global, pairs: Pairs) -> Stored<Value>
     ensures { IfOk result (λ v. v ≡ the_function pairs.items) }
 {
     let mut function = Vec::new(alloc);
@@ -91,7 +94,7 @@ pub(crate) fn function_of(alloc: Global, pairs: Vec<(Value, Value)>) -> Stored<V
 }
 
 // One more pair, where its argument is a new one.
-fn add_pair(function: &mut Vec<(Value, Value)>, pair: (Value, Value)) -> Stored<()>
+fn add_pair(function: &mut Pairs, pair: (Value, Value)) -> Stored<()>
     requires { IsTrue (increasing (arguments function.old.items)) }
     ensures { OnOk result (function.new.items ≡ with_last function.old.items pair) }
 {
@@ -104,7 +107,7 @@ fn add_pair(function: &mut Vec<(Value, Value)>, pair: (Value, Value)) -> Stored<
 pub(crate) fn copy_pairs_onto(
     alloc: Global,
     pairs: &[(Value, Value)],
-    out: &mut Vec<(Value, Value)>,
+    out: &mut Pairs,
 ) -> Stored<()>
     ensures { OnOk result (out.new.items ≡ out.old.items ++ pairs.now) }
 {

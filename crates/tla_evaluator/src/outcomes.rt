@@ -28,17 +28,11 @@ pub(crate) fn least(p: Place, q: Place) -> Place
 pub(crate) fn join_faults(f: Fault, g: Fault) -> Fault
     ensures { result ≡ join_faults f g }
 {
-    match f {
-        Fault::NoFault => g,
-        Fault::IsWrong(p) => match g {
-            Fault::IsWrong(q) => Fault::IsWrong(least(p, q)),
-            _ => f,
-        },
-        Fault::IsBig(p) => match g {
-            Fault::NoFault => f,
-            Fault::IsWrong(_) => g,
-            Fault::IsBig(q) => Fault::IsBig(least(p, q)),
-        },
+    match (f, g) {
+        (Fault::IsWrong(p), Fault::IsWrong(q)) => Fault::IsWrong(least(p, q)),
+        (Fault::IsBig(p), Fault::IsBig(q)) => Fault::IsBig(least(p, q)),
+        (Fault::NoFault, _) | (Fault::IsBig(_), Fault::IsWrong(_)) => g,
+        (Fault::IsWrong(_), _) | (Fault::IsBig(_), Fault::NoFault) => f,
     }
 }
 
@@ -64,15 +58,11 @@ fn worse(s: Stop, t: Stop) -> Stop
 pub(crate) fn both<X: Drop, Y: Drop>(a: Answer<X>, b: Answer<Y>) -> Answer<(X, Y)>
     ensures { result ≡ both a b }
 {
-    match a {
-        Ok(x) => match b {
-            Ok(y) => Ok((x, y)),
-            Err(t) => Err(t),
-        },
-        Err(s) => match b {
-            Ok(_) => Err(s),
-            Err(t) => Err(worse(s, t)),
-        },
+    match (a, b) {
+        (Ok(x), Ok(y)) => Ok((x, y)),
+        (Ok(_), Err(s)) => Err(s),
+        (Err(s), Ok(_)) => Err(s),
+        (Err(s), Err(t)) => Err(worse(s, t)),
     }
 }
 
@@ -99,10 +89,7 @@ pub(crate) fn join<T: Drop>(joined: &mut Joined<T>, one: Answer<T>) -> Stored<()
         (Joins joined.old.fault joined.old.items.items one joined.new.fault joined.new.items.items) }
 {
     match one {
-        Ok(x) => {
-            joined.items.push(x)?;
-            Ok(())
-        }
+        Ok(x) => Ok(joined.items.push(x)?),
         Err(Stop::Wrong(p)) => {
             joined.fault = join_faults(joined.fault, Fault::IsWrong(p));
             Ok(())

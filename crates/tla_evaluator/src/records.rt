@@ -1,13 +1,13 @@
 // Records, which are functions on texts, and sets of functions, records and tuples.
 ghost use Rattle.std.specs.Prelude.{◌≡◌, ◌++◌, ◌∷◌, [], IfOk, List as Items, None, OnOk, map, zip};
 ghost use Rattle.tla_meaning.specs.Operators.{table};
-ghost use Rattle.tla_meaning.specs.Shapes.{functions, record_of, sequence, the_function};
+ghost use Rattle.tla_meaning.specs.Shapes.{record_of, sequence, the_function};
 ghost use Rattle.tla_evaluator.specs.inner.Gives.{Gives};
 
-use crate::functions::function_of;
+use crate::functions::{Pairs, function_of};
 use crate::operands::Row;
 use crate::sequences::sequence;
-use crate::sets::{choices_of, each_to, set_made};
+use crate::sets::{choices_of, set_made};
 use crate::stops::{Answer, Stop, Stored};
 use std::alloc::Global;
 use tla_meaning::Op;
@@ -35,11 +35,7 @@ impl Row<'_> {
 }
 
 // Each argument with its value.
-pub(crate) fn paired(
-    alloc: Global,
-    arguments: &[Value],
-    values: Vec<Value>,
-) -> Stored<Vec<(Value, Value)>>
+pub(crate) fn paired(alloc: Global, arguments: &[Value], values: Vec<Value>) -> Stored<Pairs>
     ensures { IfOk result (λ v. v.items ≡ zip arguments.now values.items) }
 {
     let mut pairs = Vec::new(alloc);
@@ -50,12 +46,7 @@ pub(crate) fn paired(
 }
 
 // Adds the value with the argument at its place, where there is one.
-fn push_pair(
-    alloc: Global,
-    arguments: &[Value],
-    value: Value,
-    pairs: &mut Vec<(Value, Value)>,
-) -> Stored<()>
+fn push_pair(alloc: Global, arguments: &[Value], value: Value, pairs: &mut Pairs) -> Stored<()>
     ensures { (values : Items Value) → pairs.old.items ≡ zip arguments.now values →
         OnOk result (pairs.new.items ≡ zip arguments.now (values ++ value ∷ [])) }
 {
@@ -83,14 +74,4 @@ pub(crate) fn record(alloc: Global, names: &List<Text>, values: Vec<Value>) -> S
 {
     let texts = texts_of(alloc, names.as_slice())?;
     function_of(alloc, paired(alloc, texts.as_slice(), values)?)
-}
-
-// `[S -> T]`.
-pub(crate) fn functions(alloc: Global, arguments: &[Value], results: &[Value]) -> Stored<Value>
-    ensures { IfOk result (λ v. v ≡ functions arguments.now results.now) }
-{
-    let lists = each_to(alloc, arguments, results)?;
-    set_made(alloc, lists, |values| -> Stored<Value> {
-        Ok(Value::Fun(List::from_vec(paired(alloc, arguments, values)?)))
-    })
 }

@@ -1,21 +1,24 @@
 // Sets.
 ghost use Rattle.std.specs.List.{All};
-ghost use Rattle.std.specs.Prelude.{◌≡◌, ◌++◌, ◌∷◌, [], IfOk, List as Items, Ok, OnOk, Some, false, map, option_map, true};
+ghost use Rattle.std.specs.Prelude.{◌≡◌, ◌++◌, ◌∷◌, [], IfOk, List as Items, Ok, OnOk, Some, false, map, option_map, true, zip};
 ghost use Rattle.tla_values.specs.Sets.{Normal};
 ghost use Rattle.tla_values.specs.declared.value.Value.{out-Value};
 ghost use Rattle.tla_meaning.specs.Operators.{on_all_sets, on_set, on_sets};
-ghost use Rattle.tla_meaning.specs.Shapes.{all_set_items, choices, each_to, sublists, subsets, the_set, union_all, with_each};
+ghost use Rattle.tla_meaning.specs.Shapes.{all_set_items, choices, each_to, functions, sublists, subsets, the_set, union_all, with_each};
 ghost use Rattle.tla_evaluator.specs.inner.Families.{of_set, of_sets};
 ghost use Rattle.tla_evaluator.specs.inner.Gives.{Gives};
 ghost use Rattle.tla_evaluator.specs.inner.Results.{all_of};
 
 use crate::numbers::number;
 use crate::operands::Row;
-use crate::records::functions;
+use crate::records::paired;
 use crate::stops::{Answer, Stop, Stored};
 use std::alloc::Global;
 use tla_meaning::{Op, Outcome};
 use tla_values::{List, Value, copy_onto, copy_value, inter_of, minus, set_of, union_of};
+
+// Lists of values, as the subsets of a set and the choices of one member of each of several.
+pub(crate) type Lists = Vec<List<Value>>;
 
 impl Row<'_> {
     // One set.
@@ -101,12 +104,7 @@ fn with_first(alloc: Global, x: &Value, xs: &[Value]) -> Stored<List<Value>>
 }
 
 // Adds each list with one more item in front.
-fn push_with_first(
-    alloc: Global,
-    x: &Value,
-    lists: &[List<Value>],
-    out: &mut Vec<List<Value>>,
-) -> Stored<()>
+fn push_with_first(alloc: Global, x: &Value, lists: &[List<Value>], out: &mut Lists) -> Stored<()>
     ensures { OnOk result (out.new.items ≡ out.old.items ++ map (λ ys. x.now ∷ ys) lists.now) }
 {
     for list in lists {
@@ -116,7 +114,7 @@ fn push_with_first(
 }
 
 // The lists that leave out some items.
-fn sublists(alloc: Global, items: &[Value]) -> Stored<Vec<List<Value>>>
+fn sublists(alloc: Global, items: &[Value]) -> Stored<Lists>
     ensures { IfOk result (λ v. v.items ≡ sublists items.now) }
 {
     let mut lists = Vec::new(alloc);
@@ -132,7 +130,7 @@ fn sublists(alloc: Global, items: &[Value]) -> Stored<Vec<List<Value>>>
 }
 
 // One item of the set in front of each list, in every way.
-fn with_each(alloc: Global, set: &[Value], lists: &[List<Value>]) -> Stored<Vec<List<Value>>>
+fn with_each(alloc: Global, set: &[Value], lists: &[List<Value>]) -> Stored<Lists>
     ensures { IfOk result (λ v. v.items ≡ with_each set.now lists.now) }
 {
     let mut all = Vec::new(alloc);
@@ -143,7 +141,7 @@ fn with_each(alloc: Global, set: &[Value], lists: &[List<Value>]) -> Stored<Vec<
 }
 
 // One item of each set, in every way, where all values are sets.
-pub(crate) fn choices_of(alloc: Global, sets: &[Value]) -> Stored<Option<Vec<List<Value>>>>
+pub(crate) fn choices_of(alloc: Global, sets: &[Value]) -> Stored<Option<Lists>>
     ensures { IfOk result
         (λ o. option_map choices (all_set_items sets.now) ≡ option_map (λ cs. cs.items) o) }
 {
@@ -162,11 +160,7 @@ pub(crate) fn choices_of(alloc: Global, sets: &[Value]) -> Stored<Option<Vec<Lis
 }
 
 // A result for each argument, in every way.
-pub(crate) fn each_to(
-    alloc: Global,
-    arguments: &[Value],
-    results: &[Value],
-) -> Stored<Vec<List<Value>>>
+fn each_to(alloc: Global, arguments: &[Value], results: &[Value]) -> Stored<Lists>
     ensures { IfOk result (λ v. v.items ≡ each_to arguments.now results.now) }
 {
     let mut lists = Vec::new(alloc);
@@ -190,7 +184,7 @@ fn subsets_of(alloc: Global, set: &List<Value>) -> Stored<Value>
 // The set of what a function makes of each list.
 pub(crate) fn set_made<F: Fn(Vec<Value>) -> Stored<Value>>(
     alloc: Global,
-    lists: Vec<List<Value>>,
+    lists: Lists,
     make: F,
 ) -> Stored<Value>
     requires { F.IsAlwaysCallable make }
@@ -204,4 +198,14 @@ pub(crate) fn set_made<F: Fn(Vec<Value>) -> Stored<Value>>(
         members.push(member)?;
     }
     set_of(alloc, List::from_vec(members))
+}
+
+// `[S -> T]`.
+fn functions(alloc: Global, arguments: &[Value], results: &[Value]) -> Stored<Value>
+    ensures { IfOk result (λ v. v ≡ functions arguments.now results.now) }
+{
+    let lists = each_to(alloc, arguments, results)?;
+    set_made(alloc, lists, |values| -> Stored<Value> {
+        Ok(Value::Fun(List::from_vec(paired(alloc, arguments, values)?)))
+    })
 }

@@ -5,7 +5,7 @@ use Rattle.tla_meaning.specs.declared.expr.Expr.{out-Expr, size-Expr}
 use Rattle.tla_meaning.specs.Operators.{yes_no}
 use Rattle.tla_evaluator.specs.inner.Effects.{act_in, acts}
 use Rattle.tla_evaluator.specs.inner.Readings.{effect_in, value_in}
-use Rattle.tla_evaluator.proofs.ActionNodes.{is_now, act_is_node, acts_by_value, and_next, or_next, bodies_next, case_false, case_fault, case_true, if_fault, if_taken, choice_fails, exists_body, no_deeper}
+use Rattle.tla_evaluator.proofs.ActionNodes.{is_now, act_is_node, acts_by_value, and_next, or_next, bodies_next, case_false, case_fault, case_true, if_case, if_none, choice_fails, exists_body, no_deeper}
 use Rattle.std.proofs.lemmas.Result.{IfOk-weaker}
 use Rattle.tla_evaluator.specs.inner.Gives.{FailsBy}
 use Rattle.tla_evaluator.proofs.ListSteps.{members_normal}
@@ -37,13 +37,15 @@ case_effect-returns-in-Err t c =
     z.2 ∙ case_fault r.width c.args.assigned c.args.place r.bound r.state r.next c.args.args.now c.loop-i.i _ _ z.0 _ c.loop-i-test.true c.index-args-i.is refl z.1 c.loop-i.invariant.same)
     c.stopped.ensures
 
-pub if_effect-returns-in-Err : goal.if_effect-returns-in-Err
-if_effect-returns-in-Err t c =
+pub if_effect-returns-then-args-eq3 : goal.if_effect-returns-then-args-eq3
+if_effect-returns-then-args-eq3 t c =
     let r = c.args.self.now in
-    IfOk-weaker c.stopped.result (FailsBy _) _ (λ f k.
-    let z = choice_fails _ c.args.place (value_in r c.guard-item.result) c.in-Err.ensures f k in
-    z.2 ∙ if_fault r.width c.args.assigned c.args.place r.bound r.state r.next c.args.args.now _ _ z.0 c.in-len3.len_at_least c.in-len3.len_below c.guard-item.is refl z.1)
-    c.stopped.ensures
+    is_now c.case_effect.result _ _ (if_case r.width c.args.assigned c.args.place r.bound r.state r.next c.args.args.now c.if-args-eq3.true) c.case_effect.ensures
+
+pub if_effect-returns-else-args-eq3 : goal.if_effect-returns-else-args-eq3
+if_effect-returns-else-args-eq3 t c =
+    let r = c.args.self.now in
+    c.fails_by.ensures ∙ if_none r.width c.args.assigned c.args.place r.bound r.state r.next c.args.args.now c.if-args-eq3.false
 
 pub exists_effect-body_effects-requires : goal.exists_effect-body_effects-requires
 exists_effect-body_effects-requires t c =
@@ -86,19 +88,3 @@ case_effect-returns-in-Ok-true t c =
     (case_true r.width c.args.assigned c.args.place r.bound r.state r.next c.args.args.now c.loop-i.i _ _ _ _ _ c.loop-i-test.true c.index-args-i.is c.index-args-i-in-Ok-true.is
     refl c.in-Ok-true.ensures c.in-Ok-true.field-0-test c.loop-i.invariant.same)
     c.action.ensures
-
-pub if_effect-returns-in-Ok-true : goal.if_effect-returns-in-Ok-true
-if_effect-returns-in-Ok-true t c =
-    let r = c.args.self.now in
-    is_now c.action.result _ _
-    (if_taken r.width c.args.assigned c.args.place r.bound r.state r.next c.args.args.now _ c.yes-item.result c.no-item.result true c.in-len3.len_at_least c.in-len3.len_below c.guard-item.is c.yes-item.is c.no-item.is
-    (c.in-Ok-true.ensures ∙ ap yes_no c.in-Ok-true.field-0-test))
-    c.action.ensures
-
-pub if_effect-returns-in-Ok-false : goal.if_effect-returns-in-Ok-false
-if_effect-returns-in-Ok-false t c =
-    let r = c.args.self.now in
-    is_now c.action-in-Ok-false.result _ _
-    (if_taken r.width c.args.assigned c.args.place r.bound r.state r.next c.args.args.now _ c.yes-item.result c.no-item.result false c.in-len3.len_at_least c.in-len3.len_below c.guard-item.is c.yes-item.is c.no-item.is
-    (c.in-Ok-false.ensures ∙ ap yes_no c.in-Ok-false.field-0-test))
-    c.action-in-Ok-false.ensures

@@ -1,14 +1,15 @@
 use Rattle.std.proofs.Common.{◌≡◌, ℕ, ◌+◌, ◌≤◌, ◌∙◌, ◌++◌, ◌∷◌, [], List, true, false, ap, arith, drop, get_or, refl, subst, sym, Err}
 use Rattle.std.proofs.lemmas.Grind.{common_steps}
 use Rattle.std.proofs.lemmas.Result.{err_from_is_err_and}
-use Rattle.std.specs.Prelude.{option_map}
+use Rattle.std.specs.Prelude.{IfSome, option_map}
 use Rattle.std.specs.List.{All}
 use denote.Param.Weighed.{most}
 use Rattle.tla_values.specs.Sets.{Normal}
-use Rattle.tla_values.specs.declared.value.Value.{Value}
+use Rattle.tla_values.specs.declared.value.Value.{Fun, Value}
 use Rattle.tla_meaning.specs.declared.expr.Expr.{Expr, out-Expr}
 use Rattle.tla_meaning.specs.declared.forms.SetForm.TheVariants.{Records, Tuples}
 use Rattle.tla_meaning.specs.declared.outcome.Outcome.{Outcome}
+use Rattle.tla_meaning.specs.declared.place.Place.{Place}
 use Rattle.tla_meaning.specs.declared.outcome.Outcome.TheVariants.{Val}
 use Rattle.tla_meaning.specs.Forms.{Made, all_set_forms, results}
 use Rattle.tla_meaning.specs.Meaning.{fold_over, folded, form_of_one, in_form, plain, updated}
@@ -48,23 +49,23 @@ pub conditional-returns-then-trees-eq3 : goal.conditional-returns-then-trees-eq3
 conditional-returns-then-trees-eq3 t c =
     gives_as _ (if_case c.args.self.now.width c.args.place c.args.trees.now c.args.self.now.bound c.args.self.now.state c.args.self.now.next c.if-trees-eq3.true) c.cases.ensures
 
-pub implication-returns-in_err-premise-in-len2 : goal.implication-returns-in_err-premise-in-len2
-implication-returns-in_err-premise-in-len2 t c =
+pub implication-returns-in_err-guard-in-len2 : goal.implication-returns-in_err-guard-in-len2
+implication-returns-in_err-guard-in-len2 t c =
     let p = err_from_is_err_and c.from_residual.result c.from_residual.ensures.1 in
-    rw (p.1, p.2) (premise_stops (value_in c.args.self.now) c.args.place c.args.trees.now _ _ (two_items _ _ _ c.in-len2.len_at_least c.in-len2.len_below c.left-item.is c.right-item.is) _ c.in_err-premise-in-len2.ensures)
+    rw (p.1, p.2) (premise_stops (value_in c.args.self.now) c.args.place c.args.trees.now _ _ (two_items _ _ _ c.in-len2.len_at_least c.in-len2.len_below c.left-item.is c.right-item.is) _ c.in_err-guard-in-len2.ensures)
 
-pub implication-returns-then-not-premise : goal.implication-returns-then-not-premise
-implication-returns-then-not-premise t c =
-    premise_fails (value_in c.args.self.now) c.args.place c.args.trees.now _ _ (two_items _ _ _ c.in-len2.len_at_least c.in-len2.len_below c.left-item.is c.right-item.is) _ c.in_ok-premise-in-len2.ensures c.if-not-premise.true
+pub implication-returns-then-not-branch : goal.implication-returns-then-not-branch
+implication-returns-then-not-branch t c =
+    premise_fails (value_in c.args.self.now) c.args.place c.args.trees.now _ _ (two_items _ _ _ c.in-len2.len_at_least c.in-len2.len_below c.left-item.is c.right-item.is) _ c.in_ok-guard-in-len2.ensures c.if-not-branch.true
 
-pub implication-returns-in_err-conclusion-in-len2 : goal.implication-returns-in_err-conclusion-in-len2
-implication-returns-in_err-conclusion-in-len2 t c =
-    let p = err_from_is_err_and c.from_residual-in_err-conclusion-in-len2.result c.from_residual-in_err-conclusion-in-len2.ensures.1 in
-    rw (p.1, p.2) (conclusion_stops (value_in c.args.self.now) c.args.place c.args.trees.now _ _ (two_items _ _ _ c.in-len2.len_at_least c.in-len2.len_below c.left-item.is c.right-item.is) _ _ c.in_ok-premise-in-len2.ensures c.if-not-premise.false c.in_err-conclusion-in-len2.ensures)
+pub implication-returns-in_err-guard-in-len2-2 : goal.implication-returns-in_err-guard-in-len2-2
+implication-returns-in_err-guard-in-len2-2 t c =
+    let p = err_from_is_err_and c.from_residual-in_err-guard-in-len2-2.result c.from_residual-in_err-guard-in-len2-2.ensures.1 in
+    rw (p.1, p.2) (conclusion_stops (value_in c.args.self.now) c.args.place c.args.trees.now _ _ (two_items _ _ _ c.in-len2.len_at_least c.in-len2.len_below c.left-item.is c.right-item.is) _ _ c.in_ok-guard-in-len2.ensures c.if-not-branch.false c.in_err-guard-in-len2-2.ensures)
 
-pub implication-returns-in_ok-conclusion-in-len2 : goal.implication-returns-in_ok-conclusion-in-len2
-implication-returns-in_ok-conclusion-in-len2 t c =
-    conclusion_is (value_in c.args.self.now) c.args.place c.args.trees.now _ _ (two_items _ _ _ c.in-len2.len_at_least c.in-len2.len_below c.left-item.is c.right-item.is) _ _ c.in_ok-premise-in-len2.ensures c.if-not-premise.false c.in_ok-conclusion-in-len2.ensures
+pub implication-returns-in_ok-guard-in-len2-2 : goal.implication-returns-in_ok-guard-in-len2-2
+implication-returns-in_ok-guard-in-len2-2 t c =
+    conclusion_is (value_in c.args.self.now) c.args.place c.args.trees.now _ _ (two_items _ _ _ c.in-len2.len_at_least c.in-len2.len_below c.left-item.is c.right-item.is) _ _ c.in_ok-guard-in-len2.ensures c.if-not-branch.false c.in_ok-guard-in-len2-2.ensures
 
 pub joined-loop-e-preserved : goal.joined-loop-e-preserved
 joined-loop-e-preserved t c =
@@ -79,8 +80,8 @@ strict-row_of-requires-clause-normal t c = subst (All Normal) (sym c.into_vec.en
 
 pub binder-bodies-requires : goal.binder-bodies-requires
 binder-bodies-requires t c =
-    let some = members_normal _ _ _ _ c.as_slice.ensures c.as_slice-in-Some.ensures.value c.in_ok-sets.ensures.normal
-    (c.in_ok-choices.ensures ∙ ap (option_map (λ v. v.items)) c.in-Some.is) in
+    let some = members_normal _ _ _ _ c.as_slice.ensures c.as_slice-2.ensures.value c.in_ok-sets.ensures.normal
+    (c.in_ok-choices_of.ensures ∙ ap (option_map (λ v. v.items)) c.in_ok-choices.ensures.ok_part) in
     (grind (arith, most-drop, common_steps), some)
 
 pub bodies-loop-choice-preserved : goal.bodies-loop-choice-preserved
@@ -135,17 +136,17 @@ update-under-requires t c =
     let some = one_is_normal _ _ _ c.as_slice.ensures.value c.in_ok-olds-in-At.ensures old in
     (grind (arith, common_steps), some)
 
-pub update-returns-in_ok-changed-in-At : goal.update-returns-in_ok-changed-in-At
-update-returns-in_ok-changed-in-At t c =
+pub update-returns-in_ok-set_path-in-At : goal.update-returns-in_ok-set_path-in-At
+update-returns-in_ok-set_path-in-At t c =
     let r = c.args.self.now in
     let old = reached_normal _ _ _ c.requires c.in-At.ensures in
     let some = one_is_normal _ _ _ refl refl old in
     let is : Val c.in_ok-new-in-At.new ≡ first_in (with_names r c.args.site.names.now (c.in-At.old.now ∷ [])) c.args.site.place c.args.sides.now =
     sym c.in_ok-new-in-At.ensures ∙ ap (λ vs. first_in (with_names r c.args.site.names.now vs) c.args.site.place c.args.sides.now) (c.as_slice.ensures.value ∙ c.in_ok-olds-in-At.ensures) in
     let new = first_normal r.width _ r.state r.next (bound_are_normal _ _ _ _ _ c.is_readable.ensures.normal some) c.args.site.place c.args.sides.now c.in_ok-new-in-At.new is in (
-      c.in_ok-changed-in-At.ensures.normal c.requires new,
-      λ us. ap (updated c.args.site.place us) c.in_ok-changed-in-At.ensures.value
-          ∙ updated_at c.args.site.place (update_in r c.args.site.place c.args.site.names.now c.args.path.now c.args.sides.now) us c.args.function c.in-At.old.now c.in_ok-new-in-At.new c.in-At.ensures is,
+      c.in_ok-set_path-in-At.ensures.normal c.requires new,
+      λ us. ap (updated c.args.site.place us) c.in_ok-set_path-in-At.ensures.value
+          ∙ updated_at c.args.site.place (update_in r c.args.site.place c.args.site.names.now c.args.path.now c.args.sides.now) us c.args.value c.in-At.old.now c.in_ok-new-in-At.new c.in-At.ensures is,
     )
 
 pub folded-under-requires : goal.folded-under-requires
@@ -195,17 +196,22 @@ bodies-returns t c =
 
 pub fold-folded-requires : goal.fold-folded-requires
 fold-folded-requires t c =
-    let ok = c.in-Some.ensures.normal (subst (All Normal) (sym c.into_vec.ensures) c.in_ok-operands.ensures.normal) in
+    let ok = subst (λ o. IfSome o (λ (n : Value × List (Value × Value)). Normal n.0 × Normal (Fun n.1))) c.in_ok-start.ensures.ok_part
+    (c.value_and_items.ensures.normal (subst (All Normal) (sym c.into_vec.ensures) c.in_ok-operands.ensures.normal)) in
     (grind (arith, common_steps), (ok.0, results_normal _ _ c.as_slice.ensures ok.1))
 
-pub fold-returns-in-Some : goal.fold-returns-in-Some
-fold-returns-in-Some t c =
+pub fold-returns : goal.fold-returns
+fold-returns t c =
     let r = c.args.self.now in
-    let body : Value → Value → Outcome = λ a b. first_in (with_names r c.args.site.names.now (a ∷ b ∷ [])) c.args.site.place c.args.args.now in
+    let p = c.args.site.place in
+    let body : Value → Value → Outcome = λ a b. first_in (with_names r c.args.site.names.now (a ∷ b ∷ [])) p c.args.args.now in
+    let all = subst (λ o. IfSome o (λ (n : Value × List (Value × Value)). (q : Place) (f : Value → Value → Outcome) → fold_over q f c.into_vec.result.items ≡ folded f (results n.1) n.0))
+    c.in_ok-start.ensures.ok_part c.value_and_items.ensures.some in
+    let is = all p body in
     gives_as c.folded.result
-    (ap (λ z. folded body (results z) c.in-Some.start) c.as_slice.ensures ∙ sym (c.in-Some.ensures.some c.args.site.place body) ∙ ap (fold_over c.args.site.place body) c.into_vec.ensures
-    ∙ strict_goes c.in_ok-operands.operands (outcomes_in r c.after.result.now) (fold_over c.args.site.place body) c.in_ok-operands.ensures.values
-    ∙ ap (λ z. strict (outcomes_in r z) (fold_over c.args.site.place body)) c.after.ensures)
+    (ap (λ z. folded body (results z) c.in_ok-start.start) c.as_slice.ensures ∙ sym is ∙ ap (fold_over p body) c.into_vec.ensures
+    ∙ strict_goes c.in_ok-operands.operands (outcomes_in r c.after.result.now) (fold_over p body) c.in_ok-operands.ensures.values
+    ∙ ap (λ z. strict (outcomes_in r z) (fold_over p body)) c.after.ensures)
     c.folded.ensures
 
 pub form-returns-then-has_form : goal.form-returns-then-has_form
@@ -224,49 +230,49 @@ pub except-updated-requires : goal.except-updated-requires
 except-updated-requires t c =
     let r = c.args.self.now in
     let found = except_goes r c.args.site.place c.args.counts.now c.args.site.names.now c.args.args.now c.after-rest.result.now c.function-item.result c.in-len1-up.len_at_least c.function-item.is c.after-rest.ensures
-    c.value-value.result c.indexes-paths.result c.value-value.ensures c.indexes-paths.ensures (c.in_ok-start-in-len1-up.start, c.in_ok-start-in-len1-up.found) (sym c.in_ok-start-in-len1-up.ensures) in
+    c.value.result c.indexes.result c.value.ensures c.indexes.ensures (c.in_ok-start-in-len1-up.start, c.in_ok-start-in-len1-up.found) (sym c.in_ok-start-in-len1-up.ensures) in
     (grind (arith, most-drop, common_steps), one_normal r.width r.bound r.state r.next c.is_readable.ensures.normal c.function-item.result c.in_ok-start-in-len1-up.start (sym found.0))
 
-pub form-returns-in_err-v : goal.form-returns-in_err-v
-form-returns-in_err-v t c =
+pub form-returns-in_err-value : goal.form-returns-in_err-value
+form-returns-in_err-value t c =
     let p = err_from_is_err_and c.from_residual.result c.from_residual.ensures.1 in
-    rw (p.1, p.2) (form_gives_as (Err _) (plain_is c.args.self.now.width c.args.e.now c.args.self.now.bound c.args.self.now.state c.args.self.now.next (sym c.has_form.ensures ∙ c.if-has_form.false)) (plain_stops _ _ c.in_err-v.ensures))
+    rw (p.1, p.2) (form_gives_as (Err _) (plain_is c.args.self.now.width c.args.e.now c.args.self.now.bound c.args.self.now.state c.args.self.now.next (sym c.has_form.ensures ∙ c.if-has_form.false)) (plain_stops _ _ c.in_err-value.ensures))
 
-pub form-returns-in_ok-v : goal.form-returns-in_ok-v
-form-returns-in_ok-v t c =
-    sym (plain_is c.args.self.now.width c.args.e.now c.args.self.now.bound c.args.self.now.state c.args.self.now.next (sym c.has_form.ensures ∙ c.if-has_form.false)) ∙ ap plain c.in_ok-v.ensures
+pub form-returns-in_ok-value : goal.form-returns-in_ok-value
+form-returns-in_ok-value t c =
+    sym (plain_is c.args.self.now.width c.args.e.now c.args.self.now.bound c.args.self.now.state c.args.self.now.next (sym c.has_form.ensures ∙ c.if-has_form.false)) ∙ ap plain c.in_ok-value.ensures
 
 pub form_of-returns-in_err-forms-in-RecSet : goal.form_of-returns-in_err-forms-in-RecSet
 form_of-returns-in_err-forms-in-RecSet t c =
     let p = err_from_is_err_and c.from_residual.result c.from_residual.ensures.1 in
     rw (p.1, p.2) (form_gives_as (Err _) (ap (λ o. form_node c.args.self.now c.args.place o c.args.trees.now) (sym c.in-RecSet.is)) (c.in_err-forms-in-RecSet.ensures (Records _)))
 
-pub form_of-returns-in_err-forms-in-Product : goal.form_of-returns-in_err-forms-in-Product
-form_of-returns-in_err-forms-in-Product t c =
-    let p = err_from_is_err_and c.from_residual-in_err-forms-in-Product.result c.from_residual-in_err-forms-in-Product.ensures.1 in
-    rw (p.1, p.2) (form_gives_as (Err _) (ap (λ o. form_node c.args.self.now c.args.place o c.args.trees.now) (sym c.in-Product.is)) (c.in_err-forms-in-Product.ensures Tuples))
+pub form_of-returns-in_err-set_forms-in-Product : goal.form_of-returns-in_err-set_forms-in-Product
+form_of-returns-in_err-set_forms-in-Product t c =
+    let p = err_from_is_err_and c.from_residual-in_err-set_forms-in-Product.result c.from_residual-in_err-set_forms-in-Product.ensures.1 in
+    rw (p.1, p.2) (form_gives_as (Err _) (ap (λ o. form_node c.args.self.now c.args.place o c.args.trees.now) (sym c.in-Product.is)) (c.in_err-set_forms-in-Product.ensures Tuples))
 
 pub form_of-returns-in_ok-copy_texts-in-RecSet : goal.form_of-returns-in_ok-copy_texts-in-RecSet
 form_of-returns-in_ok-copy_texts-in-RecSet t c =
     ap (λ o. form_node c.args.self.now c.args.place o c.args.trees.now) c.in-RecSet.is ∙ c.in_ok-forms-in-RecSet.ensures (Records _)
     ∙ ap (λ z. Made (Records z c.in_ok-forms-in-RecSet.forms)) (sym c.in_ok-copy_texts-in-RecSet.ensures)
 
-pub form_of-returns-in_ok-forms-in-Product : goal.form_of-returns-in_ok-forms-in-Product
-form_of-returns-in_ok-forms-in-Product t c =
-    ap (λ o. form_node c.args.self.now c.args.place o c.args.trees.now) c.in-Product.is ∙ c.in_ok-forms-in-Product.ensures Tuples
+pub form_of-returns-in_ok-set_forms-in-Product : goal.form_of-returns-in_ok-set_forms-in-Product
+form_of-returns-in_ok-set_forms-in-Product t c =
+    ap (λ o. form_node c.args.self.now c.args.place o c.args.trees.now) c.in-Product.is ∙ c.in_ok-set_forms-in-Product.ensures Tuples
 
 pub function_set-returns-in_err-domain-in-len1-up : goal.function_set-returns-in_err-domain-in-len1-up
 function_set-returns-in_err-domain-in-len1-up t c =
     let p = err_from_is_err_and c.from_residual.result c.from_residual.ensures.1 in
     rw (p.1, p.2) (form_gives_as (Err _) (function_parts c.args.self.now.width c.args.self.now.bound c.args.self.now.state c.args.self.now.next c.args.place c.args.trees.now c.after.result.now c.first-item.result c.in-len1-up.len_at_least c.first-item.is c.after.ensures)
-    (functions_stop c.args.place (outcomes_in c.args.self.now c.after.result.now) (form_in c.args.self.now c.first-item.result) c.value-value.result c.forms-results.result
-    (value_in c.args.self.now c.first-item.result) (forms_in c.args.self.now c.after.result.now) c.value-value.ensures c.forms-results.ensures _ (sym c.in_err-domain-in-len1-up.ensures)))
+    (functions_stop c.args.place (outcomes_in c.args.self.now c.after.result.now) (form_in c.args.self.now c.first-item.result) c.value.result c.forms.result
+    (value_in c.args.self.now c.first-item.result) (forms_in c.args.self.now c.after.result.now) c.value.ensures c.forms.ensures _ (sym c.in_err-domain-in-len1-up.ensures)))
 
 pub function_set-returns-in_ok-domain-in-len1-up : goal.function_set-returns-in_ok-domain-in-len1-up
 function_set-returns-in_ok-domain-in-len1-up t c =
     form_gives_as c.functions_from.result
-    (functions_go c.args.place (outcomes_in c.args.self.now c.after.result.now) (form_in c.args.self.now c.first-item.result) c.value-value.result c.forms-results.result
-    (value_in c.args.self.now c.first-item.result) (forms_in c.args.self.now c.after.result.now) c.value-value.ensures c.forms-results.ensures (c.in_ok-domain-in-len1-up.domain, c.in_ok-domain-in-len1-up.forms) (sym c.in_ok-domain-in-len1-up.ensures)
+    (functions_go c.args.place (outcomes_in c.args.self.now c.after.result.now) (form_in c.args.self.now c.first-item.result) c.value.result c.forms.result
+    (value_in c.args.self.now c.first-item.result) (forms_in c.args.self.now c.after.result.now) c.value.ensures c.forms.ensures (c.in_ok-domain-in-len1-up.domain, c.in_ok-domain-in-len1-up.forms) (sym c.in_ok-domain-in-len1-up.ensures)
     ∙ function_parts c.args.self.now.width c.args.self.now.bound c.args.self.now.state c.args.self.now.next c.args.place c.args.trees.now c.after.result.now c.first-item.result c.in-len1-up.len_at_least c.first-item.is c.after.ensures) c.functions_from.ensures
 
 pub membership-returns-in_ok-v-in-len2 : goal.membership-returns-in_ok-v-in-len2
@@ -274,16 +280,16 @@ membership-returns-in_ok-v-in-len2 t c =
     let r = c.args.self.now in
     let test = membership_test c.args.op.now c.args.place in
     gives_as c.tested.result
-    (membership_goes c.args.place test (value_in r c.right-item.result ∷ []) (form_in r c.left-item.result) (c.in_ok-v-in-len2.v, c.in_ok-v-in-len2.set) c.value-value.result c.form-form.result
-    (value_in r c.left-item.result) (form_in r c.right-item.result) c.value-value.ensures c.form-form.ensures (sym c.in_ok-v-in-len2.ensures)
+    (membership_goes c.args.place test (value_in r c.right-item.result ∷ []) (form_in r c.left-item.result) (c.in_ok-v-in-len2.v, c.in_ok-v-in-len2.set) c.value.result c.form.result
+    (value_in r c.left-item.result) (form_in r c.right-item.result) c.value.ensures c.form.ensures (sym c.in_ok-v-in-len2.ensures)
     ∙ ap (λ es. in_form c.args.place test (outcomes_in r es) (forms_in r es)) (sym (two_items _ _ _ c.in-len2.len_at_least c.in-len2.len_below c.left-item.is c.right-item.is)))
     c.tested.ensures
 
-pub one_form-returns-in_err-part-in-len1 : goal.one_form-returns-in_err-part-in-len1
-one_form-returns-in_err-part-in-len1 t c =
+pub one_form-returns-in_err-form-in-len1 : goal.one_form-returns-in_err-form-in-len1
+one_form-returns-in_err-form-in-len1 t c =
     let p = err_from_is_err_and c.from_residual.result c.from_residual.ensures.1 in
     rw (p.1, p.2) (form_gives_as (Err _) (ap (λ es. form_of_one c.args.place (one_form c.args.op.now) (forms_in c.args.self.now es)) (sym (only_item _ _ c.in-len1.len_at_least c.in-len1.len_below c.only-item.is)))
-    (one_form_stops _ c.args.place (one_form c.args.op.now) _ c.in_err-part-in-len1.ensures))
+    (one_form_stops _ c.args.place (one_form c.args.op.now) _ c.in_err-form-in-len1.ensures))
 
 pub set_forms-returns-then-all_set_forms : goal.set_forms-returns-then-all_set_forms
 set_forms-returns-then-all_set_forms t c =
