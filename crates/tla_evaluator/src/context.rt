@@ -109,10 +109,7 @@ impl<'a> Context<'a> {
         requires { All Normal values.now }
         ensures { IfOk result (λ c. c ≡ with_names self.now names.now values.now) }
     {
-        let mut bound = Vec::with_capacity(self.alloc, self.bound.len())?;
-        for (name, value) in &self.bound {
-            bound.push((*name, *value))?;
-        }
+        let mut bound: Bound<'b> = Vec::from_slice(self.alloc, self.bound.as_slice())?;
         bind_onto(names, values, &mut bound)?;
         Ok(Context::new(self.alloc, bound, self.state, self.next, self.width))
     }

@@ -61,23 +61,20 @@ pub(crate) fn functions_from(
     ensures { GivesForm (functions_from place (set_items (out-Value domain))
         (map (λ f. Made f) forms)) result }
 {
-    match domain {
-        Value::Set(items) => {
-            let mut rest = forms.into_vec();
-            if rest.len() != 1 {
+    let Value::Set(items) = domain else {
+        return Err(Stop::Wrong(place));
+    };
+    let mut rest = forms.into_vec();
+    if rest.len() != 1 {
+        return Err(Stop::Wrong(place));
+    }
+    match rest.pop() {
+        Some(form) => {
+            if !is_set_form(&form) {
                 return Err(Stop::Wrong(place));
             }
-            match rest.pop() {
-                Some(form) => {
-                    if !is_set_form(&form) {
-                        return Err(Stop::Wrong(place));
-                    }
-                    let results = Boxed::new(alloc, form)?;
-                    Ok(SetForm::Functions(items, results))
-                }
-                None => Err(Stop::Wrong(place)),
-            }
+            Ok(SetForm::Functions(items, Boxed::new(alloc, form)?))
         }
-        _ => Err(Stop::Wrong(place)),
+        None => Err(Stop::Wrong(place)),
     }
 }

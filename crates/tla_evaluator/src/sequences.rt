@@ -21,15 +21,13 @@ impl Row<'_> {
             (of_items (Some self.now.width) self.now.place op.now)
             (map out-Value self.now.operands.now)) result }
     {
-        match self.operands {
-            [Value::Fun(pairs)] => {
-                if is_sequence(pairs.as_slice()) {
-                    self.of_items(op, pairs.as_slice())
-                } else {
-                    Err(Stop::Wrong(self.place))
-                }
-            }
-            _ => Err(Stop::Wrong(self.place)),
+        let [Value::Fun(pairs)] = self.operands else {
+            return Err(Stop::Wrong(self.place));
+        };
+        if is_sequence(pairs.as_slice()) {
+            self.of_items(op, pairs.as_slice())
+        } else {
+            Err(Stop::Wrong(self.place))
         }
     }
 
@@ -55,15 +53,13 @@ impl Row<'_> {
     pub(crate) fn concatenation(&self) -> Answer<Value>
         ensures { Gives (table None self.now.place Op.Concat self.now.operands.now) result }
     {
-        match self.operands {
-            [Value::Fun(left), Value::Fun(right)] => {
-                if is_sequence(left.as_slice()) && is_sequence(right.as_slice()) {
-                    Ok(joined(self.alloc, left.as_slice(), right.as_slice())?)
-                } else {
-                    Err(Stop::Wrong(self.place))
-                }
-            }
-            _ => Err(Stop::Wrong(self.place)),
+        let [Value::Fun(left), Value::Fun(right)] = self.operands else {
+            return Err(Stop::Wrong(self.place));
+        };
+        if is_sequence(left.as_slice()) && is_sequence(right.as_slice()) {
+            Ok(joined(self.alloc, left.as_slice(), right.as_slice())?)
+        } else {
+            Err(Stop::Wrong(self.place))
         }
     }
 
@@ -71,15 +67,13 @@ impl Row<'_> {
     pub(crate) fn appended(&self) -> Answer<Value>
         ensures { Gives (table None self.now.place Op.Append self.now.operands.now) result }
     {
-        match self.operands {
-            [Value::Fun(pairs), last] => {
-                if is_sequence(pairs.as_slice()) {
-                    Ok(with_last(self.alloc, pairs.as_slice(), last)?)
-                } else {
-                    Err(Stop::Wrong(self.place))
-                }
-            }
-            _ => Err(Stop::Wrong(self.place)),
+        let [Value::Fun(pairs), last] = self.operands else {
+            return Err(Stop::Wrong(self.place));
+        };
+        if is_sequence(pairs.as_slice()) {
+            Ok(with_last(self.alloc, pairs.as_slice(), last)?)
+        } else {
+            Err(Stop::Wrong(self.place))
         }
     }
 
