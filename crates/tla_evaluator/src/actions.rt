@@ -200,7 +200,7 @@ impl Context<'_> {
     {
         let count = site.names.len();
         match self.operands(front(args, count)) {
-            Ok(domains) => match choices_of(self.alloc(), domains.as_slice())? {
+            Ok(domains) => match choices_of(self.alloc, domains.as_slice())? {
                 Some(choices) => match after(args, count) {
                     [body, ..] => self.body_effects(body, site.names, choices.as_slice(), assigned),
                     [] => Ok(at_no_body(choices.as_slice(), site.place)),

@@ -22,7 +22,7 @@ pub(crate) type Bound<'a> = Vec<(&'a Text, Option<&'a Value>)>;
 // for it, and a name that was given no value is FALSE.
 #[derive(Drop)]
 pub(crate) struct Context<'a> {
-    alloc: Global,
+    pub(crate) alloc: Global,
     bound: Bound<'a>,
     state: &'a State,
     next: &'a State,
@@ -84,10 +84,6 @@ impl<'a> Context<'a> {
         ensures { result ≡ record { bound = []; state = state.now; next = next.now; width = width } }
     {
         Context::new(alloc, Vec::new(alloc), state, next, width)
-    }
-
-    pub(crate) fn alloc(&self) -> Global {
-        self.alloc
     }
 
     pub(crate) fn width(&self) -> u32

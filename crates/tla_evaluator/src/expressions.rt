@@ -15,6 +15,7 @@ ghost use Rattle.tla_evaluator.specs.inner.Readings.{first_in, form_in, forms_in
 use crate::binders::{bound_table, choices_of};
 use crate::context::Context;
 use crate::excepts::{Reached, at_path, set_path};
+use crate::functions::Pair;
 use crate::memberships::{all_set_forms, functions_from, one_form, tested};
 use crate::numbers::number;
 use crate::operands::value_and_items;
@@ -32,6 +33,9 @@ pub(crate) struct Site<'b> {
     pub(crate) place: Place,
     pub(crate) names: &'b [Text],
 }
+
+// The number of an update's indexes, and their values.
+type Path = (usize, List<Value>);
 
 impl Context<'_> {
     // The value of a tree.
@@ -54,7 +58,7 @@ impl Context<'_> {
         match op {
             Op::Bool(b) => Ok(Value::Bool(*b)),
             Op::Int(n) => number(*n, self.width(), place),
-            Op::Str(text) => Ok(Value::Text(copy_text(self.alloc(), text)?)),
+            Op::Str(text) => Ok(Value::Text(copy_text(self.alloc, text)?)),
             Op::Name(i, primed) => self.read(*i, *primed, place),
             Op::Bound(name) => self.read_bound(name, place),
             Op::And => self.junction(false, place, args),
@@ -111,7 +115,7 @@ impl Context<'_> {
         ensures fault { IfOk result (λ j. j.fault ≡ joined (outcomes_in self.now trees.now)) }
         ensures values { IfOk result (λ j. j.items.items ≡ values (outcomes_in self.now trees.now)) }
     {
-        let mut all = nothing(self.alloc());
+        let mut all = nothing(self.alloc);
         for e in trees {
             let one = self.value(e);
             join(&mut all, one)?;
@@ -138,7 +142,7 @@ impl Context<'_> {
             (table (Some self.now.width) place op.now)) result }
     {
         let operands = self.operands(trees)?;
-        row_of(self.alloc(), op, place, operands.into_vec(), self.width())
+        row_of(self.alloc, op, place, operands.into_vec(), self.width())
     }
 
     // From the left, up to the first operand that has this truth value.
@@ -219,7 +223,7 @@ impl Context<'_> {
             result }
     {
         let sets = self.operands(front(args, site.names.len()))?;
-        let alloc = self.alloc();
+        let alloc = self.alloc;
         let choices = choices_of(alloc, sets.as_slice())?.ok_or(Stop::Wrong(site.place))?;
         let trees = after(args, site.names.len());
         let values = self.bodies(site, trees, choices.as_slice())?;
@@ -235,7 +239,7 @@ impl Context<'_> {
             (values (bodies_in self.now site.entry.place site.entry.names.now trees.now
             choices.now)) result }
     {
-        let mut all = nothing(self.alloc());
+        let mut all = nothing(self.alloc);
         for choice in choices {
             let one = self.under(site, trees, choice.as_slice());
             join(&mut all, one)?;
@@ -261,12 +265,12 @@ impl Context<'_> {
     }
 
     #[cycle(eval)]
-    fn indexes(&self, counts: &[usize], trees: &[Expr]) -> Answer<List<(usize, List<Value>)>>
+    fn indexes(&self, counts: &[usize], trees: &[Expr]) -> Answer<List<Path>>
         ensures { GivesAll (joined (outcomes_in self.now (index_trees counts.now trees.now)))
             (paths_in self.now counts.now trees.now) result }
     {
         let mut fault = Fault::NoFault;
-        let mut paths = Vec::new(self.alloc());
+        let mut paths = Vec::new(self.alloc);
         let mut rest = trees;
         for n in counts {
             let part = self.joined(front(rest, *n))?;
@@ -283,13 +287,7 @@ impl Context<'_> {
 
     // Each update to the result so far.
     #[cycle(eval)]
-    fn updated(
-        &self,
-        site: Site<'_>,
-        trees: &[Expr],
-        paths: &[(usize, List<Value>)],
-        start: Value,
-    ) -> Answer<Value>
+    fn updated(&self, site: Site<'_>, trees: &[Expr], paths: &[Path], start: Value) -> Answer<Value>
         requires { Normal start }
         ensures { Gives (updated site.entry.place
             (updates_in self.now site.entry.place site.entry.names.now paths.now trees.now) start)
@@ -316,9 +314,9 @@ impl Context<'_> {
         match at_path(&value, path) {
             Reached::At(old) => {
                 self.is_readable();
-                let olds = one_value(self.alloc(), old)?;
+                let olds = one_value(self.alloc, old)?;
                 let new = self.under(site, sides, olds.as_slice())?;
-                Ok(set_path(self.alloc(), &value, path, &new)?)
+                Ok(set_path(self.alloc, &value, path, &new)?)
             }
             Reached::Outside => Ok(value),
             Reached::NoFunction => Err(Stop::Wrong(site.place)),
@@ -336,13 +334,7 @@ impl Context<'_> {
     }
 
     #[cycle(eval)]
-    fn folded(
-        &self,
-        site: Site<'_>,
-        args: &[Expr],
-        start: Value,
-        items: &[(Value, Value)],
-    ) -> Answer<Value>
+    fn folded(&self, site: Site<'_>, args: &[Expr], start: Value, items: &[Pair]) -> Answer<Value>
         requires start { Normal start }
         requires items { All Normal (results items.now) }
         ensures { Gives (folded
@@ -353,7 +345,7 @@ impl Context<'_> {
         self.is_readable();
         let mut so_far = start;
         for (_, item) in items {
-            let pair = two_values(self.alloc(), so_far, item)?;
+            let pair = two_values(self.alloc, so_far, item)?;
             so_far = self.under(site, args, pair.as_slice())?;
         }
         Ok(so_far)
@@ -384,7 +376,7 @@ impl Context<'_> {
             Op::FunSet => self.function_set(place, trees),
             Op::RecSet(names) => {
                 let forms = self.set_forms(place, trees)?;
-                Ok(SetForm::Records(copy_texts(self.alloc(), names)?, forms))
+                Ok(SetForm::Records(copy_texts(self.alloc, names)?, forms))
             }
             Op::Product => Ok(SetForm::Tuples(self.set_forms(place, trees)?)),
             Op::Noted(_) => match trees {
@@ -402,7 +394,7 @@ impl Context<'_> {
             result }
     {
         match trees {
-            [only] => one_form(self.alloc(), op, self.form(only)?, place),
+            [only] => one_form(self.alloc, op, self.form(only)?, place),
             _ => Err(Stop::Wrong(place)),
         }
     }
@@ -416,7 +408,7 @@ impl Context<'_> {
         match trees {
             [first, ..] => {
                 let (domain, forms) = both(self.value(first), self.forms(after(trees, 1)))?;
-                functions_from(self.alloc(), domain, forms, place)
+                functions_from(self.alloc, domain, forms, place)
             }
             [] => Err(Stop::Wrong(place)),
         }
@@ -440,7 +432,7 @@ impl Context<'_> {
     fn forms(&self, trees: &[Expr]) -> Answer<List<SetForm>>
         ensures { GivesForms (forms_in self.now trees.now) result }
     {
-        let mut all = nothing(self.alloc());
+        let mut all = nothing(self.alloc);
         for e in trees {
             let one = self.form(e);
             join(&mut all, one)?;

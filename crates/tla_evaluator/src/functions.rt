@@ -16,8 +16,11 @@ use std::alloc::Global;
 use tla_meaning::Op;
 use tla_values::{List, Value, apply, copy_text, copy_value, domain_of, find_argument};
 
+// An argument with its value.
+pub(crate) type Pair = (Value, Value);
+
 // Arguments, each with its value.
-pub(crate) type Pairs = Vec<(Value, Value)>;
+pub(crate) type Pairs = Vec<Pair>;
 
 impl Row<'_> {
     // One function.
@@ -64,7 +67,7 @@ impl Row<'_> {
     }
 }
 
-fn merged(alloc: Global, left: &List<(Value, Value)>, right: &List<(Value, Value)>) -> Stored<Value>
+fn merged(alloc: Global, left: &List<Pair>, right: &List<Pair>) -> Stored<Value>
     ensures { IfOk result (λ v. v ≡ the_function (left.now ++ right.now)) }
 {
     let mut pairs = Vec::new(alloc);
@@ -104,11 +107,7 @@ fn add_pair(function: &mut Pairs, pair: (Value, Value)) -> Stored<()>
     }
 }
 
-pub(crate) fn copy_pairs_onto(
-    alloc: Global,
-    pairs: &[(Value, Value)],
-    out: &mut Pairs,
-) -> Stored<()>
+pub(crate) fn copy_pairs_onto(alloc: Global, pairs: &[Pair], out: &mut Pairs) -> Stored<()>
     ensures { OnOk result (out.new.items ≡ out.old.items ++ pairs.now) }
 {
     for (argument, value) in pairs {

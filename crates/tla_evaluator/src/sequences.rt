@@ -7,6 +7,7 @@ ghost use Rattle.tla_meaning.specs.Shapes.{items_of, numbered, sequence};
 ghost use Rattle.tla_evaluator.specs.inner.Families.{of_items};
 ghost use Rattle.tla_evaluator.specs.inner.Gives.{Gives};
 
+use crate::functions::Pair;
 use crate::numbers::number;
 use crate::operands::{Row, is_sequence};
 use crate::stops::{Answer, Stop, Stored};
@@ -119,24 +120,14 @@ pub(crate) fn sequence(alloc: Global, items: Vec<Value>) -> Stored<Value>
 {
     let mut pairs = Vec::new(alloc);
     for item in items {
-        let number = next_number(&pairs);
+        let number = Value::Int(pairs.len() as i128 + 1);
         pairs.push((number, item))?;
     }
     Ok(Value::Fun(List::from_vec(pairs)))
 }
 
-fn next_number(pairs: &Vec<(Value, Value)>) -> Value
-    ensures { result ≡ Value.Int (pos (1 + length pairs.now.items)) }
-{
-    Value::Int(pairs.len() as i128 + 1)
-}
-
 // Adds the items of a sequence to a list.
-pub(crate) fn copy_results_onto(
-    alloc: Global,
-    pairs: &[(Value, Value)],
-    out: &mut Vec<Value>,
-) -> Stored<()>
+fn copy_results_onto(alloc: Global, pairs: &[Pair], out: &mut Vec<Value>) -> Stored<()>
     ensures { OnOk result (out.new.items ≡ out.old.items ++ results pairs.now) }
 {
     for (_, value) in pairs {

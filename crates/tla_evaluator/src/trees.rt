@@ -24,16 +24,8 @@ pub(crate) fn has_form(op: &Op) -> bool
 {
     matches!(
         op,
-        Op::IntSet
-            | Op::NatSet
-            | Op::StringSet
-            | Op::SeqSet
-            | Op::Powerset
-            | Op::FunSet
-            | Op::RecSet(_)
-            | Op::Product
-            | Op::Noted(_)
-    )
+        Op::IntSet | Op::NatSet | Op::StringSet | Op::SeqSet | Op::Powerset
+    ) || matches!(op, Op::FunSet | Op::RecSet(_) | Op::Product | Op::Noted(_))
 }
 
 /// Whether the tree is expanded: no use of a definition, parameter, LET, prime of an expression, UNCHANGED, `[A]_v` or
