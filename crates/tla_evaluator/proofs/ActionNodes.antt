@@ -289,21 +289,21 @@ module _ (w : ℕ) (m : Assignable) (vars : List (List ℕ × Value)) (s t : Sta
       ap (λ x. either x (effects_or more)) new ∙ either_twice f one (effects_or more)
       ∙ sym (ap (λ fs. either f (effects_or fs)) (effects_from i e one lt is h)) ∙ old
 
-module _ (w : ℕ) (m : Assignable) (body : Expr) (names : List (List ℕ)) (vars : List (List ℕ × Value)) (s t : State) (cs : List (List Value)) where
+module _ (w : ℕ) (m : Assignable) (q : Place) (body : List Expr) (names : List (List ℕ)) (vars : List (List ℕ × Value)) (s t : State) (cs : List (List Value)) where
   abbrev at : List Value → Effect
-  at = body_effect w m body names vars s t
+  at = body_effect w m q body names vars s t
 
   effects_behind : (i : ℕ) (c c' : List Value) (long : List (List ℕ × Value)) (one : Effect) → i < length cs → c ≡ get_or cs i c → c' ≡ c →
-      long ≡ vars ++ bound_to names c' → one ≡ effect_at w m body long s t →
+      long ≡ vars ++ bound_to names c' → one ≡ first_effect w m q body long s t →
       map at (drop i cs) ≡ one ∷ map at (drop (i + 1) cs)
   effects_behind i c c' long one lt is same long_is h =
       ap (map at) (drop-cons cs i c lt)
       ∙ ap (λ x. at x ∷ map at (drop (suc i) cs)) (sym is ∙ sym same)
-      ∙ ap (λ x. x ∷ map at (drop (suc i) cs)) (sym (h ∙ ap (λ v. effect_at w m body v s t) long_is))
+      ∙ ap (λ x. x ∷ map at (drop (suc i) cs)) (sym (h ∙ ap (λ v. first_effect w m q body v s t) long_is))
       ∙ ap (λ n. one ∷ map at (drop n cs)) (sym (add-one i))
 
   pub bodies_next : (i : ℕ) (c c' : List Value) (long : List (List ℕ × Value)) (one f g all : Effect) → i < length cs → c ≡ get_or cs i c → c' ≡ c →
-      long ≡ vars ++ bound_to names c' → one ≡ effect_at w m body long s t → g ≡ either f one →
+      long ≡ vars ++ bound_to names c' → one ≡ first_effect w m q body long s t → g ≡ either f one →
       either f (effects_or (map at (drop i cs))) ≡ all →
       either g (effects_or (map at (drop (i + 1) cs))) ≡ all
   bodies_next i c c' long one f g all lt is same long_is h new old =
@@ -317,14 +317,6 @@ pub get_or-default : {X : Type 0} (xs : List X) (i : ℕ) (a b : X) → i < leng
 get_or-default [] i a b lt = absurd (omega arith)
 get_or-default (x ∷ xs) zero a b lt = refl
 get_or-default (x ∷ xs) (suc i) a b lt = get_or-default xs i a b (omega arith)
-
--- a tree behind the first ones is no deeper than all
-pub no_deeper : {X : Type 0} (size : X → ℕ) (n : ℕ) (xs rest : List X) (x : X) → rest ≡ drop n xs → 0 < length rest → x ≡ get_or rest 0 x →
-    size x ≤ most size xs
-no_deeper size n xs rest x back some is =
-    let here : size x ≡ size (get_or rest 0 x) = ap size is in
-    let all : most size rest ≡ most size (drop n xs) = ap (most size) back in
-    omega (arith, at_most size rest 0 x some, most-drop size n xs)
 
 -- ---- guards
 
@@ -407,26 +399,18 @@ module _ (w : ℕ) (m : Assignable) (q : Place) (vars : List (List ℕ × Value)
       ∙ case_here i e d o all lt is (get_or-default args (i + 1) e d lt) h old
 
 module _ (w : ℕ) (m : Assignable) (q : Place) (names : List (List ℕ)) (args : List Expr) (vars : List (List ℕ × Value)) (s t : State) where
-  pub exists_body : (sets rest : List Expr) (f : Fault) (vs vs' : List Value) (cs cs' : List (List Value)) (body : Expr) →
+  pub exists_body : (sets rest : List Expr) (f : Fault) (vs vs' : List Value) (cs cs' : List (List Value)) →
       sets ≡ take (length names) args → rest ≡ drop (length names) args →
       f ≡ joined (outcomes_at w sets vars s t) → f ≡ NoFault → vs ≡ values (outcomes_at w sets vars s t) → vs' ≡ vs →
-      option_map choices (all_set_items vs') ≡ Some cs → cs' ≡ cs → 0 < length rest → body ≡ get_or rest 0 body →
-      effects_or (map (body_effect w m body names vars s t) cs') ≡ exists_at w m q names args vars s t
-  exists_body sets rest f vs vs' cs cs' body front back fault none read same_vs chosen same_cs some is =
-      let bodies : List Expr → List Value → Effect = λ es c. first_effect w m q es (vars ++ bound_to names c) s t in
-      let first : rest ≡ body ∷ drop 1 rest = drop-cons rest 0 body some ∙ ap (λ x. x ∷ drop 1 rest) (sym is) in
+      option_map choices (all_set_items vs') ≡ Some cs → cs' ≡ cs →
+      effects_or (map (body_effect w m q rest names vars s t) cs') ≡ exists_at w m q names args vars s t
+  exists_body sets rest f vs vs' cs cs' front back fault none read same_vs chosen same_cs =
+      let bodies : List Expr → List Value → Effect = λ es. body_effect w m q es names vars s t in
       let os : List Outcome = outcomes_at w (take (length names) args) vars s t in
       let calm : joined os ≡ NoFault = ap (λ es. joined (outcomes_at w es vars s t)) (sym front) ∙ sym fault ∙ none in
       let items : all_set_items (values os) ≡ all_set_items vs' =
       ap all_set_items (ap (λ es. values (outcomes_at w es vars s t)) (sym front) ∙ sym read ∙ sym same_vs) in
-      ap (λ yss. effects_or (map (body_effect w m body names vars s t) yss)) same_cs
-      ∙ ap (λ es. effects_or (map (bodies es) cs)) (sym first ∙ back)
+      ap (λ yss. effects_or (map (bodies rest) yss)) same_cs
+      ∙ ap (λ es. effects_or (map (bodies es) cs)) back
       ∙ sym (at_choices q (bodies (drop (length names) args)) (all_set_items (values os)) cs (ap (option_map choices) items ∙ chosen))
       ∙ sym (without_fault q (bodies (drop (length names) args)) os calm)
-
--- ---- no body
-
-pub none_holds : (q : Place) (c : List Value) (cs : List (List Value)) → effects_or (map (λ (_ : List Value). fails_by (IsWrong q)) (c ∷ cs)) ≡ fails_by (IsWrong q)
-none_holds q c [] = refl
-none_holds q c (d ∷ ds) =
-    ap (either (fails_by (IsWrong q))) (none_holds q d ds) ∙ ap (λ f. fails_by f) (both_same (IsWrong q))

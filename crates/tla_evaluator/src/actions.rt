@@ -4,7 +4,7 @@ ghost use Rattle.std.specs.Prelude.{◌≡◌, IfOk, map};
 ghost use Rattle.tla_values.specs.Sets.{Normal};
 ghost use Rattle.tla_values.specs.declared.value.Value.{out-Value};
 ghost use Rattle.tla_meaning.specs.Actions.{case_effect, effect_of, effects_and, effects_or, fails_by, if_effect, is_true};
-ghost use Rattle.tla_evaluator.specs.inner.Effects.{act_in, acts, body_in, either, exists_in};
+ghost use Rattle.tla_evaluator.specs.inner.Effects.{act_in, acts, body_in, either, exists_in, first_effect_in};
 ghost use Rattle.tla_evaluator.specs.inner.Gives.{FailsBy};
 ghost use Rattle.tla_evaluator.specs.inner.Readings.{effect_in, effects_in, outcomes_in, value_in};
 
@@ -15,7 +15,7 @@ use crate::sets::choices_of;
 use crate::stops::{Stop, Stored};
 use crate::trees::{after, any_mentions, front};
 use tla_meaning::{Assignable, Effect, Expr, Fault, Op, Place};
-use tla_values::{List, Text, Value};
+use tla_values::{List, Value};
 
 fn fails_by(fault: Fault) -> Effect
     ensures { result ≡ fails_by fault }
@@ -66,17 +66,6 @@ fn is_action(op: &Op, args: &[Expr], assigned: Assignable) -> bool
     }
 }
 
-// Nothing where there is no choice, and else a place that is Wrong.
-fn at_no_body(choices: &[List<Value>], place: Place) -> Effect
-    ensures { result ≡ effects_or (map (λ _. fails_by (Fault.IsWrong place)) choices.now) }
-{
-    if choices.is_empty() {
-        fails_by(Fault::NoFault)
-    } else {
-        fails_by(Fault::IsWrong(place))
-    }
-}
-
 impl Context<'_> {
     // By the outcome of a tree.
     pub(crate) fn by_value(&self, e: &Expr) -> Stored<Effect>
@@ -120,11 +109,19 @@ impl Context<'_> {
             Op::Or => self.some_effect(args, assigned),
             Op::If => self.if_effect(args, place, assigned),
             Op::Case(_) => self.case_effect(args, place, assigned),
-            Op::Noted(_) => match args {
-                [noted, ..] => self.action(noted, assigned),
-                [] => Ok(fails_by(Fault::IsWrong(place))),
-            },
+            Op::Noted(_) => self.first_effect(args, place, assigned),
             _ => Ok(fails_by(Fault::IsWrong(place))),
+        }
+    }
+
+    // The first of these trees.
+    #[cycle(action)]
+    fn first_effect(&self, trees: &[Expr], place: Place, assigned: Assignable) -> Stored<Effect>
+        ensures { IfOk result (λ f. f ≡ first_effect_in self.now assigned place trees.now) }
+    {
+        match trees {
+            [e, ..] => self.action(e, assigned),
+            [] => Ok(fails_by(Fault::IsWrong(place))),
         }
     }
 
@@ -201,10 +198,10 @@ impl Context<'_> {
         let count = site.names.len();
         match self.operands(front(args, count)) {
             Ok(domains) => match choices_of(self.alloc, domains.as_slice())? {
-                Some(choices) => match after(args, count) {
-                    [body, ..] => self.body_effects(body, site.names, choices.as_slice(), assigned),
-                    [] => Ok(at_no_body(choices.as_slice(), site.place)),
-                },
+                Some(choices) => {
+                    let trees = after(args, count);
+                    self.body_effects(site, trees, choices.as_slice(), assigned)
+                }
                 None => Ok(fails_by(Fault::IsWrong(site.place))),
             },
             Err(stop) => stopped(stop),
@@ -215,19 +212,20 @@ impl Context<'_> {
     #[cycle(action)]
     fn body_effects(
         &self,
-        body: &Expr,
-        names: &[Text],
+        site: Site<'_>,
+        trees: &[Expr],
         choices: &[List<Value>],
         assigned: Assignable,
     ) -> Stored<Effect>
         requires { All (λ c. All Normal c) choices.now }
         ensures { IfOk result
-            (λ f. f ≡ effects_or (map (body_in self.now assigned body.now names.now) choices.now)) }
+            (λ f. f ≡ effects_or (map (body_in self.now assigned site.entry.place trees.now
+            site.entry.names.now) choices.now)) }
     {
         let mut all = fails_by(Fault::NoFault);
         for choice in choices {
-            let inner = (&*self).with(&*names, choice.as_slice())?;
-            let one = inner.action(body, assigned)?;
+            let inner = (&*self).with(&*site.names, choice.as_slice())?;
+            let one = inner.first_effect(trees, site.place, assigned)?;
             all = either(all, one);
         }
         Ok(all)

@@ -31,19 +31,22 @@ abbrev pub first_effect : ℕ → Assignable → Place → List Expr → List (L
 first_effect w m p [] vars s t = fails_by (IsWrong p)
 first_effect w m p (e ∷ es) vars s t = effect_at w m e vars s t
 
--- the body where the names have these values
-abbrev pub body_effect : ℕ → Assignable → Expr → List (List ℕ) → List (List ℕ × Value) → State → State → List Value → Effect
-body_effect w m e xs vars s t c = effect_at w m e (vars ++ bound_to xs c) s t
+-- the body, the first of these trees, where the names have these values
+abbrev pub body_effect : ℕ → Assignable → Place → List Expr → List (List ℕ) → List (List ℕ × Value) → State → State → List Value → Effect
+body_effect w m p es xs vars s t c = first_effect w m p es (vars ++ bound_to xs c) s t
 
 -- \E: the domains come first, and then the body over all members
 abbrev pub exists_at : ℕ → Assignable → Place → List (List ℕ) → List Expr → List (List ℕ × Value) → State → State → Effect
 exists_at w m p xs es vars s t =
     exists_effect p (outcomes_at w (take (length xs) es) vars s t)
-    (λ c. first_effect w m p (drop (length xs) es) (vars ++ bound_to xs c) s t)
+    (body_effect w m p (drop (length xs) es) xs vars s t)
 
 -- the same, by what an evaluation reads
-abbrev pub body_in : Reading → Assignable → Expr → List (List ℕ) → List Value → Effect
-body_in r m e xs c = body_effect r.width m e xs r.bound r.state r.next c
+abbrev pub body_in : Reading → Assignable → Place → List Expr → List (List ℕ) → List Value → Effect
+body_in r m p es xs c = body_effect r.width m p es xs r.bound r.state r.next c
+
+abbrev pub first_effect_in : Reading → Assignable → Place → List Expr → Effect
+first_effect_in r m p es = first_effect r.width m p es r.bound r.state r.next
 
 abbrev pub exists_in : Reading → Assignable → Place → List (List ℕ) → List Expr → Effect
 exists_in r m p xs es = exists_at r.width m p xs es r.bound r.state r.next
@@ -62,7 +65,7 @@ acts m o es = false
 abbrev pub act_in : Reading → Assignable → Place → Op → List (List ℕ) → List Expr → Effect
 act_in r m p op.And xs es = effects_and (effects_in r m es)
 act_in r m p op.Exists xs es = exists_in r m p xs es
-act_in r m p (op.Noted x) xs es = first_effect r.width m p es r.bound r.state r.next
+act_in r m p (op.Noted x) xs es = first_effect_in r m p es
 act_in r m p op.Or xs es = effects_or (effects_in r m es)
 act_in r m p op.If xs es = if_effect p (outcomes_in r es) (effects_in r m es)
 act_in r m p (op.Case other) xs es = case_effect p (outcomes_in r es) (effects_in r m es)

@@ -3,10 +3,12 @@ use Rattle.tla_meaning.specs.declared.outcome.Fault.TheVariants.{NoFault}
 use denote.Param.Weighed.{most}
 use Rattle.tla_meaning.specs.declared.expr.Expr.{out-Expr, size-Expr}
 use Rattle.tla_meaning.specs.Operators.{yes_no}
-use Rattle.tla_evaluator.specs.inner.Effects.{act_in, acts}
+use Rattle.tla_evaluator.specs.inner.Effects.{act_in, acts, first_effect_in}
 use Rattle.tla_evaluator.specs.inner.Readings.{effect_in, value_in}
-use Rattle.tla_evaluator.proofs.ActionNodes.{is_now, act_is_node, acts_by_value, and_next, or_next, bodies_next, case_false, case_fault, case_true, if_case, if_none, choice_fails, exists_body, no_deeper}
+use Rattle.tla_evaluator.proofs.ActionNodes.{is_now, act_is_node, acts_by_value, and_next, or_next, bodies_next, case_false, case_fault, case_true, if_case, if_none, choice_fails, exists_body}
+use Rattle.std.proofs.lemmas.Grind.{common_steps}
 use Rattle.std.proofs.lemmas.Result.{IfOk-weaker}
+use Rattle.tla_evaluator.proofs.TreeSizes.{most-drop}
 use Rattle.tla_evaluator.specs.inner.Gives.{FailsBy}
 use Rattle.tla_evaluator.proofs.ListSteps.{members_normal}
 use Rattle.tla_evaluator.proofs.context.Context.+action.Goals as goal
@@ -49,23 +51,21 @@ if_effect-returns-else-args-eq3 t c =
 
 pub exists_effect-body_effects-requires : goal.exists_effect-body_effects-requires
 exists_effect-body_effects-requires t c =
-    let deep : size-Expr c.body-item.result ≤ most size-Expr c.args.args.now =
-    no_deeper size-Expr (length c.args.site.names.now) c.args.args.now c.after.result.now c.body-item.result c.after.ensures c.in-len1-up.len_at_least c.body-item.is in
-    let normal = members_normal _ _ _ _ c.as_slice.ensures c.as_slice-in-len1-up.ensures.value c.in-Ok.ensures.normal (c.in_ok-choices-in-Ok.ensures ∙ ap (option_map (λ v. v.items)) c.in-Some.is) in
-    (omega arith, normal)
+    let normal = members_normal _ _ _ _ c.as_slice.ensures c.as_slice-in-Some.ensures.value c.in-Ok.ensures.normal (c.in_ok-choices-in-Ok.ensures ∙ ap (option_map (λ v. v.items)) c.in-Some.is) in
+    (grind (arith, most-drop, common_steps), normal)
 
-pub exists_effect-returns-in-len1-up : goal.exists_effect-returns-in-len1-up
-exists_effect-returns-in-len1-up t c =
+pub exists_effect-returns-in-Some : goal.exists_effect-returns-in-Some
+exists_effect-returns-in-Some t c =
     is_now c.body_effects.result _ _
-    (exists_body _ _ c.args.site.place _ _ _ _ _ _ _ NoFault c.in-Ok.domains c.as_slice.result.now c.in-Some.choices.items c.as_slice-in-len1-up.result.now _
-    c.front.ensures c.after.ensures (sym c.in-Ok.ensures.values.0) refl (sym c.in-Ok.ensures.values.1) c.as_slice.ensures
-    (c.in_ok-choices-in-Ok.ensures ∙ ap (option_map (λ v. v.items)) c.in-Some.is) c.as_slice-in-len1-up.ensures.value c.in-len1-up.len_at_least c.body-item.is)
+    (exists_body _ _ c.args.site.place _ _ _ _ _ _ _ NoFault c.in-Ok.domains c.as_slice.result.now c.in-Some.choices.items c.as_slice-in-Some.result.now
+    c.front.ensures c.after-trees.ensures (sym c.in-Ok.ensures.values.0) refl (sym c.in-Ok.ensures.values.1) c.as_slice.ensures
+    (c.in_ok-choices-in-Ok.ensures ∙ ap (option_map (λ v. v.items)) c.in-Some.is) c.as_slice-in-Some.ensures.value)
     c.body_effects.ensures
 
 pub body_effects-loop-choice-preserved : goal.body_effects-loop-choice-preserved
 body_effects-loop-choice-preserved t c =
-    bodies_next _ _ _ _ _ _ _ c.args.choices.now _ _ c.as_slice.result.now _ c.in_ok-one.one _ _ _
-    c.loop-choice-test.true c.choice-item.is c.as_slice.ensures refl (c.in_ok-one.ensures ∙ ap (λ r. effect_in r c.args.assigned c.args.body.now) c.in_ok-inner.ensures)
+    bodies_next _ _ _ _ _ _ _ _ c.args.choices.now _ _ c.as_slice.result.now _ c.in_ok-one.one _ _ _
+    c.loop-choice-test.true c.choice-item.is c.as_slice.ensures refl (c.in_ok-one.ensures ∙ ap (λ r. first_effect_in r c.args.assigned c.args.site.place c.args.trees.now) c.in_ok-inner.ensures)
     c.either-all.ensures c.loop-choice.invariant
 
 pub action-returns-then-is_action : goal.action-returns-then-is_action

@@ -16,8 +16,8 @@ invariant-some_effect-loop-e l =
 
 abbrev pub invariant-body_effects-loop-choice : goal.invariant-body_effects-loop-choice
 invariant-body_effects-loop-choice l =
-    either l.all (effects_or (map (body_in l.self l.assigned l.body l.names) (drop l.choice-index l.choices)))
-    ≡ effects_or (map (body_in l.self l.assigned l.body l.names) l.choices)
+    either l.all (effects_or (map (body_in l.self l.assigned l.site.place l.trees l.site.names.now) (drop l.choice-index l.choices)))
+    ≡ effects_or (map (body_in l.self l.assigned l.site.place l.trees l.site.names.now) l.choices)
 
 abbrev pub invariant-case_effect-loop-i : goal.invariant-case_effect-loop-i
 invariant-case_effect-loop-i l = record {
