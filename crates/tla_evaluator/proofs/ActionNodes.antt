@@ -1,8 +1,7 @@
 -- What the effect of a tree is, for each operator at its node.
 use Rattle.std.specs.Prelude.{if◌then◌else◌}
-use Rattle.std.proofs.Common.{◌≡◌, ℕ, zero, suc, ◌<◌, ◌≤◌, ◌+◌, Bool, true, false, not, ◌||◌, List, [], ◌∷◌, ◌++◌, drop, get_or, length, map, replicate, take, Option, Some, None, option_map, Result, Err, IfOk, refl, ap, ap₂, ◌∙◌, sym, subst, arith, drop-cons, add-one}
+use Rattle.std.proofs.Common.{◌≡◌, ℕ, zero, suc, ◌<◌, ◌+◌, Bool, true, false, not, ◌||◌, List, [], ◌∷◌, ◌++◌, drop, get_or, length, map, replicate, take, Option, Some, None, option_map, Result, Err, IfOk, refl, ap, ap₂, ◌∙◌, sym, subst, arith, drop-cons, add-one}
 use Rattle.std.specs.List.{list_any}
-use denote.Param.Weighed.{at_most, most}
 use Rattle.tla_values.specs.Order.{Layer}
 use Rattle.tla_values.specs.declared.value.Value.{Value, out-Value}
 use Rattle.tla_values.specs.declared.value.Value.TheVariants as value
@@ -24,7 +23,7 @@ use Rattle.tla_meaning.specs.Operators.{yes_no}
 use Rattle.tla_meaning.specs.Outcomes.{join_faults, joined, values}
 use Rattle.tla_meaning.specs.Scopes.{Denotation, bound_to, absent}
 use Rattle.tla_meaning.specs.Shapes.{all_set_items, choices}
-use Rattle.tla_meaning.proofs.Joins.{both_assoc, both_same}
+use Rattle.tla_meaning.proofs.Joins.{both_assoc}
 use Rattle.tla_meaning.specs.declared.actions.Assignable.{Assignable}
 use Rattle.tla_meaning.specs.declared.actions.Effect.{Effect}
 use Rattle.tla_evaluator.specs.inner.Readings.{Reading, effect_in, value_in}
@@ -38,7 +37,6 @@ use Rattle.tla_evaluator.specs.inner.Gives.{FailsBy, Gives}
 use Rattle.tla_evaluator.specs.inner.Mentions.{mentions}
 use Rattle.tla_evaluator.specs.Trees.{effect_at, effects_at, expanded_meaning, expanded_node, outcomes_at, scope_at, is_expanded_op, value_at}
 use Rattle.tla_evaluator.proofs.MentionLaws.{holds_as}
-use Rattle.tla_evaluator.proofs.TreeSizes.{most-drop}
 
 -- ---- a tree, by its node
 

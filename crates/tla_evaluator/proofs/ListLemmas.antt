@@ -1,5 +1,5 @@
 -- Steps of the loops that build lists of lists.
-use Rattle.std.proofs.Common.{◌≡◌, ℕ, suc, ◌+◌, ◌-◌, ◌<◌, ◌≤◌, List, [], ◌∷◌, ◌++◌, map, drop, length, get_or, refl, ap, ◌∙◌, sym, arith, append_assoc, drop-cons, add-one, false, true, zero, take, ℤ, pos, cond, nat_le, zip, subst}
+use Rattle.std.proofs.Common.{◌≡◌, ℕ, suc, ◌+◌, ◌-◌, ◌<◌, ◌≤◌, List, [], ◌∷◌, ◌++◌, map, drop, length, get_or, refl, ap, ◌∙◌, sym, arith, append_assoc, drop-cons, add-one, true, zero, take, ℤ, pos, cond, nat_le, zip, subst}
 use Rattle.std.proofs.lemmas.Bool.{le-leb}
 use Rattle.std.proofs.lemmas.List.{length-map}
 use Rattle.tla_meaning.specs.declared.place.Place.{Place}
@@ -7,7 +7,6 @@ use Rattle.tla_meaning.specs.declared.outcome.Outcome.TheVariants.{Val, Wrong}
 use Rattle.tla_meaning.specs.Operators.{part_of}
 use Rattle.tla_meaning.specs.Forms.{results}
 use Rattle.tla_values.specs.declared.value.Value.{Value}
-use Rattle.tla_values.specs.declared.value.Value.TheVariants as value
 use Rattle.tla_meaning.specs.Shapes.{sublists, each_to, with_each, sequence}
 
 -- the list from a place on

@@ -12,15 +12,6 @@ use Rattle.tla_meaning.specs.declared.outcome.Outcome.TheVariants.{Big, Val}
 use Rattle.tla_values.specs.declared.value.Value.TheVariants as value
 use Rattle.tla_meaning.specs.Numbers.{in_width, power_of, number}
 
--- what 128 bits do not hold is in no width
-pub beyond : (w : ℕ) (n : ℤ) → w ≤ 64 → (FitsSigned w128 n → ⊥) → in_width (Some w) n ≡ false
-beyond w (pos m) le h =
-    le-ltb m (2 ^ (w - 1)) (let k : 2 ^ (w - 1) ≤ 2 ^ 127 = pow_mono {i = w - 1} {j = 127} (omega arith) in
-    let d : (m < 2 ^ 127) → ⊥ = λ lt. h (record { sfits = lt }) in omega (arith, d))
-beyond w (negsuc m) le h =
-    le-ltb m (2 ^ (w - 1)) (let k : 2 ^ (w - 1) ≤ 2 ^ 127 = pow_mono {i = w - 1} {j = 127} (omega arith) in
-    let d : (m < 2 ^ 127) → ⊥ = λ lt. h (record { sfits = lt }) in omega (arith, d))
-
 -- the number of 128 bits that is nearest to z is in the same widths
 module _ (w : ℕ) (le : w ≤ 64) where
   far : 2 ^ (w - 1) ≤ 2 ^ 127 - 1

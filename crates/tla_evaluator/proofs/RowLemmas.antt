@@ -12,7 +12,7 @@ use Rattle.tla_meaning.specs.Shapes.{items_of, numbered, union_all, all_set_item
 use Rattle.tla_meaning.specs.Numbers.{Width, from_on, range}
 use Rattle.tla_meaning.specs.declared.place.Place.{Place}
 use Rattle.tla_meaning.specs.declared.outcome.Outcome.{Outcome}
-use Rattle.tla_meaning.specs.declared.outcome.Outcome.TheVariants.{Val, Wrong}
+use Rattle.tla_meaning.specs.declared.outcome.Outcome.TheVariants.{Wrong}
 use Rattle.tla_meaning.specs.Operators.{on_all_sets, on_items, table}
 use Rattle.tla_meaning.specs.Outcomes.{IsNormalOutcome}
 use Rattle.tla_meaning.proofs.NormalTable.{table_normal}

@@ -17,13 +17,16 @@ use crate::trees::{after, any_mentions, front};
 use tla_meaning::{Assignable, Effect, Expr, Fault, Op, Place};
 use tla_values::{List, Value};
 
+pub(crate) fn effect(holds: bool, fault: Fault) -> Effect
+    ensures { result ≡ record { holds = holds; fault = fault } }
+{
+    Effect { holds, fault }
+}
+
 fn fails_by(fault: Fault) -> Effect
     ensures { result ≡ fails_by fault }
 {
-    Effect {
-        holds: false,
-        fault,
-    }
+    effect(false, fault)
 }
 
 // The effect of what stops a part.
@@ -49,10 +52,7 @@ fn is_true(v: &Value) -> bool
 fn either(f: Effect, g: Effect) -> Effect
     ensures { result ≡ either f g }
 {
-    Effect {
-        holds: f.holds || g.holds,
-        fault: join_faults(f.fault, g.fault),
-    }
+    effect(f.holds || g.holds, join_faults(f.fault, g.fault))
 }
 
 // Whether a node with these operands acts by its parts, and not by its value.
@@ -72,10 +72,7 @@ impl Context<'_> {
         ensures { IfOk result (λ f. f ≡ effect_of (value_in self.now e.now)) }
     {
         match self.value(e) {
-            Ok(v) => Ok(Effect {
-                holds: is_true(&v),
-                fault: Fault::NoFault,
-            }),
+            Ok(v) => Ok(effect(is_true(&v), Fault::NoFault)),
             Err(stop) => stopped(stop),
         }
     }

@@ -270,19 +270,15 @@ impl Context<'_> {
             (paths_in self.now counts.now trees.now) result }
     {
         let mut fault = Fault::NoFault;
-        let mut paths = Vec::new(self.alloc);
+        let mut items = Vec::new(self.alloc);
         let mut rest = trees;
         for n in counts {
             let part = self.joined(front(rest, *n))?;
             fault = join_faults(fault, part.fault);
-            paths.push((*n, List::from_vec(part.items)))?;
+            items.push((*n, List::from_vec(part.items)))?;
             rest = after(after(rest, *n), 1);
         }
-        let all = Joined {
-            fault,
-            items: paths,
-        };
-        all_of(all)
+        all_of(Joined { fault, items })
     }
 
     // Each update to the result so far.

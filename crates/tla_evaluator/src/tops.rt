@@ -10,6 +10,7 @@ ghost use Rattle.tla_evaluator.specs.inner.Effects.{behind};
 ghost use Rattle.tla_meaning.specs.Outcomes.{IsNormalOutcome};
 ghost use Rattle.tla_evaluator.specs.Trees.{AreNormal, is_expanded, value_at};
 
+use crate::actions::effect;
 use crate::context::{Context, names_of};
 use crate::outcomes::join_faults;
 use crate::stops::told;
@@ -112,10 +113,7 @@ pub fn start(alloc: Global, job: &Job, s: &State, width: u32) -> Result<Outcome,
 fn behind(first: Effect, second: Effect) -> Effect
     ensures { result ≡ behind first.fault second }
 {
-    Effect {
-        holds: second.holds,
-        fault: join_faults(first.fault, second.fault),
-    }
+    effect(second.holds, join_faults(first.fault, second.fault))
 }
 
 /// What Next gives from a state to another (Specifying Systems, sections 2.3 and 8.1).

@@ -1,4 +1,4 @@
-use Rattle.std.proofs.Common.{◌≡◌, ap, rules, ◌∙◌, sym}
+use Rattle.std.proofs.Common.{◌≡◌, ap, rules, sym}
 use Rattle.std.proofs.lemmas.Result.{err_from_is_err_and}
 use Rattle.std.specs.List.{list_all, list_any}
 use Rattle.tla_meaning.specs.Meaning.{bound_table, kept}

@@ -1,4 +1,3 @@
-use Rattle.std.proofs.Common.{◌∙◌, ap}
 use Rattle.tla_evaluator.proofs.ListLemmas.{each_to_more}
 use Rattle.tla_evaluator.proofs.sets.each_to.Goals as goal
 

@@ -1,10 +1,8 @@
-use Rattle.std.proofs.Common.{arith, true, false, ◌≤◌, length, option_map, ap, ap₂, refl, sym, ◌∙◌}
+use Rattle.std.proofs.Common.{arith, option_map, ap, ap₂, refl, sym, ◌∙◌}
 use Rattle.tla_meaning.specs.declared.outcome.Fault.TheVariants.{NoFault}
-use denote.Param.Weighed.{most}
-use Rattle.tla_meaning.specs.declared.expr.Expr.{out-Expr, size-Expr}
-use Rattle.tla_meaning.specs.Operators.{yes_no}
+use Rattle.tla_meaning.specs.declared.expr.Expr.{out-Expr}
 use Rattle.tla_evaluator.specs.inner.Effects.{act_in, acts, first_effect_in}
-use Rattle.tla_evaluator.specs.inner.Readings.{effect_in, value_in}
+use Rattle.tla_evaluator.specs.inner.Readings.{value_in}
 use Rattle.tla_evaluator.proofs.ActionNodes.{is_now, act_is_node, acts_by_value, and_next, or_next, bodies_next, case_false, case_fault, case_true, if_case, if_none, choice_fails, exists_body}
 use Rattle.std.proofs.lemmas.Grind.{common_steps}
 use Rattle.std.proofs.lemmas.Result.{IfOk-weaker}

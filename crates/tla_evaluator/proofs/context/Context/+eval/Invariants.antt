@@ -37,7 +37,7 @@ abbrev pub invariant-indexes-loop-n : goal.invariant-indexes-loop-n
 invariant-indexes-loop-n l = record {
   fault : join_faults l.fault (joined (outcomes_in l.self (index_trees (drop l.n-index l.counts) l.rest)))
       ≡ joined (outcomes_in l.self (index_trees l.counts l.trees));
-  paths : l.paths.items ++ paths_in l.self (drop l.n-index l.counts) l.rest ≡ paths_in l.self l.counts l.trees;
+  paths : l.items.items ++ paths_in l.self (drop l.n-index l.counts) l.rest ≡ paths_in l.self l.counts l.trees;
   small : (f : Expr → ℕ) → most f l.rest ≤ most f l.trees;
 }
 
