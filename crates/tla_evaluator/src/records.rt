@@ -1,4 +1,4 @@
-// Records, which are functions on texts, and sets of functions, records and tuples.
+// Records, which are functions on texts, and the sets of records and of tuples.
 ghost use Rattle.std.specs.Prelude.{◌≡◌, ◌++◌, ◌∷◌, [], IfOk, List as Items, None, OnOk, map, zip};
 ghost use Rattle.tla_meaning.specs.Operators.{table};
 ghost use Rattle.tla_meaning.specs.Shapes.{record_of, sequence, the_function};
