@@ -18,6 +18,12 @@ pub mod ModuleLaw
 pub mod ByTable
 pub mod Notes
 pub mod Top
-pub mod Refused
 pub mod FieldLemmas
 pub mod Examples
+pub mod Starts
+pub mod Headers
+pub mod Tracking
+pub mod Faults
+pub mod Opened
+pub mod Shown
+pub mod Kept

@@ -246,7 +246,7 @@ step-ok t (heading ps s) ts i =
     ]
 step-ok t stuck ts i = tt
 
-run-ok : (st : State) (ts rest : List Tok) → Inv st ts → Inv (run st rest) (ts ++ rest)
+pub run-ok : (st : State) (ts rest : List Tok) → Inv st ts → Inv (run st rest) (ts ++ rest)
 run-ok st ts [] i = subst (Inv st) (sym (append-nil ts)) i
 run-ok st ts (t ∷ rest) i = subst (Inv (run (step t st) rest)) (append_assoc ts (t ∷ []) rest) (run-ok (step t st) (ts ++ (t ∷ [])) rest (step-ok t st ts i))
 

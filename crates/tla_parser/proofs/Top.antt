@@ -15,7 +15,7 @@ use Rattle.tla_parser.proofs.Laws.{clash}
 use Rattle.tla_parser.proofs.Machine.{Frame, State, at_bin, at_form, at_pre, have, heading, module_of, parse_module, run, stuck, want}
 use Rattle.tla_parser.specs.Aliases.{Alias, aliases_of}
 use Rattle.tla_parser.specs.Fields.{units_differ}
-use Rattle.tla_parser.specs.Grammar.{IsRefusal, IsWritten, NothingSpells, SpelledWithin, Spells, module_for}
+use Rattle.tla_parser.specs.Grammar.{IsRefusal, NothingSpells, Spells, module_for}
 use Rattle.tla_parser.specs.Modules.{module_tree}
 use Rattle.tla_parser.specs.Spelling.{items}
 use Rattle.tla_parser.specs.declared.moves.Mark.TheVariants.{AtTop}
@@ -28,7 +28,7 @@ use Rattle.tla_parser.specs.inner.Building.{made, some_if}
 use Rattle.tla_parser.specs.inner.Notes.{noted}
 use Rattle.tla_parser.specs.inner.Checked.{IsChecked}
 use Rattle.tla_parser.specs.Written.{Parts, deepest, tokens_of, top}
-use Rattle.tla_parser.specs.Rules.{IsModule}
+use Rattle.tla_parser.specs.Rules.{IsModule, IsWritten, SpelledWithin}
 use Rattle.tla_parser.specs.inner.Derivations.{ahead, posts}
 use Rattle.tla_parser.specs.inner.Refusals.{IsStanding, is_bad}
 use Rattle.tla_parser.specs.inner.Recognition.{advances, code_read, ended_module, ended_stack, finished, is_of_grammar, levels_read, module_start, outcome_mode, status}
@@ -40,7 +40,7 @@ pub record IsRead (ts : List Tok) : Type 0 where
   pub code_so : code_read (advances module_start ts) ≡ posts written
   pub levels_so : levels_read (advances module_start ts) ≡ capped (deepest written)
 
-read_as : (ts : List Tok) → image (run (heading top []) ts) ≡ advances module_start ts
+pub read_as : (ts : List Tok) → image (run (heading top []) ts) ≡ advances module_start ts
 read_as ts = image_run (heading top []) ts (AtTop, refl)
 
 two_open : (f : Frame) (s : List Frame) (o : Open) → ended_stack (o ∷ images (f ∷ s)) ≡ false
@@ -185,16 +185,16 @@ made_so ts m s c k n x e h made_of =
     (read_spells ts x i q, read_repeats ts x i q)
 
 refusal_so : (e : ParseFault) (ts : List Tok) → is_of_grammar e ≡ true → IsStanding e ts → NothingSpells ts → IsRefusal e ts
-refusal_so (BadGrammar p) ts h s n = n
+refusal_so (BadGrammar p) ts h s n = (n, inl s)
 refusal_so (NotSupported p form) ts h s n = (n, s)
 refusal_so (TooDeep p) ts h s n = absurd (cc)
 refusal_so (Memory e) ts h s n = tt
 
-bad_so : (e : ParseFault) (ts : List Tok) → is_bad e ≡ true → NothingSpells ts → IsRefusal e ts
-bad_so (BadGrammar p) ts h n = n
-bad_so (NotSupported p form) ts h n = absurd (cc)
-bad_so (TooDeep p) ts h n = absurd (cc)
-bad_so (Memory e) ts h n = absurd (cc)
+bad_so : (e : ParseFault) (ts : List Tok) → is_bad e ≡ true → IsWritten ts → NothingSpells ts → IsRefusal e ts
+bad_so (BadGrammar p) ts h w n = (n, inr w)
+bad_so (NotSupported p form) ts h w n = absurd (cc)
+bad_so (TooDeep p) ts h w n = absurd (cc)
+bad_so (Memory e) ts h w n = absurd (cc)
 
 -- what the answer of the code says of the recognizer
 pub record Reached (ts : List Tok) : Type 0 where
@@ -234,9 +234,13 @@ pub answer_levels : (ts : List Tok) (x : Module) (r : Result Module ParseFault) 
 answer_levels ts x (Ok m) h = h
 answer_levels ts x (Err e) h = tt
 
-pub answer_fault : (ts : List Tok) (x : Module) (r : Result Module ParseFault) → Answered ts x → IsChecked x r → IfErr r (λ e. IsRefusal e ts)
-answer_fault ts x (Ok m) a h = tt
-answer_fault ts x (Err e) a h = bad_so e ts h.0 (a.repeats h.1)
+pub answer_fault : (ts : List Tok) (x : Module) (r : Result Module ParseFault) → IsWritten ts → Answered ts x → IsChecked x r → IfErr r (λ e. IsRefusal e ts)
+answer_fault ts x (Ok m) w a h = tt
+answer_fault ts x (Err e) w a h = bad_so e ts h.0 w (a.repeats h.1)
+
+-- what has few levels is written by the rules
+pub within_written : (ts : List Tok) → SpelledWithin 400 ts → IsWritten ts
+within_written ts s = record { written = s.written; by_rules = s.by_rules; tokens_so = s.tokens_so }
 
 pub answered : (ts : List Tok) (r : Reached ts) (n : ℕ) (x : Module) → outcome_mode r.mode r.stack ≡ Some n → ((ps : Parts) → r.code ≡ posts ps → x ≡ module_for ts ps) → Answered ts x
 answered ts r n x h m =

@@ -3,14 +3,15 @@ use Rattle.tla_lexer.specs.declared.token.Token.{Token}
 use Rattle.tla_meaning.specs.declared.modules.Module.{Module}
 use Rattle.tla_parser.specs.declared.fault.ParseFault.{ParseFault}
 use Rattle.tla_parser.specs.declared.fault.ParseFault.TheVariants.{BadGrammar, TooDeep, NotSupported, Memory}
-use Rattle.std.specs.Prelude.{ℕ, true, List, ◌≡◌, ◌≤◌}
+use Rattle.std.specs.Prelude.{true, List, ◌≡◌, ◌⊎◌}
 use Rattle.tla_parser.specs.Aliases.{aliases_of}
 use Rattle.tla_parser.specs.Fields.{units_differ}
 use Rattle.tla_parser.specs.Modules.{module_tree}
 use Rattle.tla_parser.specs.Spelling.{items}
+use Rattle.tla_parser.specs.Beginnings.{FaultAt}
 use Rattle.tla_parser.specs.Refused.{Stands}
-use Rattle.tla_parser.specs.Rules.{IsModule}
-use Rattle.tla_parser.specs.Written.{Parts, deepest, tokens_of}
+use Rattle.tla_parser.specs.Rules.{IsModule, IsWritten, SpelledWithin}
+use Rattle.tla_parser.specs.Written.{Parts, tokens_of}
 
 -- The module of what is written, with the aliases that the notes give.
 abbrev pub module_for : List Token → Parts → Module
@@ -30,21 +31,10 @@ pub record Spells (m : Module) (ts : List Token) : Type 0 where
 abbrev pub NothingSpells : List Token → Type 0
 NothingSpells ts = (m : Module) → Spells m ts → ⊥
 
--- The tokens are those of a module that is written by the rules, whatever the names of its fields.
-pub record IsWritten (ts : List Token) : Type 0 where
-  pub written : Parts
-  pub by_rules : IsModule written
-  pub tokens_so : tokens_of written ≡ ts
-
--- so is some module, and no expression of it has more than n levels
-pub record SpelledWithin (n : ℕ) (ts : List Token) : Type 0 where
-  pub written : Parts
-  pub by_rules : IsModule written
-  pub tokens_so : tokens_of written ≡ ts
-  pub levels_so : deepest written ≤ n
-
+-- Why the tokens are refused. Where a unit is not whole, its place is named, and else that of a unit in which a record
+-- names a field twice.
 abbrev pub IsRefusal : ParseFault → List Token → Type 0
-IsRefusal (BadGrammar place) ts = NothingSpells ts
+IsRefusal (BadGrammar place) ts = NothingSpells ts × (FaultAt IsWritten place ts ⊎ IsWritten ts)
 IsRefusal (NotSupported place form) ts = NothingSpells ts × Stands form place ts
-IsRefusal (TooDeep place) ts = IsWritten ts × (SpelledWithin 400 ts → ⊥)
+IsRefusal (TooDeep place) ts = IsWritten ts × (SpelledWithin 400 ts → ⊥) × FaultAt (SpelledWithin 400) place ts
 IsRefusal (Memory e) ts = Unit {0}

@@ -7,6 +7,7 @@ pub mod Fields
 pub mod Forms
 pub mod Written
 pub mod Rules
+pub mod Beginnings
 pub mod Refused
 pub mod Aliases
 pub mod Grammar

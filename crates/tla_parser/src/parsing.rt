@@ -2,7 +2,8 @@
 ghost use Rattle.std.specs.Prelude.{◌≡◌, ◌<◌, ◌≤◌, ◌∷◌, ◌++◌, [], List, length, reverse, IfOk, IfErr};
 ghost use Rattle.tla_lexer.specs.declared.token.Token.{Token as Tok};
 ghost use Rattle.tla_meaning.specs.declared.modules.Module.{Module as Tree};
-ghost use Rattle.tla_parser.specs.Grammar.{IsRefusal, NothingSpells, SpelledWithin, Spells};
+ghost use Rattle.tla_parser.specs.Grammar.{IsRefusal, NothingSpells, Spells};
+ghost use Rattle.tla_parser.specs.Rules.{SpelledWithin};
 ghost use Rattle.tla_parser.specs.inner.Checked.{IsChecked};
 ghost use Rattle.tla_parser.specs.Modules.{module_tree};
 ghost use Rattle.tla_parser.specs.Spelling.{items};
@@ -10,7 +11,7 @@ ghost use Rattle.tla_parser.specs.Written.{Parts};
 ghost use Rattle.tla_parser.specs.inner.Derivations.{posts};
 ghost use Rattle.tla_parser.specs.inner.Moves.{is_finished};
 ghost use Rattle.tla_parser.specs.inner.Notes.{noted};
-ghost use Rattle.tla_parser.specs.inner.Refusals.{HasRead};
+ghost use Rattle.tla_parser.specs.inner.Refusals.{IsReading};
 ghost use Rattle.tla_parser.specs.inner.Recognition.{advance, advances, ended_module, module_start, outcome_mode, outcome_stack, stood};
 
 use crate::aliases::aliases_of;
@@ -21,16 +22,13 @@ use crate::fields::repeating;
 use crate::looks::look;
 use crate::moves::{Mark, Next};
 use crate::open::{Code, Form, Mode, Open};
-use crate::places::Places;
+use crate::places::{LEVELS, Places, what_stands};
 use crate::recognizer::Recognizer;
 use crate::units::module_tree;
 use std::alloc::{AllocError, Global};
 use tla_lexer::{Token, Tokens};
 use tla_meaning::Module;
 use tla_values::{List, Text};
-
-// The most levels of an expression.
-const LEVELS: u16 = 400;
 
 // Where a module begins.
 fn begun(alloc: Global) -> Result<Recognizer, AllocError>
@@ -60,12 +58,13 @@ fn read(
     token: &Token,
 ) -> Result<Mode, AllocError>
     ensures state { IfOk result (λ next. stood next recognizer.new ≡ advance token.now (stood mode recognizer.old)) }
-    ensures places { (ts : List Tok) → HasRead ts places.old → IfOk result (λ _. HasRead (ts ++ (token.now ∷ [])) places.new) }
+    ensures places { (ts : List Tok) → IsReading ts (stood mode recognizer.old) places.old
+        → IfOk result (λ next. IsReading (ts ++ (token.now ∷ [])) (stood next recognizer.new) places.new) }
 {
-    places.before(recognizer.stack.as_slice(), mode);
+    let before = what_stands(recognizer.stack.as_slice(), mode);
     let next = recognizer.step(alloc, mode, token)?;
-    let seen = look(token);
-    places.behind(recognizer.stack.as_slice(), next, seen, token.place)?;
+    let behind = what_stands(recognizer.stack.as_slice(), next);
+    places.read(before, behind, look(token), token.place)?;
     Ok(next)
 }
 
@@ -77,13 +76,13 @@ fn read_all(
     tokens: &[Token],
 ) -> Result<Mode, AllocError>
     ensures state { IfOk result (λ mode. stood mode recognizer.new ≡ advances (stood Mode.Read recognizer.old) tokens.now) }
-    ensures places { HasRead [] places.old → IfOk result (λ _. HasRead tokens.now places.new) }
+    ensures places { IsReading [] (stood Mode.Read recognizer.old) places.old
+        → IfOk result (λ mode. IsReading tokens.now (stood mode recognizer.new) places.new) }
 {
     let mut mode = Mode::Read;
     for token in tokens {
         mode = read(alloc, recognizer, places, mode, token)?;
     }
-    places.before(recognizer.stack.as_slice(), mode);
     Ok(mode)
 }
 
@@ -184,16 +183,17 @@ pub fn parse(alloc: Global, tokens: &Tokens) -> Result<Module, ParseFault>
     let mut places = Places::new(alloc, source[0].place);
     let mut recognizer = begun(alloc)?;
     let mode = read_all(alloc, &mut recognizer, &mut places, source)?;
+    let end = what_stands(recognizer.stack.as_slice(), mode);
     let Recognizer {
         stack,
         code,
         margin: _,
     } = recognizer;
     match outcome(mode, stack) {
-        None => Err(places.refusal()),
+        None => Err(places.refusal(end)),
         Some(levels) => {
             if levels > LEVELS {
-                return Err(ParseFault::TooDeep(places.deep()));
+                return Err(ParseFault::TooDeep(places.deep(end)));
             }
             let tree = made(alloc, code)?;
             let aliases = aliases_of(alloc, source)?;
