@@ -4,6 +4,7 @@
 ghost use Rattle.std.specs.Prelude.{◌≤◌, length, IfSome};
 
 use crate::cases::{FORMS, LISTS, OPERATORS, PLACES, REFUSALS};
+use crate::faults::{DEEP, FAULTS, NOT_READ};
 use crate::showing::{put_number, put_tree};
 use std::alloc::{AllocError, Global};
 use std::test::Fail;
@@ -56,19 +57,68 @@ pub(crate) fn put_fault(
     }
 }
 
-// What the expression of a definition on lines of its own is parsed to; a `;` in the text stands for a line feed.
-fn shown(alloc: Global, text: &[u8], places: bool) -> Result<Vec<u8>, Fail> {
-    let mut whole = Vec::from_slice(alloc, b"---- MODULE T ----\nx ==\n")?;
+/// What the texts of a table are.
+#[derive(Clone, Copy)]
+enum Texts {
+    /// Expressions, each of a definition, and whether places are shown.
+    Expressions(bool),
+    /// What stands behind the header's dashes and before the end.
+    Modules,
+}
+
+// Adds the text: a `;` stands for a line feed, and in modules a `%` for 400 times `~`.
+fn put_text(whole: &mut Vec<u8>, text: &[u8], texts: Texts) -> Result<(), AllocError> {
     for byte in text {
-        whole.push(if *byte == b';' { b'\n' } else { *byte })?;
+        match (*byte, texts) {
+            (b';', _) => whole.push(b'\n')?,
+            (b'%', Texts::Modules) => put_many(whole)?,
+            _ => whole.push(*byte)?,
+        }
     }
-    whole.extend_from_slice(b"\n====\n")?;
+    Ok(())
+}
+
+fn put_many(whole: &mut Vec<u8>) -> Result<(), AllocError> {
+    for _ in 0..400 {
+        whole.push(b'~')?;
+    }
+    Ok(())
+}
+
+fn whole_text(alloc: Global, text: &[u8], texts: Texts) -> Result<Vec<u8>, AllocError> {
+    let mut whole = Vec::new(alloc);
+    match texts {
+        Texts::Modules => put_text(&mut whole, text, texts)?,
+        Texts::Expressions(_) => {
+            whole.extend_from_slice(b"---- MODULE T ----\nx ==\n")?;
+            put_text(&mut whole, text, texts)?;
+            whole.extend_from_slice(b"\n====\n")?;
+        }
+    }
+    Ok(whole)
+}
+
+fn put_module(
+    alloc: Global,
+    out: &mut Vec<u8>,
+    module: &Module,
+    texts: Texts,
+) -> Result<(), AllocError> {
+    match (module.units.as_slice(), texts) {
+        (_, Texts::Modules) => out.extend_from_slice(b"a module"),
+        ([Unit::Define(def, _)], Texts::Expressions(places)) => {
+            put_tree(alloc, out, &def.body, places)
+        }
+        _ => out.extend_from_slice(b"no definition alone"),
+    }
+}
+
+// What the text is parsed to.
+fn shown(alloc: Global, text: &[u8], texts: Texts) -> Result<Vec<u8>, Fail> {
+    let whole = whole_text(alloc, text, texts)?;
     let mut out = Vec::new(alloc);
     match answer(alloc, whole.as_slice())? {
-        Ok(module) => match module.units.as_slice() {
-            [Unit::Define(def, _)] => put_tree(alloc, &mut out, &def.body, places)?,
-            _ => out.extend_from_slice(b"no definition alone")?,
-        },
+        Ok(module) => put_module(alloc, &mut out, &module, texts)?,
         Err(fault) => put_fault(alloc, &mut out, fault)?,
     }
     Ok(out)
@@ -87,22 +137,22 @@ fn arrow(line: &[u8]) -> Option<usize>
 }
 
 // The lines of the table that give something else than they say, each with what it gives.
-fn differing(alloc: Global, table: &str, places: bool) -> Result<Vec<u8>, Fail> {
+fn differing(alloc: Global, table: &str, texts: Texts) -> Result<Vec<u8>, Fail> {
     let mut report = Vec::new(alloc);
     for line in table.lines() {
-        differs(alloc, line.as_bytes(), places, &mut report)?;
+        differs(alloc, line.as_bytes(), texts, &mut report)?;
     }
     Ok(report)
 }
 
-fn differs(alloc: Global, line: &[u8], places: bool, report: &mut Vec<u8>) -> Result<(), Fail> {
+fn differs(alloc: Global, line: &[u8], texts: Texts, report: &mut Vec<u8>) -> Result<(), Fail> {
     let Some(at) = arrow(line) else {
         report.extend_from_slice(b"no arrow: ")?;
         report.extend_from_slice(line)?;
         report.push(b'\n')?;
         return Ok(());
     };
-    let found = shown(alloc, &line[..at], places)?;
+    let found = shown(alloc, &line[..at], texts)?;
     let rest = &line[at..];
     if !rest.ends_with(found.as_slice()) || rest.len() != found.len() + 4 {
         report.extend_from_slice(line)?;
@@ -115,35 +165,60 @@ fn differs(alloc: Global, line: &[u8], places: bool, report: &mut Vec<u8>) -> Re
 
 #[test]
 fn operators_bind_by_their_ranges(rt: HostRuntime) -> Result<(), Fail> {
-    let report = differing(rt.alloc(), OPERATORS, false)?;
+    let report = differing(rt.alloc(), OPERATORS, Texts::Expressions(false))?;
     assert_eq!(rt; report.as_slice(), b"".as_slice());
     Ok(())
 }
 
 #[test]
 fn forms_stand_for_their_trees(rt: HostRuntime) -> Result<(), Fail> {
-    let report = differing(rt.alloc(), FORMS, false)?;
+    let report = differing(rt.alloc(), FORMS, Texts::Expressions(false))?;
     assert_eq!(rt; report.as_slice(), b"".as_slice());
     Ok(())
 }
 
 #[test]
 fn lists_go_by_their_columns(rt: HostRuntime) -> Result<(), Fail> {
-    let report = differing(rt.alloc(), LISTS, false)?;
+    let report = differing(rt.alloc(), LISTS, Texts::Expressions(false))?;
     assert_eq!(rt; report.as_slice(), b"".as_slice());
     Ok(())
 }
 
 #[test]
 fn nodes_have_their_places(rt: HostRuntime) -> Result<(), Fail> {
-    let report = differing(rt.alloc(), PLACES, true)?;
+    let report = differing(rt.alloc(), PLACES, Texts::Expressions(true))?;
     assert_eq!(rt; report.as_slice(), b"".as_slice());
     Ok(())
 }
 
 #[test]
 fn refusals_name_their_causes(rt: HostRuntime) -> Result<(), Fail> {
-    let report = differing(rt.alloc(), REFUSALS, false)?;
+    let report = differing(rt.alloc(), REFUSALS, Texts::Expressions(false))?;
+    assert_eq!(rt; report.as_slice(), b"".as_slice());
+    Ok(())
+}
+
+#[test]
+fn a_fault_stands_where_the_first_unit_that_is_not_whole_begins(
+    rt: HostRuntime,
+) -> Result<(), Fail> {
+    let report = differing(rt.alloc(), FAULTS, Texts::Modules)?;
+    assert_eq!(rt; report.as_slice(), b"".as_slice());
+    Ok(())
+}
+
+#[test]
+fn a_deep_unit_is_the_first_with_too_many_levels(rt: HostRuntime) -> Result<(), Fail> {
+    let report = differing(rt.alloc(), DEEP, Texts::Modules)?;
+    assert_eq!(rt; report.as_slice(), b"".as_slice());
+    Ok(())
+}
+
+#[test]
+fn forms_that_are_read_nowhere_stand_in_the_first_refused_unit(
+    rt: HostRuntime,
+) -> Result<(), Fail> {
+    let report = differing(rt.alloc(), NOT_READ, Texts::Modules)?;
     assert_eq!(rt; report.as_slice(), b"".as_slice());
     Ok(())
 }

@@ -5,6 +5,7 @@
 mod asking;
 #[cfg(test)]
 mod cases;
+mod faults;
 #[cfg(test)]
 mod modules;
 #[cfg(test)]

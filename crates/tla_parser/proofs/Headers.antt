@@ -24,7 +24,7 @@ use Rattle.tla_parser.specs.inner.Derivations.{delta, look}
 use Rattle.tla_parser.specs.inner.Moves.{Row, found, heads, listed_heads, local_heads, module_heads, moved, name_heads, recursive_heads, subscript_heads, unit_heads, unit_rows, update_heads}
 use Rattle.tla_parser.specs.inner.Moves.{is_finished, reading}
 use Rattle.tla_parser.specs.inner.Recognition.{Status, advance, ended_module, entered, finished, form, heads_on, is_fail, levels_read, lost, read_at, running}
-use Rattle.tla_parser.specs.inner.Standings.{behind_header, declaring, ends_header, heading, in_header, in_unit, leads, led_by, next_in_header, standing_of, starts, unit_goes_on}
+use Rattle.tla_parser.specs.inner.Standings.{behind_header, declaring, ends_header, heading, in_header, in_unit, leads, led_by, next_in_header, standing_of, starts, unit_goes_on, wanted_by}
 
 -- a header goes on, a unit begins, or neither
 abbrev pub leads_on : Sign → Next → Bool
@@ -44,7 +44,7 @@ header_found s (r ∷ rs) h =
     ]
 
 header_heads : (m : Mark) → in_header m ≡ true → header_rows (heads m) ≡ true
-unfolding heads listed_heads update_heads subscript_heads local_heads module_heads unit_heads name_heads recursive_heads unit_rows in_header begins_unit led_by declaring number_of
+unfolding heads listed_heads update_heads subscript_heads local_heads module_heads unit_heads name_heads recursive_heads unit_rows in_header begins_unit led_by wanted_by declaring number_of
 header_heads AtTop h = refl
 header_heads ModuleHead h = refl
 header_heads ModuleName h = refl

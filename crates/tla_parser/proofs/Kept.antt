@@ -4,11 +4,11 @@ use Rattle.tla_lexer.specs.declared.token.Token.{Token}
 use Rattle.tla_meaning.specs.declared.place.Place.{Place}
 use Rattle.tla_parser.proofs.Faults.{begins_at, begins_within, header_tells, header_within, heading_kept, none_left, read, read_next, start_kept, within_kept}
 use Rattle.tla_parser.proofs.Laws.{clash, same_sign-is}
-use Rattle.tla_parser.proofs.Shown.{awaits_definition, awaits_end, awaits_name, awaits_parameter, constants_more, follows_so, head_kept, last_next, listed_more, nothing_goes, whole_before}
-use Rattle.tla_parser.proofs.Tracking.{Tells, fault_place}
-use Rattle.tla_parser.specs.Beginnings.{FaultAt, Follows, NoneLeft, Whole, ended, last_of}
+use Rattle.tla_parser.proofs.Shown.{awaits_definition, awaits_end, awaits_name, awaits_parameter, constants_more, follows_so, head_kept, last_next, listed_more, module_sticks, nothing_goes, symbol_sticks, told_empty, told_kept, whole_before, Sticks}
+use Rattle.tla_parser.proofs.Tracking.{Tells, fault_place, nowhere_empty, nowhere_kept}
+use Rattle.tla_parser.specs.Beginnings.{FaultAt, Follows, NoneLeft, Nowhere, Whole, ended, last_of}
 use Rattle.tla_parser.specs.Operators.{after, is_prefix, number_of, same_sign}
-use Rattle.tla_parser.specs.Refused.{BindsTuple, DefinesSymbol, HasParameter, InForm, InHead, Shows, Stands, are, before_names, before_parameter, declares_constants, in_parentheses, is_listed, is_word, named}
+use Rattle.tla_parser.specs.Refused.{BindsTuple, DefinesSymbol, HasParameter, HeadShows, InForm, InHead, Shows, Stands, are, before_names, before_parameter, declares_constants, in_parentheses, is_listed, is_word, named}
 use Rattle.tla_parser.specs.Rules.{IsWritten, SpelledWithin}
 use Rattle.tla_parser.specs.Signs.{sign}
 use Rattle.tla_parser.specs.declared.fault.Syntax.{Syntax}
@@ -28,7 +28,7 @@ use Rattle.tla_parser.specs.declared.signs.Sign.{Sign}
 use Rattle.tla_parser.specs.declared.signs.Sign.TheVariants.{Comma, Dashes, Defines, LeftParen, RightParen, Stray, Word}
 use Rattle.tla_parser.specs.inner.Derivations.{look}
 use Rattle.tla_parser.specs.inner.Recognition.{advance, advances, module_start, stood}
-use Rattle.tla_parser.specs.inner.Refusals.{HasRead, HasStart, IsBefore, IsEnd, IsHead, IsReading, IsShown, IsStep, faulty, head_next, renewed}
+use Rattle.tla_parser.specs.inner.Refusals.{HasRead, HasStart, HeadTold, IsBefore, IsEnd, IsHead, IsReading, IsShown, IsStep, IsUnshown, faulty, head_next, renewed}
 use Rattle.tla_parser.specs.inner.Standings.{behind_header, binds_names, heading, in_header, next_ends_unit, standing, standing_of, starts}
 
 -- what is said with a token more
@@ -46,8 +46,17 @@ renewed_as a b h k place o e f = cc
 before_next : (ts : List Token) (t : Token) (s : Sign) (place : Place) → s ≡ sign t → place ≡ t.place → IsBefore (last_of (ts ++ (t ∷ []))) s place
 before_next ts t s place e q = rw (last_next ts t) (e, q)
 
-pub kept : (ts : List Token) (t : Token) (p q : Places) (before behind : Standing) (seen : Seen) (place : Place) → IsStep ts t before behind seen place → HasRead ts p → Moved p q before behind seen place → IsShown (ts ++ (t ∷ [])) q.refused → (q.awaits_blank ≡ true → (u : Token) → HasParameter (ts ++ (t ∷ [])) u) → HasRead (ts ++ (t ∷ [])) q
-kept ts t p q before behind seen place s h m shown awaits =
+-- where nothing is refused no head shows a form
+none_kept : (ts : List Token) (t : Token) (p q : Places) (before behind : Standing) (seen : Seen) (place : Place) → IsStep ts t before behind seen place → HasRead ts p → IsUnshown p before behind seen.sign → HeadShows ts t → ⊥
+none_kept ts t p q before behind seen place s h u (inl m) =
+    let k : Sticks ts t = module_sticks ts t m.0 m.1 in
+    (u.none_so (ap (λ (x : Standing). x.stuck) s.behind_so ∙ k.behind_so) (ap (λ (x : Standing). x.stuck) s.before_so ∙ k.before_so)).0 (ap (λ (x : Seen). x.sign) s.seen_so ∙ m.0) (h.head_told.line_so m.1)
+none_kept ts t p q before behind seen place s h u (inr m) =
+    let k : Sticks ts t = symbol_sticks ts t m.0 m.1 in
+    (u.none_so (ap (λ (x : Standing). x.stuck) s.behind_so ∙ k.behind_so) (ap (λ (x : Standing). x.stuck) s.before_so ∙ k.before_so)).1 (ap (λ (x : Seen). after x.sign) s.seen_so ∙ m.0) (h.head_told.name_so m.1)
+
+pub kept : (ts : List Token) (t : Token) (p q : Places) (before behind : Standing) (seen : Seen) (place : Place) → IsStep ts t before behind seen place → HasRead ts p → Moved p q before behind seen place → (q.refused ≡ None → IsUnshown p before behind seen.sign) → IsShown (ts ++ (t ∷ [])) q.refused → (q.awaits_blank ≡ true → (u : Token) → HasParameter (ts ++ (t ∷ [])) u) → HasRead (ts ++ (t ∷ [])) q
+kept ts t p q before behind seen place s h m unshown shown awaits =
     let b : starts seen.sign before behind ≡ begins_at ts t = starts_as seen.sign (sign t) before _ behind _ (ap (λ (x : Seen). x.sign) s.seen_so) s.before_so s.behind_so in
     record {
       before_so = before_next ts t q.previous q.last (m.previous_so ∙ ap (λ (x : Seen). x.sign) s.seen_so) (m.last_so ∙ s.place_so);
@@ -60,6 +69,8 @@ kept ts t p q before behind seen place s h m shown awaits =
         (within_kept ts t p.within p.begun h.heading_so h.within_so));
       heading_so = λ e. heading_kept ts t p.begun h.heading_so (sym (m.begun_so ∙ ap (λ (x : Bool). p.begun || x) b) ∙ e);
       head_so = subst (λ (x : Head). IsHead x (ts ++ (t ∷ []))) (sym (m.head_so ∙ head_as _ _ p.head seen.sign (sign t) b (ap (λ (x : Seen). x.sign) s.seen_so))) (head_kept ts t p.head h.head_so);
+      head_told = subst (λ (x : Head). HeadTold (ts ++ (t ∷ [])) x) (sym (m.head_so ∙ head_as _ _ p.head seen.sign (sign t) b (ap (λ (x : Seen). x.sign) s.seen_so))) (told_kept ts t p.head h.head_told);
+      none_so = λ e. nowhere_kept HeadShows ts t (none_kept ts t p q before behind seen place s h (unshown e)) (h.none_so (unshown e).refused_so);
       awaits_so = awaits;
     }
   where
@@ -187,6 +198,8 @@ start_empty first p s w b v h r a = record {
   within_so = subst (λ (o : Option Place). HasStart (SpelledWithin 400) [] o p.begun) (sym w) (refl, b);
   heading_so = λ e. header_first;
   head_so = subst (λ (x : Head). IsHead x []) (sym h) tt;
+  head_told = subst (λ (x : Head). HeadTold [] x) (sym h) told_empty;
+  none_so = λ e. nowhere_empty HeadShows;
   awaits_so = λ e. absurd (clash p.awaits_blank e a);
 }
 
@@ -202,11 +215,14 @@ last_is : (o : Option Token) (s : Sign) (place : Place) → Follows (λ u. u ≡
 last_is (Some u) s place f b = b.1
 last_is None s place f b = absurd f
 
-pub fault_at : (ts : List Token) (p : Places) (end : Standing) (place : Place) → 0 < length ts → IsEnd ts end → HasRead ts p → place ≡ faulty (not p.begun && behind_header end) p.last p.start → FaultAt IsWritten place ts
-fault_at ts p end place l e h q =
+fault_so : (ts : List Token) (p : Places) (end : Standing) (place : Place) → 0 < length ts → IsEnd ts end → HasRead ts p → place ≡ faulty (not p.begun && behind_header end) p.last p.start → FaultAt IsWritten place ts
+fault_so ts p end place l e h q =
     fault_place IsWritten ts p.start p.begun (behind_header end) p.last place (last_is (last_of ts) p.previous p.last (some_last ts l) h.before_so)
     (λ g. none_left IsWritten ts ts (behind_header end) (λ t. subst (λ (b : Bool). Tells b (Whole IsWritten ts t)) (ap behind_header (sym e)) (header_tells ts t (h.heading_so g))) refl (some_last ts l))
     h.start_so q
+
+pub fault_at : (ts : List Token) (p : Places) (end : Standing) (place : Place) → 0 < length ts → IsEnd ts end → HasRead ts p → place ≡ faulty (not p.begun && behind_header end) p.last p.start → p.refused ≡ None → FaultAt IsWritten place ts × Nowhere HeadShows ts
+fault_at ts p end place l e h q n = (fault_so ts p end place l e h q, h.none_so n)
 
 pub deep_at : (ts : List Token) (p : Places) (end : Standing) (place : Place) → 0 < length ts → IsEnd ts end → HasRead ts p → place ≡ faulty (not p.begun && behind_header end) p.last p.within → FaultAt (SpelledWithin 400) place ts
 deep_at ts p end place l e h q =

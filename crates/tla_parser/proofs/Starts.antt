@@ -33,7 +33,7 @@ use Rattle.tla_parser.specs.declared.signs.Sign.TheVariants.{AssumeWord, Constan
 use Rattle.tla_parser.specs.inner.Derivations.{delta, given, idle, is_last, look, mark_column}
 use Rattle.tla_parser.specs.inner.Moves.{begin, behind_op, body_rows, bracket_rows, fair_rows, filled, fold_rows, found, goes_on, heads, hungry, in_braces, in_brackets, in_units, insteads, is_finished, listed_heads, local_heads, local_rows, module_heads, moved, name_heads, next_bullet, off, opens, reading, recursive_heads, rows, subscript_heads, tuple_rows, unit_heads, unit_rows, update_heads, update_rows}
 use Rattle.tla_parser.specs.inner.Recognition.{Status, accepting, acted, advance, advanced, advances, ended_module, entered, finished, folded, folded_code, folded_margin, folds, following, form, form_deeper, freshly, heads_on, is_fail, landed, least, levels_read, lost, op, operand, passes_by, placing, read_at, running, taken, wanting}
-use Rattle.tla_parser.specs.inner.Standings.{declaring, in_unit, innermost, leads, led_by, standing_of, starts, unit_goes_on}
+use Rattle.tla_parser.specs.inner.Standings.{declaring, in_unit, innermost, leads, led_by, standing_of, starts, unit_goes_on, wanted_by}
 
 -- ---- tests of all signs that begin a unit
 
@@ -66,7 +66,7 @@ alike_is false true h = cc
 alike_is false false h = refl
 
 all_open : Bool
-unfolding heads listed_heads update_heads subscript_heads local_heads module_heads unit_heads name_heads recursive_heads insteads rows local_rows bracket_rows update_rows tuple_rows fair_rows fold_rows body_rows in_braces in_brackets unit_rows in_units is_lasting in_unit led_by declaring is_finished opens after is_prefix number_of
+unfolding heads listed_heads update_heads subscript_heads local_heads module_heads unit_heads name_heads recursive_heads insteads rows local_rows bracket_rows update_rows tuple_rows fair_rows fold_rows body_rows in_braces in_brackets unit_rows in_units is_lasting in_unit led_by wanted_by declaring is_finished opens after is_prefix number_of
 all_open = true
 
 head_each : (m : Mark) → of_each (λ s. alike (leads s (found s (heads m)) && not (in_unit m)) (ended_module (found EndSign (heads m)))) ≡ true

@@ -101,7 +101,7 @@ nowhere_kept Q ts t n w = λ f u r e p. elim (split_end ts f r t u e) [
     | inr h ↦ w f u h.rest h.tokens_so p
   ]
 
-nowhere_empty : (Q : List Token → Token → Type 0) → Nowhere Q []
+pub nowhere_empty : (Q : List Token → Token → Type 0) → Nowhere Q []
 nowhere_empty Q = λ f u r e p. no_split f r u e
 
 first_kept : (place : Place) (ts : List Token) (t : Token) → IsFirst place ts → IsFirst place (ts ++ (t ∷ []))

@@ -127,6 +127,12 @@ Shows Proof p front t = (sign t ≡ ProofWord) × (p ≡ t.place)
 Shows OperatorParameter p front t = (sign t ≡ Underscore) × (p ≡ t.place) × HasParameter front t
 Shows TuplePattern p front t = (sign t ≡ LeftAngle) × (p ≡ t.place) × BindsTuple front t
 
+-- `---- MODULE` or `a + b` begins a unit, whatever stands behind it.
+abbrev pub HeadShows : List Token → Token → Type 0
+HeadShows front t =
+    ((sign t ≡ ModuleWord) × InHead (are (Dashes ∷ [])) front)
+    ⊎ ((after (sign t) ≡ InfixRole) × InHead (named (are [])) front)
+
 -- The form stands at the place: no module goes on with the token that shows it, so it stands in the first unit that is
 -- not whole.
 pub record Stands (form : Syntax) (place : Place) (ts : List Token) : Type 0 where

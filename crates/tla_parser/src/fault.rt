@@ -20,13 +20,14 @@ pub enum Syntax {
 /// Why tokens are no module.
 #[derive(Debug, Drop, Error)]
 pub enum ParseFault {
-    /// No module spells the tokens, and the unit that begins here is the first that is not whole.
+    /// No module spells the tokens, and the unit that begins here is the first that is not whole; where none begins,
+    /// it is the token behind the header, the last token, or the first where no header stands.
     #[error("no unit of the grammar stands here")]
     BadGrammar(Place),
-    /// The unit that begins here has more than 400 levels.
+    /// All units are whole, and the one that begins here is the first with more than 400 levels.
     #[error("a unit is nested too deeply")]
     TooDeep(Place),
-    /// The form at this place is not read.
+    /// No module spells the tokens, and the form at this place, in the first unit that is not whole, is read nowhere.
     #[error("a form is not supported")]
     NotSupported(Place, Syntax),
     /// Memory ran out.

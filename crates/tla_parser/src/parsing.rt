@@ -168,9 +168,11 @@ fn checked(tree: Module, places: &Places) -> Result<Module, ParseFault>
 /// The module that the tokens spell. (Lamport, Specifying Systems, chapters 15 and 17.)
 ///
 /// There is at least one token. The aliases are those that the notes of the tokens give, `@typeAlias: name = T;`, in their
-/// order, each with its T as it is written. A refusal names where the first unit begins that is not whole, the first token where no
-/// header stands, or the last where no unit is left; the unit that has more than 400 levels; or the place of a form that
-/// is read nowhere. Parentheses make no level. The time is in proportion to the tokens, and memory too, but for sets that
+/// order, each with its T as it is written. A refusal names where the first unit begins that is not whole; where none
+/// begins the token behind the header, the first token where no header stands, or the last where no unit is left. It
+/// names the first unit with more than 400 levels where all are whole, or the place of a form that is read nowhere: in
+/// the first unit that is not whole, `---- MODULE` and an operator behind the name that is defined come before the
+/// fault of the grammar. Parentheses make no level. The time is in proportion to the tokens, and memory too, but for sets that
 /// several names share, of which at most 1,048,576 nodes are copied; past them memory counts as wanting.
 pub fn parse(alloc: Global, tokens: &Tokens) -> Result<Module, ParseFault>
     requires { 0 < length tokens.now }

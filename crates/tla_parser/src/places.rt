@@ -1,5 +1,5 @@
 // Where units begin, and what is refused where reading sticks.
-ghost use Rattle.std.specs.Prelude.{◌≡◌, ◌<◌, ◌⊎◌, ◌++◌, ◌∷◌, ◌&&◌, ◌||◌, [], true, not, nat_le, length, List, Option, reverse, option_copied, IfOk, IfSome};
+ghost use Rattle.std.specs.Prelude.{◌≡◌, ◌<◌, ◌⊎◌, ◌++◌, ◌∷◌, ◌&&◌, ◌||◌, [], true, not, nat_le, length, List, None, Option, reverse, option_copied, IfOk, IfSome};
 ghost use Rattle.tla_lexer.specs.declared.token.Token.{Token as Tok};
 ghost use Rattle.tla_parser.specs.Beginnings.{FaultAt, begins_unit};
 ghost use Rattle.tla_parser.specs.Operators.{after, is_prefix};
@@ -9,11 +9,11 @@ ghost use Rattle.tla_parser.specs.Signs.{sign as sign_of};
 ghost use Rattle.tla_parser.specs.declared.signs.Role.TheVariants.{InfixRole};
 ghost use Rattle.tla_parser.specs.declared.moves.Mark.TheVariants.{BehindParameter, LocalHead, LocalParameter};
 ghost use Rattle.tla_parser.specs.declared.moves.Next.TheVariants.{Reads};
-ghost use Rattle.tla_parser.specs.declared.places.Head.TheVariants.{Body, Brackets, Line};
+ghost use Rattle.tla_parser.specs.declared.places.Head.TheVariants.{Body, Brackets, Line, Name};
 ghost use Rattle.tla_parser.specs.declared.signs.Sign.TheVariants.{Defines, LeftParen};
 ghost use Rattle.tla_parser.specs.inner.Recognition.{advances, is_of_grammar, module_start};
-ghost use Rattle.tla_parser.specs.inner.Refusals.{HasRead, IsEnd, IsShown, IsStanding, IsStep, faulty, head_next, head_with, opening, renewed};
-ghost use Rattle.tla_parser.specs.inner.Standings.{behind_header, binds_names, declaring, ends_header, ends_unit, in_unit, leads, led_by, next_ends_header, next_ends_unit, nowhere_stood, standing, standing_of, starts, top_standing, unit_goes_on};
+ghost use Rattle.tla_parser.specs.inner.Refusals.{HasRead, IsEnd, IsShown, IsStanding, IsStep, IsUnshown, ShowsNone, faulty, head_next, head_with, opening, renewed};
+ghost use Rattle.tla_parser.specs.inner.Standings.{behind_header, binds_names, declaring, ends_header, ends_unit, in_unit, leads, led_by, next_ends_header, next_ends_unit, nowhere_stood, standing, standing_of, starts, top_standing, unit_goes_on, wanted_by};
 
 use crate::fault::{ParseFault, Syntax};
 use crate::moves::{Mark, Next, Seen};
@@ -134,12 +134,22 @@ fn led_by(mark: Mark) -> Sign
     match mark {
         Mark::UnitHead => Sign::Word,
         Mark::DeclaredName => Sign::VariableWord,
-        Mark::InAssumption => Sign::AssumeWord,
-        Mark::InStatement => Sign::TheoremWord,
         Mark::InstanceName => Sign::InstanceWord,
         Mark::RecursiveName => Sign::RecursiveWord,
         Mark::LocalUnit => Sign::LocalWord,
         Mark::BetweenUnits => Sign::Dashes,
+        _ => Sign::Stray,
+    }
+}
+
+// The same where an operand is to come.
+#[tactic(auto, unfolding(crate::specs::inner::Standings::wanted_by))]
+fn wanted_by(mark: Mark) -> Sign
+    ensures { result ≡ wanted_by mark }
+{
+    match mark {
+        Mark::InAssumption => Sign::AssumeWord,
+        Mark::InStatement => Sign::TheoremWord,
         _ => Sign::Stray,
     }
 }
@@ -158,7 +168,8 @@ fn leads(sign: Sign, next: Next) -> bool
     ensures { result ≡ leads sign next }
 {
     match next {
-        Next::Reads(mark) | Next::Wants(mark) => declaring(sign).is(led_by(mark)),
+        Next::Reads(mark) => declaring(sign).is(led_by(mark)),
+        Next::Wants(mark) => sign.is(wanted_by(mark)),
         _ => false,
     }
 }
@@ -354,7 +365,8 @@ fn next_ends_unit(next: Next) -> bool
 }
 
 fn is_infix(sign: Sign) -> bool
-    ensures { result ≡ true → after sign ≡ InfixRole }
+    ensures told { result ≡ true → after sign ≡ InfixRole }
+    ensures tells { after sign ≡ InfixRole → result ≡ true }
 {
     match after(sign) {
         Role::InfixRole => true,
@@ -441,7 +453,8 @@ impl Places {
         seen: Seen,
         place: Place,
     ) -> Option<(Place, Syntax)>
-        ensures { (ts : List Tok) (t : Tok) → IsStep ts t before behind seen place → HasRead ts self.now → IsShown (ts ++ (t ∷ [])) result }
+        ensures none { result ≡ None → IsUnshown self.now before behind seen.sign }
+        ensures shown { (ts : List Tok) (t : Tok) → IsStep ts t before behind seen place → HasRead ts self.now → IsShown (ts ++ (t ∷ [])) result }
     {
         if self.refused.is_some() || !behind.stuck {
             return self.refused;
@@ -464,7 +477,8 @@ impl Places {
 
     // The form that is read nowhere and that the token shows; a nested module begins with its dashes.
     fn form(&self, before: Standing, sign: Sign, place: Place) -> Option<(Place, Syntax)>
-        ensures { (ts : List Tok) (t : Tok) → sign ≡ sign_of t → place ≡ t.place → IsEnd ts before → HasRead ts self.now
+        ensures none { result ≡ None → ShowsNone self.now.head sign }
+        ensures shows { (ts : List Tok) (t : Tok) → sign ≡ sign_of t → place ≡ t.place → IsEnd ts before → HasRead ts self.now
             → IfSome result (λ r. Shows r.1 r.0 ts t) }
     {
         match sign {
@@ -483,7 +497,8 @@ impl Places {
     }
 
     fn is_behind_line(&self) -> bool
-        ensures { result ≡ true → self.now.head ≡ Line }
+        ensures told { result ≡ true → self.now.head ≡ Line }
+        ensures tells { self.now.head ≡ Line → result ≡ true }
     {
         match self.head {
             Head::Line => true,
@@ -535,7 +550,8 @@ impl Places {
 
     // Whether an operator is defined by its symbol.
     fn defines_symbol(&self, before: Standing, sign: Sign) -> bool
-        ensures { (ts : List Tok) (t : Tok) → sign ≡ sign_of t → IsEnd ts before → HasRead ts self.now
+        ensures names { after sign ≡ InfixRole → self.now.head ≡ Name → result ≡ true }
+        ensures symbol { (ts : List Tok) (t : Tok) → sign ≡ sign_of t → IsEnd ts before → HasRead ts self.now
             → result ≡ true → DefinesSymbol ts t }
     {
         if is_infix(sign) && self.is_behind_name(before.next) {
@@ -546,7 +562,8 @@ impl Places {
 
     // Whether a name that is defined was read.
     fn is_behind_name(&self, next: Next) -> bool
-        ensures { (ts : List Tok) (t : Tok) → next ≡ (standing_of (advances module_start ts)).next → HasRead ts self.now
+        ensures unit { self.now.head ≡ Name → result ≡ true }
+        ensures name { (ts : List Tok) (t : Tok) → next ≡ (standing_of (advances module_start ts)).next → HasRead ts self.now
             → result ≡ true → InHead (named (are [])) ts ⊎ InForm is_word Defines ts t }
     {
         match self.head {

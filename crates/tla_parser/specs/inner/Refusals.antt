@@ -3,8 +3,8 @@ use Rattle.std.specs.Prelude.{Bool, true, false, cond, List, Option, Some, None,
 use Rattle.tla_lexer.specs.declared.token.Token.{Token}
 use Rattle.tla_meaning.specs.declared.place.Place.{Place}
 use Rattle.tla_parser.specs.Beginnings.{Begins, FaultAt, IsFirst, LastAt, Nowhere, Whole, last_of}
-use Rattle.tla_parser.specs.Operators.{same_sign}
-use Rattle.tla_parser.specs.Refused.{HasParameter, InHead, Stands, are, binds_in_brackets, declares_constants, in_parentheses, is_listed, named}
+use Rattle.tla_parser.specs.Operators.{after, same_sign}
+use Rattle.tla_parser.specs.Refused.{HasParameter, HeadShows, InHead, Stands, are, binds_in_brackets, declares_constants, in_parentheses, is_listed, named}
 use Rattle.tla_parser.specs.Rules.{IsWritten, SpelledWithin}
 use Rattle.tla_parser.specs.Signs.{sign}
 use Rattle.tla_parser.specs.declared.fault.ParseFault.{ParseFault}
@@ -16,8 +16,9 @@ use Rattle.tla_parser.specs.declared.moves.Seen.{Seen}
 use Rattle.tla_parser.specs.declared.places.Places.{Places}
 use Rattle.tla_parser.specs.declared.places.Standing.{Standing}
 use Rattle.tla_parser.specs.inner.Derivations.{look}
+use Rattle.tla_parser.specs.declared.signs.Role.TheVariants.{InfixRole}
 use Rattle.tla_parser.specs.declared.signs.Sign.{Sign}
-use Rattle.tla_parser.specs.declared.signs.Sign.TheVariants.{ConstantWord, Dashes, Defines, LeftBracket, LeftParen, LocalWord, RightParen, Stray, Word}
+use Rattle.tla_parser.specs.declared.signs.Sign.TheVariants.{ConstantWord, Dashes, Defines, LeftBracket, LeftParen, LocalWord, ModuleWord, RightParen, Stray, Word}
 use Rattle.tla_parser.specs.inner.Recognition.{Status, advances, module_start}
 use Rattle.tla_parser.specs.inner.Standings.{heading, standing_of}
 
@@ -90,6 +91,12 @@ pub record IsStep (ts : List Token) (t : Token) (before behind : Standing) (seen
   pub seen_so : seen ≡ look t
   pub place_so : place ≡ t.place
 
+-- heads that are told by the signs alone
+pub record HeadTold (ts : List Token) (h : Head) : Type 0 where
+  pub line_so : InHead (are (Dashes ∷ [])) ts → h ≡ Line
+  pub local_so : InHead (are (LocalWord ∷ [])) ts → h ≡ Local
+  pub name_so : InHead (named (are [])) ts → h ≡ Name
+
 -- the tokens were read
 pub record HasRead (ts : List Token) (p : Places) : Type 0 where
   pub before_so : IsBefore (last_of ts) p.previous p.last
@@ -98,12 +105,15 @@ pub record HasRead (ts : List Token) (p : Places) : Type 0 where
   pub within_so : HasStart (SpelledWithin 400) ts p.within p.begun
   pub heading_so : p.begun ≡ false → heading (advances module_start ts) ≡ true
   pub head_so : IsHead p.head ts
+  pub head_told : HeadTold ts p.head
+  -- where nothing is refused no unit's head shows a form
+  pub none_so : p.refused ≡ None → Nowhere HeadShows ts
   pub awaits_so : p.awaits_blank ≡ true → (t : Token) → HasParameter ts t
 
 -- what is said of a refusal where no module was read
 abbrev pub IsStanding : ParseFault → List Token → Type 0
 IsStanding (NotSupported place form) ts = Stands form place ts
-IsStanding (BadGrammar place) ts = FaultAt IsWritten place ts
+IsStanding (BadGrammar place) ts = FaultAt IsWritten place ts × Nowhere HeadShows ts
 IsStanding (TooDeep place) ts = Unit {0}
 IsStanding (Memory e) ts = Unit {0}
 
@@ -121,3 +131,12 @@ IsEnd ts s = s ≡ standing_of (advances module_start ts)
 pub record IsReading (ts : List Token) (st : Status) (p : Places) : Type 0 where
   pub status_so : st ≡ advances module_start ts
   pub kept : HasRead ts p
+
+-- with the sign behind it the head of a unit shows no form
+abbrev pub ShowsNone : Head → Sign → Type 0
+ShowsNone h s = (s ≡ ModuleWord → h ≡ Line → ⊥) × (after s ≡ InfixRole → h ≡ Name → ⊥)
+
+-- Nothing was refused, and no head shows a form where reading sticks with the sign.
+pub record IsUnshown (p : Places) (before behind : Standing) (s : Sign) : Type 0 where
+  pub refused_so : p.refused ≡ None
+  pub none_so : behind.stuck ≡ true → before.stuck ≡ false → ShowsNone p.head s

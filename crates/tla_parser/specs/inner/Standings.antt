@@ -47,13 +47,17 @@ standing_of (running mode s c m) = standing mode s
 unfoldable pub led_by : Mark → Sign
 led_by UnitHead = Word
 led_by DeclaredName = VariableWord
-led_by InAssumption = AssumeWord
-led_by InStatement = TheoremWord
 led_by InstanceName = InstanceWord
 led_by RecursiveName = RecursiveWord
 led_by LocalUnit = LocalWord
 led_by BetweenUnits = Dashes
 led_by _ = Stray
+
+-- the same where an operand is to come
+unfoldable pub wanted_by : Mark → Sign
+wanted_by InAssumption = AssumeWord
+wanted_by InStatement = TheoremWord
+wanted_by _ = Stray
 
 unfoldable pub declaring : Sign → Sign
 declaring ConstantWord = VariableWord
@@ -61,7 +65,7 @@ declaring s = s
 
 abbrev pub leads : Sign → Next → Bool
 leads s (Reads m) = same_sign (declaring s) (led_by m)
-leads s (Wants m) = same_sign (declaring s) (led_by m)
+leads s (Wants m) = same_sign s (wanted_by m)
 leads s (Last m) = false
 leads s (Shut c) = false
 leads s Fail = false

@@ -6,10 +6,10 @@ use Rattle.tla_parser.specs.declared.places.Standing.{Standing}
 use Rattle.tla_parser.specs.declared.signs.Sign.TheVariants.{Dashes}
 use Rattle.tla_parser.proofs.places.Places.form.Goals as goal
 
-pub returns-in-ModuleWord : goal.returns-in-ModuleWord
-returns-in-ModuleWord c = λ ts t e q b h.
-    let r : InHead (are (Dashes ∷ [])) ts × Follows (λ u. c.args.self.now.last ≡ u.place) (last_of ts) = line_shown ts c.args.self.now h (c.is_behind_line.ensures c.if-is_behind_line.true) in
+pub returns-in-ModuleWord-clause-shows : goal.returns-in-ModuleWord-clause-shows
+returns-in-ModuleWord-clause-shows c = λ ts t e q b h.
+    let r : InHead (are (Dashes ∷ [])) ts × Follows (λ u. c.args.self.now.last ≡ u.place) (last_of ts) = line_shown ts c.args.self.now h (c.is_behind_line.ensures.told c.if-is_behind_line.true) in
     (sym e ∙ c.in-ModuleWord.is, r.0, r.1)
 
-pub returns-in-Underscore : goal.returns-in-Underscore
-returns-in-Underscore c = λ ts t e q b h. (sym e ∙ c.in-Underscore.is, q, c.takes_parameter.ensures ts t (ap (λ (x : Standing). x.next) b) h c.if-takes_parameter.true)
+pub returns-in-Underscore-clause-shows : goal.returns-in-Underscore-clause-shows
+returns-in-Underscore-clause-shows c = λ ts t e q b h. (sym e ∙ c.in-Underscore.is, q, c.takes_parameter.ensures ts t (ap (λ (x : Standing). x.next) b) h c.if-takes_parameter.true)

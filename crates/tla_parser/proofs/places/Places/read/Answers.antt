@@ -13,5 +13,6 @@ returns c = λ ts t s h.
       begun_so = c.has_begun-self.ensures ∙ ap (λ (b : Bool). c.args.self.now.begun || b) c.starts-begins.ensures;
       head_so = c.head_next-self.ensures ∙ ap (λ (b : Bool). head_next b c.args.self.now.head c.args.seen.sign) c.starts-begins.ensures;
        previous_so = refl; last_so = refl })
-    (c.refused_with-refused.ensures ts t s h)
+    c.refused_with-refused.ensures.none
+    (c.refused_with-refused.ensures.shown ts t s h)
     (c.awaits-awaits_blank.ensures ts t (ap (λ (x : Seen). x.sign) s.seen_so) s.before_so h)
