@@ -21,7 +21,7 @@ use Rattle.tla_parser.specs.inner.Standings.{behind_header, heading, standing_of
 abbrev pub read : List Token → Status
 read ts = advances module_start ts
 
-advances_append : (st : Status) (ts us : List Token) → advances st (ts ++ us) ≡ advances (advances st ts) us
+pub advances_append : (st : Status) (ts us : List Token) → advances st (ts ++ us) ≡ advances (advances st ts) us
 advances_append st [] us = refl
 advances_append st (t ∷ ts) us = advances_append (advance t st) ts us
 

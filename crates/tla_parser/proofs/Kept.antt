@@ -1,12 +1,14 @@
 -- What is kept of the tokens, one token later, and what it says at the end.
-use Rattle.std.proofs.Common.{ℕ, Bool, true, false, not, nat_le, List, Option, Some, None, IfSome, length, reverse, inl, inr, refl, sym, ap, subst, arith, append_assoc, ◌≡◌, ◌<◌, ◌⊎◌, ◌∷◌, ◌++◌, ◌&&◌, ◌||◌, ◌∙◌, []}
+use Rattle.std.proofs.Common.{ℕ, zero, suc, Bool, true, false, cond, not, nat_le, slice_get, unwrap_or, List, Option, Some, None, IfSome, length, reverse, inl, inr, refl, sym, ap, subst, arith, append_assoc, ◌≡◌, ◌<◌, ◌⊎◌, ◌∷◌, ◌++◌, ◌&&◌, ◌||◌, ◌∙◌, []}
 use Rattle.tla_lexer.specs.declared.token.Token.{Token}
 use Rattle.tla_meaning.specs.declared.place.Place.{Place}
-use Rattle.tla_parser.proofs.Faults.{begins_at, begins_within, header_tells, header_within, heading_kept, none_left, read, read_next, start_kept, within_kept}
+use Rattle.tla_parser.proofs.Faults.{begins_at, begins_tells, begins_within, header_tells, header_within, heading_kept, none_left, read, read_next, start_kept, within_kept}
 use Rattle.tla_parser.proofs.Laws.{clash, same_sign-is}
-use Rattle.tla_parser.proofs.Shown.{awaits_definition, awaits_end, awaits_name, awaits_parameter, constants_more, follows_so, head_kept, last_next, listed_more, module_sticks, nothing_goes, symbol_sticks, told_empty, told_kept, whole_before, Sticks}
+use Rattle.tla_parser.proofs.UnitHeads.{constants_more, head_kept, listed_more, told_empty, told_kept}
+use Rattle.tla_parser.proofs.Shown.{awaits_definition, awaits_end, awaits_name, awaits_parameter, follows_so, last_next, nothing_goes, whole_before}
+use Rattle.tla_parser.proofs.Sticks.{module_sticks, symbol_sticks, Sticks}
 use Rattle.tla_parser.proofs.Tracking.{Tells, fault_place, nowhere_empty, nowhere_kept}
-use Rattle.tla_parser.specs.Beginnings.{FaultAt, Follows, NoneLeft, Nowhere, Whole, ended, last_of}
+use Rattle.tla_parser.specs.Beginnings.{Begins, FaultAt, Follows, LastAt, NoneLeft, Nowhere, OfUnit, OneAt, Whole, ended, last_of}
 use Rattle.tla_parser.specs.Operators.{after, is_prefix, number_of, same_sign}
 use Rattle.tla_parser.specs.Refused.{BindsTuple, DefinesSymbol, HasParameter, HeadShows, InForm, InHead, Shows, Stands, are, before_names, before_parameter, declares_constants, in_parentheses, is_listed, is_word, named}
 use Rattle.tla_parser.specs.Rules.{IsWritten, SpelledWithin}
@@ -28,7 +30,7 @@ use Rattle.tla_parser.specs.declared.signs.Sign.{Sign}
 use Rattle.tla_parser.specs.declared.signs.Sign.TheVariants.{Comma, Dashes, Defines, LeftParen, RightParen, Stray, Word}
 use Rattle.tla_parser.specs.inner.Derivations.{look}
 use Rattle.tla_parser.specs.inner.Recognition.{advance, advances, module_start, stood}
-use Rattle.tla_parser.specs.inner.Refusals.{HasRead, HasStart, HeadTold, IsBefore, IsEnd, IsHead, IsReading, IsShown, IsStep, IsUnshown, faulty, head_next, renewed}
+use Rattle.tla_parser.specs.inner.Refusals.{AllBegin, HasRead, HasStart, HeadTold, IsBefore, IsEnd, IsHead, IsReading, IsShown, IsStep, IsUnshown, faulty, head_next, renewed}
 use Rattle.tla_parser.specs.inner.Standings.{behind_header, binds_names, heading, in_header, next_ends_unit, standing, standing_of, starts}
 
 -- what is said with a token more
@@ -39,6 +41,9 @@ pub record Moved (p q : Places) (before behind : Standing) (seen : Seen) (place 
   pub head_so : q.head ≡ head_next (starts seen.sign before behind) p.head seen.sign
   pub previous_so : q.previous ≡ seen.sign
   pub last_so : q.last ≡ place
+  pub kept : Bool
+  pub kept_so : kept ≡ true → starts seen.sign before behind ≡ true
+  pub starts_so : q.starts.items ≡ cond kept (p.starts.items ++ (place ∷ [])) p.starts.items
 
 pub renewed_as : (a b h k : Bool) (place : Place) (o : Option Place) → a ≡ b → h ≡ k → renewed (a || h) place o ≡ renewed (b || k) place o
 renewed_as a b h k place o e f = cc
@@ -55,6 +60,47 @@ none_kept ts t p q before behind seen place s h u (inr m) =
     let k : Sticks ts t = symbol_sticks ts t m.0 m.1 in
     (u.none_so (ap (λ (x : Standing). x.stuck) s.behind_so ∙ k.behind_so) (ap (λ (x : Standing). x.stuck) s.before_so ∙ k.before_so)).1 (ap (λ (x : Seen). after x.sign) s.seen_so ∙ m.0) (h.head_told.name_so m.1)
 
+one_later : (place : Place) (ts : List Token) (t : Token) → OneAt (Begins IsWritten) place ts → OneAt (Begins IsWritten) place (ts ++ (t ∷ []))
+one_later place ts t o = record {
+  front = o.front;
+  token = o.token;
+  rest = o.rest ++ (t ∷ []);
+  tokens_so = ap (λ (us : List Token). us ++ (t ∷ [])) o.tokens_so ∙ append_assoc o.front (o.token ∷ o.rest) (t ∷ []);
+  passes = o.passes;
+  place_so = o.place_so;
+}
+
+all_later : (xs : List Place) (ts : List Token) (t : Token) → AllBegin xs ts → AllBegin xs (ts ++ (t ∷ []))
+all_later [] ts t h = tt
+all_later (x ∷ xs) ts t h = (one_later x ts t h.0, all_later xs ts t h.1)
+
+all_more : (xs : List Place) (y : Place) (ts : List Token) → AllBegin xs ts → OneAt (Begins IsWritten) y ts → AllBegin (xs ++ (y ∷ [])) ts
+all_more [] y ts h o = (o, tt)
+all_more (x ∷ xs) y ts h o = (h.0, all_more xs y ts h.1 o)
+
+all_kept : (b : Bool) (xs : List Place) (place : Place) (ts : List Token) (t : Token) → place ≡ t.place → (b ≡ true → begins_at ts t ≡ true) → AllBegin xs ts → AllBegin (cond b (xs ++ (place ∷ [])) xs) (ts ++ (t ∷ []))
+all_kept false xs place ts t e k h = all_later xs ts t h
+all_kept true xs place ts t e k h = all_more xs place (ts ++ (t ∷ [])) (all_later xs ts t h) (record { front = ts; token = t; rest = []; tokens_so = refl; passes = (begins_tells ts t).yes (k refl); place_so = e })
+
+-- ---- the place of a unit
+
+one_of : (xs : List Place) (i : ℕ) (place : Place) (ts : List Token) → AllBegin xs ts → slice_get xs i ≡ Some place → OneAt (Begins IsWritten) place ts
+one_of [] i place ts h e = absurd (cc)
+one_of (x ∷ xs) zero place ts h e = subst (λ (y : Place). OneAt (Begins IsWritten) y ts) (some_as e) h.0
+  where
+    some_as : Some x ≡ Some place → x ≡ place
+    some_as q = cc
+one_of (x ∷ xs) (suc i) place ts h e = one_of xs i place ts h.1 e
+
+pub unit_of : (ts : List Token) (p : Places) (i : ℕ) (place : Place) → HasRead ts p → slice_get p.starts.items i ≡ Some place → OfUnit IsWritten place ts
+unit_of ts p i place h e = inl (one_of p.starts.items i place ts h.starts_so e)
+
+pub unit_else : (ts : List Token) (p : Places) (o : Option Place) (g : Bool) (place : Place) → HasStart IsWritten ts o g → place ≡ unwrap_or o p.last → OfUnit IsWritten place ts
+unit_else ts p None true place s e = absurd (cc)
+unit_else ts p None false place s e = inr (subst (λ (us : List Token). Nowhere (Begins IsWritten) us) (sym s.0) (nowhere_empty (Begins IsWritten)))
+unit_else ts p (Some q) false place s e = inr s.0
+unit_else ts p (Some q) true place s e = inl (record { front = s.front; token = s.token; rest = s.rest; tokens_so = s.tokens_so; passes = s.passes; place_so = e ∙ s.place_so })
+
 pub kept : (ts : List Token) (t : Token) (p q : Places) (before behind : Standing) (seen : Seen) (place : Place) → IsStep ts t before behind seen place → HasRead ts p → Moved p q before behind seen place → (q.refused ≡ None → IsUnshown p before behind seen.sign) → IsShown (ts ++ (t ∷ [])) q.refused → (q.awaits_blank ≡ true → (u : Token) → HasParameter (ts ++ (t ∷ [])) u) → HasRead (ts ++ (t ∷ [])) q
 kept ts t p q before behind seen place s h m unshown shown awaits =
     let b : starts seen.sign before behind ≡ begins_at ts t = starts_as seen.sign (sign t) before _ behind _ (ap (λ (x : Seen). x.sign) s.seen_so) s.before_so s.behind_so in
@@ -67,6 +113,7 @@ kept ts t p q before behind seen place s h m unshown shown awaits =
       within_so = subst (λ (o : Option Place). HasStart (SpelledWithin 400) (ts ++ (t ∷ [])) o q.begun) (sym (m.within_so ∙ start_as (starts seen.sign before behind && nat_le behind.levels 400) (begins_within ts t) (behind_header before) _ place t.place p.begun p.within (within_as _ _ behind _ b s.behind_so) (ap behind_header s.before_so) s.place_so))
         (subst (λ (g : Bool). HasStart (SpelledWithin 400) (ts ++ (t ∷ [])) (renewed (begins_within ts t || (not p.begun && behind_header (standing_of (read ts)))) t.place p.within) g) (sym (m.begun_so ∙ ap (λ (x : Bool). p.begun || x) b))
         (within_kept ts t p.within p.begun h.heading_so h.within_so));
+      starts_so = subst (λ (xs : List Place). AllBegin xs (ts ++ (t ∷ []))) (sym m.starts_so) (all_kept m.kept p.starts.items place ts t s.place_so (λ e. sym b ∙ m.kept_so e) h.starts_so);
       heading_so = λ e. heading_kept ts t p.begun h.heading_so (sym (m.begun_so ∙ ap (λ (x : Bool). p.begun || x) b) ∙ e);
       head_so = subst (λ (x : Head). IsHead x (ts ++ (t ∷ []))) (sym (m.head_so ∙ head_as _ _ p.head seen.sign (sign t) b (ap (λ (x : Seen). x.sign) s.seen_so))) (head_kept ts t p.head h.head_so);
       head_told = subst (λ (x : Head). HeadTold (ts ++ (t ∷ [])) x) (sym (m.head_so ∙ head_as _ _ p.head seen.sign (sign t) b (ap (λ (x : Seen). x.sign) s.seen_so))) (told_kept ts t p.head h.head_told);
@@ -190,8 +237,9 @@ header_first : heading module_start ≡ true
 unfolding in_header
 header_first = refl
 
-pub start_empty : (first : Place) (p : Places) → p.start ≡ None → p.within ≡ None → p.begun ≡ false → p.previous ≡ Stray → p.head ≡ Elsewhere → p.refused ≡ None → p.awaits_blank ≡ false → HasRead [] p
-start_empty first p s w b v h r a = record {
+pub start_empty : (first : Place) (p : Places) → p.starts.items ≡ [] → p.start ≡ None → p.within ≡ None → p.begun ≡ false → p.previous ≡ Stray → p.head ≡ Elsewhere → p.refused ≡ None → p.awaits_blank ≡ false → HasRead [] p
+start_empty first p l s w b v h r a = record {
+  starts_so = subst (λ (xs : List Place). AllBegin xs []) (sym l) tt;
   before_so = v;
   refused_so = subst (IsShown []) (sym r) tt;
   start_so = subst (λ (o : Option Place). HasStart IsWritten [] o p.begun) (sym s) (refl, b);

@@ -25,5 +25,7 @@ pub mod Headers
 pub mod Tracking
 pub mod Faults
 pub mod Opened
+pub mod UnitHeads
 pub mod Shown
+pub mod Sticks
 pub mod Kept

@@ -30,7 +30,7 @@ use Rattle.tla_parser.specs.inner.Checked.{IsChecked}
 use Rattle.tla_parser.specs.Written.{Parts, deepest, tokens_of, top}
 use Rattle.tla_parser.specs.Rules.{IsModule, IsWritten, SpelledWithin}
 use Rattle.tla_parser.specs.inner.Derivations.{ahead, posts}
-use Rattle.tla_parser.specs.inner.Refusals.{IsStanding, is_bad}
+use Rattle.tla_parser.specs.inner.Refusals.{IsOfUnit, IsStanding, is_bad}
 use Rattle.tla_parser.specs.inner.Recognition.{advances, code_read, ended_module, ended_stack, finished, is_of_grammar, levels_read, module_start, outcome_mode, status}
 
 pub record IsRead (ts : List Tok) : Type 0 where
@@ -190,11 +190,11 @@ refusal_so (NotSupported p form) ts h s n = (n, s)
 refusal_so (TooDeep p) ts h s n = absurd (cc)
 refusal_so (Memory e) ts h s n = tt
 
-bad_so : (e : ParseFault) (ts : List Tok) → is_bad e ≡ true → IsWritten ts → NothingSpells ts → IsRefusal e ts
-bad_so (BadGrammar p) ts h w n = (n, inr w)
-bad_so (NotSupported p form) ts h w n = absurd (cc)
-bad_so (TooDeep p) ts h w n = absurd (cc)
-bad_so (Memory e) ts h w n = absurd (cc)
+bad_so : (e : ParseFault) (ts : List Tok) → IsOfUnit ts e → IsWritten ts → NothingSpells ts → IsRefusal e ts
+bad_so (BadGrammar p) ts h w n = (n, inr (w, h))
+bad_so (NotSupported p form) ts h w n = absurd h
+bad_so (TooDeep p) ts h w n = absurd h
+bad_so (Memory e) ts h w n = absurd h
 
 -- what the answer of the code says of the recognizer
 pub record Reached (ts : List Tok) : Type 0 where
@@ -234,9 +234,9 @@ pub answer_levels : (ts : List Tok) (x : Module) (r : Result Module ParseFault) 
 answer_levels ts x (Ok m) h = h
 answer_levels ts x (Err e) h = tt
 
-pub answer_fault : (ts : List Tok) (x : Module) (r : Result Module ParseFault) → IsWritten ts → Answered ts x → IsChecked x r → IfErr r (λ e. IsRefusal e ts)
-answer_fault ts x (Ok m) w a h = tt
-answer_fault ts x (Err e) w a h = bad_so e ts h.0 w (a.repeats h.1)
+pub answer_fault : (ts : List Tok) (x : Module) (r : Result Module ParseFault) → IsWritten ts → Answered ts x → IsChecked x r → IfErr r (λ e. IsOfUnit ts e) → IfErr r (λ e. IsRefusal e ts)
+answer_fault ts x (Ok m) w a h u = tt
+answer_fault ts x (Err e) w a h u = bad_so e ts u w (a.repeats h.1)
 
 -- what has few levels is written by the rules
 pub within_written : (ts : List Tok) → SpelledWithin 400 ts → IsWritten ts

@@ -8,7 +8,7 @@ use Rattle.tla_parser.specs.Aliases.{aliases_of}
 use Rattle.tla_parser.specs.Fields.{units_differ}
 use Rattle.tla_parser.specs.Modules.{module_tree}
 use Rattle.tla_parser.specs.Spelling.{items}
-use Rattle.tla_parser.specs.Beginnings.{FaultAt, Nowhere}
+use Rattle.tla_parser.specs.Beginnings.{FaultAt, Nowhere, OfUnit}
 use Rattle.tla_parser.specs.Refused.{HeadShows, Stands}
 use Rattle.tla_parser.specs.Rules.{IsModule, IsWritten, SpelledWithin}
 use Rattle.tla_parser.specs.Written.{Parts, tokens_of}
@@ -34,7 +34,7 @@ NothingSpells ts = (m : Module) → Spells m ts → ⊥
 -- Why the tokens are refused. Where a unit is not whole, its place is named, and else that of a unit in which a record
 -- names a field twice.
 abbrev pub IsRefusal : ParseFault → List Token → Type 0
-IsRefusal (BadGrammar place) ts = NothingSpells ts × ((FaultAt IsWritten place ts × Nowhere HeadShows ts) ⊎ IsWritten ts)
+IsRefusal (BadGrammar place) ts = NothingSpells ts × ((FaultAt IsWritten place ts × Nowhere HeadShows ts) ⊎ (IsWritten ts × OfUnit IsWritten place ts))
 IsRefusal (NotSupported place form) ts = NothingSpells ts × Stands form place ts
 IsRefusal (TooDeep place) ts = IsWritten ts × (SpelledWithin 400 ts → ⊥) × FaultAt (SpelledWithin 400) place ts
 IsRefusal (Memory e) ts = Unit {0}

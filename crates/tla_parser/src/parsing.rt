@@ -11,7 +11,7 @@ ghost use Rattle.tla_parser.specs.Written.{Parts};
 ghost use Rattle.tla_parser.specs.inner.Derivations.{posts};
 ghost use Rattle.tla_parser.specs.inner.Moves.{is_finished};
 ghost use Rattle.tla_parser.specs.inner.Notes.{noted};
-ghost use Rattle.tla_parser.specs.inner.Refusals.{IsReading};
+ghost use Rattle.tla_parser.specs.inner.Refusals.{HasRead, IsOfUnit, IsReading};
 ghost use Rattle.tla_parser.specs.inner.Recognition.{advance, advances, ended_module, module_start, outcome_mode, outcome_stack, stood};
 
 use crate::aliases::aliases_of;
@@ -157,7 +157,8 @@ fn noted(tree: Module, aliases: List<(Text, Text)>) -> Module
 
 // The module, where no record of it names a field twice.
 fn checked(tree: Module, places: &Places) -> Result<Module, ParseFault>
-    ensures { IsChecked tree result }
+    ensures told { IsChecked tree result }
+    ensures place { (ts : List Tok) → HasRead ts places.now → IfErr result (λ e. IsOfUnit ts e) }
 {
     match repeating(tree.units.as_slice()) {
         None => Ok(tree),

@@ -1,10 +1,10 @@
 // Where units begin, and what is refused where reading sticks.
-ghost use Rattle.std.specs.Prelude.{◌≡◌, ◌<◌, ◌⊎◌, ◌++◌, ◌∷◌, ◌&&◌, ◌||◌, [], true, not, nat_le, length, List, None, Option, reverse, option_copied, IfOk, IfSome};
+ghost use Rattle.std.specs.Prelude.{◌≡◌, ◌<◌, ◌⊎◌, ◌++◌, ◌∷◌, ◌&&◌, ◌||◌, [], true, cond, not, nat_le, length, List, None, Option, reverse, option_copied, IfOk, IfSome};
 ghost use Rattle.tla_lexer.specs.declared.token.Token.{Token as Tok};
-ghost use Rattle.tla_parser.specs.Beginnings.{FaultAt, begins_unit};
+ghost use Rattle.tla_parser.specs.Beginnings.{FaultAt, OfUnit, begins_unit};
 ghost use Rattle.tla_parser.specs.Operators.{after, is_prefix};
 ghost use Rattle.tla_parser.specs.Refused.{BindsTuple, DefinesSymbol, HasParameter, InForm, InHead, Shows, are, before_names, before_parameter, is_listed, is_word, named};
-ghost use Rattle.tla_parser.specs.Rules.{SpelledWithin};
+ghost use Rattle.tla_parser.specs.Rules.{IsWritten, SpelledWithin};
 ghost use Rattle.tla_parser.specs.Signs.{sign as sign_of};
 ghost use Rattle.tla_parser.specs.declared.signs.Role.TheVariants.{InfixRole};
 ghost use Rattle.tla_parser.specs.declared.moves.Mark.TheVariants.{BehindParameter, LocalHead, LocalParameter};
@@ -256,7 +256,16 @@ fn renewed(begins: bool, header: bool, place: Place, old: Option<Place>) -> Opti
     }
 }
 
-fn keep(starts: &mut Vec<Place>, is_new: bool, place: Place) -> Result<(), AllocError> {
+// Whether a unit begins that is one of the tree.
+fn is_kept(begins: bool, sign: Sign) -> bool
+    ensures { result ≡ true → begins ≡ true }
+{
+    begins && !sign.is(Sign::Dashes)
+}
+
+fn keep(starts: &mut Vec<Place>, is_new: bool, place: Place) -> Result<(), AllocError>
+    ensures { IfOk result (λ _. starts.new.items ≡ cond is_new (starts.old.items ++ (place ∷ [])) starts.old.items) }
+{
     if is_new {
         starts.push(place)?;
     }
@@ -441,7 +450,7 @@ impl Places {
         self.last = place;
         self.refused = refused;
         self.awaits_blank = awaits_blank;
-        keep(&mut self.starts, begins && !seen.sign.is(Sign::Dashes), place)?;
+        keep(&mut self.starts, is_kept(begins, seen.sign), place)?;
         Ok(())
     }
 
@@ -624,10 +633,12 @@ impl Places {
     }
 
     /// Where the unit of this index begins.
-    pub(crate) fn of_unit(&self, index: usize) -> Place {
+    pub(crate) fn of_unit(&self, index: usize) -> Place
+        ensures { (ts : List Tok) → HasRead ts self.now → OfUnit IsWritten result ts }
+    {
         match self.starts.as_slice().get(index) {
             Some(place) => *place,
-            None => self.last,
+            None => self.start.unwrap_or(self.last),
         }
     }
 }

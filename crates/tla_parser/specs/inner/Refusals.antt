@@ -2,7 +2,7 @@
 use Rattle.std.specs.Prelude.{Bool, true, false, cond, List, Option, Some, None, ◌≡◌, ◌⊎◌, ◌∷◌, ◌++◌, []}
 use Rattle.tla_lexer.specs.declared.token.Token.{Token}
 use Rattle.tla_meaning.specs.declared.place.Place.{Place}
-use Rattle.tla_parser.specs.Beginnings.{Begins, FaultAt, IsFirst, LastAt, Nowhere, Whole, last_of}
+use Rattle.tla_parser.specs.Beginnings.{Begins, FaultAt, IsFirst, LastAt, Nowhere, OfUnit, OneAt, Whole, last_of}
 use Rattle.tla_parser.specs.Operators.{after, same_sign}
 use Rattle.tla_parser.specs.Refused.{HasParameter, HeadShows, InHead, Stands, are, binds_in_brackets, declares_constants, in_parentheses, is_listed, named}
 use Rattle.tla_parser.specs.Rules.{IsWritten, SpelledWithin}
@@ -97,12 +97,18 @@ pub record HeadTold (ts : List Token) (h : Head) : Type 0 where
   pub local_so : InHead (are (LocalWord ∷ [])) ts → h ≡ Local
   pub name_so : InHead (named (are [])) ts → h ≡ Name
 
+-- a unit begins at each of the places
+abbrev pub AllBegin : List Place → List Token → Type 0
+AllBegin [] ts = Unit {0}
+AllBegin (x ∷ xs) ts = OneAt (Begins IsWritten) x ts × AllBegin xs ts
+
 -- the tokens were read
 pub record HasRead (ts : List Token) (p : Places) : Type 0 where
   pub before_so : IsBefore (last_of ts) p.previous p.last
   pub refused_so : IsShown ts p.refused
   pub start_so : HasStart IsWritten ts p.start p.begun
   pub within_so : HasStart (SpelledWithin 400) ts p.within p.begun
+  pub starts_so : AllBegin p.starts.items ts
   pub heading_so : p.begun ≡ false → heading (advances module_start ts) ≡ true
   pub head_so : IsHead p.head ts
   pub head_told : HeadTold ts p.head
@@ -140,3 +146,10 @@ ShowsNone h s = (s ≡ ModuleWord → h ≡ Line → ⊥) × (after s ≡ InfixR
 pub record IsUnshown (p : Places) (before behind : Standing) (s : Sign) : Type 0 where
   pub refused_so : p.refused ≡ None
   pub none_so : behind.stuck ≡ true → before.stuck ≡ false → ShowsNone p.head s
+
+-- a refusal of a module that is read stands where a unit begins
+abbrev pub IsOfUnit : List Token → ParseFault → Type 0
+IsOfUnit ts (BadGrammar place) = OfUnit IsWritten place ts
+IsOfUnit ts (NotSupported place form) = ⊥
+IsOfUnit ts (TooDeep place) = ⊥
+IsOfUnit ts (Memory e) = ⊥

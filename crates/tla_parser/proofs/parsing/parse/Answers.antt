@@ -47,7 +47,7 @@ returns-clause-spells c =
       so = c.in_ok-mode.ensures.state ∙ ap (λ (st : Status). advances st c.as_slice-source.result.now) c.in_ok-recognizer.ensures ∙ ap (advances module_start) c.as_slice-source.ensures;
     } in
     let a : Answered c.args.tokens.now c.noted-module.result = answered c.args.tokens.now r c.in-Some.levels c.noted-module.result (sym c.outcome.ensures ∙ c.in-Some.is) (λ (ps : Parts) e. noted_so c.args.tokens.now c.as_slice-source.result.now c.noted-module.result c.in_ok-tree-in-Some.tree c.in_ok-aliases-in-Some.aliases ps c.noted-module.ensures c.in_ok-aliases-in-Some.ensures c.as_slice-source.ensures (c.in_ok-tree-in-Some.ensures ps e)) in
-    answer_spells c.args.tokens.now c.noted-module.result c.checked.result a c.checked.ensures
+    answer_spells c.args.tokens.now c.noted-module.result c.checked.result a c.checked.ensures.told
 
 pub returns-clause-one : goal.returns-clause-one
 returns-clause-one c = λ m s.
@@ -59,7 +59,7 @@ returns-clause-one c = λ m s.
       so = c.in_ok-mode.ensures.state ∙ ap (λ (st : Status). advances st c.as_slice-source.result.now) c.in_ok-recognizer.ensures ∙ ap (advances module_start) c.as_slice-source.ensures;
     } in
     let a : Answered c.args.tokens.now c.noted-module.result = answered c.args.tokens.now r c.in-Some.levels c.noted-module.result (sym c.outcome.ensures ∙ c.in-Some.is) (λ (ps : Parts) e. noted_so c.args.tokens.now c.as_slice-source.result.now c.noted-module.result c.in_ok-tree-in-Some.tree c.in_ok-aliases-in-Some.aliases ps c.noted-module.ensures c.in_ok-aliases-in-Some.ensures c.as_slice-source.ensures (c.in_ok-tree-in-Some.ensures ps e)) in
-    answer_one c.args.tokens.now c.noted-module.result c.checked.result a c.checked.ensures m s
+    answer_one c.args.tokens.now c.noted-module.result c.checked.result a c.checked.ensures.told m s
 
 pub returns-clause-levels : goal.returns-clause-levels
 returns-clause-levels c =
@@ -81,5 +81,6 @@ returns-clause-fault c =
       margin = c.read_all.new.recognizer.margin;
       so = c.in_ok-mode.ensures.state ∙ ap (λ (st : Status). advances st c.as_slice-source.result.now) c.in_ok-recognizer.ensures ∙ ap (advances module_start) c.as_slice-source.ensures;
     } in
+    let i : IsReading c.args.tokens.now (stood c.in_ok-mode.mode c.read_all.new.recognizer) c.read_all.new.places = subst (λ (ts : List Tok). IsReading ts (stood c.in_ok-mode.mode c.read_all.new.recognizer) c.read_all.new.places) c.as_slice-source.ensures (c.in_ok-mode.ensures.places (record { status_so = c.in_ok-recognizer.ensures; kept = c.new-places.ensures })) in
     let a : Answered c.args.tokens.now c.noted-module.result = answered c.args.tokens.now r c.in-Some.levels c.noted-module.result (sym c.outcome.ensures ∙ c.in-Some.is) (λ (ps : Parts) e. noted_so c.args.tokens.now c.as_slice-source.result.now c.noted-module.result c.in_ok-tree-in-Some.tree c.in_ok-aliases-in-Some.aliases ps c.noted-module.ensures c.in_ok-aliases-in-Some.ensures c.as_slice-source.ensures (c.in_ok-tree-in-Some.ensures ps e)) in
-    answer_fault c.args.tokens.now c.noted-module.result c.checked.result (within_written c.args.tokens.now (reached_within c.args.tokens.now r c.in-Some.levels (sym c.outcome.ensures ∙ c.in-Some.is) (omega (arith, c.if-levels-gt-LEVELS.false)))) a c.checked.ensures
+    answer_fault c.args.tokens.now c.noted-module.result c.checked.result (within_written c.args.tokens.now (reached_within c.args.tokens.now r c.in-Some.levels (sym c.outcome.ensures ∙ c.in-Some.is) (omega (arith, c.if-levels-gt-LEVELS.false)))) a c.checked.ensures.told (c.checked.ensures.place c.args.tokens.now i.kept)
