@@ -34,7 +34,8 @@ pub(crate) const DEEP: &str = r#"---- MODULE M ----;A == %TRUE;====  => deep 2:1
 "#;
 
 /// Forms of the language that are read nowhere.
-pub(crate) const NOT_READ: &str = r#"---- MODULE M ----;A == 1;---- MODULE N ----;====  => nested MODULE 3:1
+pub(crate) const NOT_READ: &str =
+    r#"---- MODULE M ----;A == 1;---- MODULE N ----;====  => nested MODULE 3:1
 ---- MODULE M ----;LOCAL a + b == 1;====  => operator definition by symbol 2:9
 ---- MODULE M ----;VARIABLE x;- a == 1;====  => operator definition by symbol 3:1
 ---- MODULE M ----;a + b == 1;B == (;====  => operator definition by symbol 2:3

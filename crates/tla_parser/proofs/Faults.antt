@@ -1,5 +1,5 @@
 -- Where the last unit begins, by the reading with a stack.
-use Rattle.std.proofs.Common.{ℕ, Bool, true, false, not, List, Option, Some, None, inl, inr, refl, sym, ap, subst, arith, nat_le, append_assoc, leb-true, leb-false, ◌≡◌, ◌≤◌, ◌<◌, ◌⊎◌, ◌∷◌, ◌++◌, ◌&&◌, ◌||◌, ◌∙◌, []}
+use Rattle.std.proofs.Common.{ℕ, Bool, true, false, not, List, Option, Some, None, inl, inr, refl, sym, ap, subst, nat_le, leb-true, leb-false, ◌≡◌, ◌⊎◌, ◌∷◌, ◌++◌, ◌&&◌, ◌||◌, ◌∙◌, []}
 use Rattle.tla_lexer.specs.declared.token.Token.{Token}
 use Rattle.tla_meaning.specs.declared.place.Place.{Place}
 use Rattle.tla_parser.proofs.Basics.{and_both, either}
@@ -7,13 +7,12 @@ use Rattle.tla_parser.proofs.Headers.{heading_ends, heading_goes, heading_levels
 use Rattle.tla_parser.proofs.Laws.{clash}
 use Rattle.tla_parser.proofs.Starts.{Based, advances_based, started, started_levels}
 use Rattle.tla_parser.proofs.Top.{IsRead, module_reads, read_module, too_deep, within_levels}
-use Rattle.tla_parser.proofs.Tracking.{Tells, fault_place, start_next}
-use Rattle.tla_parser.specs.Beginnings.{Begins, FaultAt, Follows, NoneLeft, Whole, begins_unit, ended, last_of}
+use Rattle.tla_parser.proofs.Tracking.{Tells, start_next}
+use Rattle.tla_parser.specs.Beginnings.{Begins, Follows, NoneLeft, Whole, begins_unit, ended, last_of}
 use Rattle.tla_parser.specs.Rules.{IsWritten, SpelledWithin}
 use Rattle.tla_parser.specs.Signs.{sign}
-use Rattle.tla_parser.specs.declared.places.Standing.{Standing}
 use Rattle.tla_parser.specs.inner.Moves.{in_units}
-use Rattle.tla_parser.specs.inner.Recognition.{Status, advance, advances, finished, levels_read, lost, module_start}
+use Rattle.tla_parser.specs.inner.Recognition.{Status, advance, advances, finished, levels_read, module_start}
 use Rattle.tla_parser.specs.inner.Refusals.{HasStart, renewed}
 use Rattle.tla_parser.specs.inner.Standings.{behind_header, heading, standing_of, starts}
 
@@ -46,7 +45,7 @@ written_tells ts = record {
 within_tells : (ts : List Token) → Tells (finished (read ts) && nat_le (levels_read (read ts)) 400) (SpelledWithin 400 ts)
 within_tells ts = record {
   yes = λ e. let b : (finished (read ts) ≡ true) × (nat_le (levels_read (read ts)) 400 ≡ true) = and_both (finished (read ts)) (nat_le (levels_read (read ts)) 400) e in
-    within_levels ts b.0 (leb-true (levels_read (read ts)) 400 b.1);
+      within_levels ts b.0 (leb-true (levels_read (read ts)) 400 b.1);
   no = λ e w. not_within e w (either (nat_le (levels_read (read ts)) 400)) (module_reads ts w.written w.by_rules w.tokens_so);
 }
   where
@@ -78,16 +77,16 @@ begins_levels ts t e =
 pub begins_tells : (ts : List Token) (t : Token) → Tells (begins_at ts t) (Begins IsWritten ts t)
 begins_tells ts t = record {
   yes = λ e. let b : begins_unit (sign t) ≡ true = (and_both (begins_unit (sign t)) _ e).0 in
-    (b, (written_tells (ts ++ (ended t ∷ []))).yes (sym (begins_is ts t b) ∙ e));
+      (b, (written_tells (ts ++ (ended t ∷ []))).yes (sym (begins_is ts t b) ∙ e));
   no = λ e w. (written_tells (ts ++ (ended t ∷ []))).no (sym (begins_is ts t w.0) ∙ e) w.1;
 }
 
 within_begins : (ts : List Token) (t : Token) → begins_unit (sign t) ≡ true → begins_within ts t ≡ (finished (read (ts ++ (ended t ∷ []))) && nat_le (levels_read (read (ts ++ (ended t ∷ [])))) 400)
 within_begins ts t b = elim (either (begins_at ts t)) [
-    | inl e ↦ (let l : (standing_of (read (ts ++ (t ∷ [])))).levels ≡ levels_read (read (ts ++ (ended t ∷ []))) = begins_levels ts t e in
-        both_true (begins_at ts t) (finished (read (ts ++ (ended t ∷ [])))) _ _ (begins_is ts t b) (ap (λ (n : ℕ). nat_le n 400) l))
-    | inr e ↦ both_false (begins_at ts t) (finished (read (ts ++ (ended t ∷ [])))) _ _ e (begins_is ts t b)
-  ]
+  | inl e ↦ (let l : (standing_of (read (ts ++ (t ∷ [])))).levels ≡ levels_read (read (ts ++ (ended t ∷ []))) = begins_levels ts t e in
+      both_true (begins_at ts t) (finished (read (ts ++ (ended t ∷ [])))) _ _ (begins_is ts t b) (ap (λ (n : ℕ). nat_le n 400) l))
+  | inr e ↦ both_false (begins_at ts t) (finished (read (ts ++ (ended t ∷ [])))) _ _ e (begins_is ts t b)
+]
   where
     both_true : (x y p q : Bool) → x ≡ y → p ≡ q → (x && p) ≡ (y && q)
     both_true x y p q e k = cc
@@ -98,7 +97,7 @@ within_begins ts t b = elim (either (begins_at ts t)) [
 pub within_begins_tells : (ts : List Token) (t : Token) → Tells (begins_within ts t) (Begins (SpelledWithin 400) ts t)
 within_begins_tells ts t = record {
   yes = λ e. let b : begins_unit (sign t) ≡ true = (and_both (begins_unit (sign t)) _ (and_both (begins_at ts t) _ e).0).0 in
-    (b, (within_tells (ts ++ (ended t ∷ []))).yes (sym (within_begins ts t b) ∙ e));
+      (b, (within_tells (ts ++ (ended t ∷ []))).yes (sym (within_begins ts t b) ∙ e));
   no = λ e w. (within_tells (ts ++ (ended t ∷ []))).no (sym (within_begins ts t w.0) ∙ e) w.1;
 }
 
@@ -125,9 +124,9 @@ header_within ts t h =
 -- the first unit begins within the levels
 first_within : (ts : List Token) (t : Token) → heading (read ts) ≡ true → begins_within ts t ≡ begins_at ts t
 first_within ts t h = elim (either (begins_at ts t)) [
-    | inl e ↦ few (begins_at ts t) (standing_of (read (ts ++ (t ∷ [])))).levels (begins_levels ts t e ∙ no_levels ts (ended t) h)
-    | inr e ↦ none (begins_at ts t) _ e
-  ]
+  | inl e ↦ few (begins_at ts t) (standing_of (read (ts ++ (t ∷ [])))).levels (begins_levels ts t e ∙ no_levels ts (ended t) h)
+  | inr e ↦ none (begins_at ts t) _ e
+]
   where
     few : (b : Bool) (n : ℕ) → n ≡ 0 → (b && nat_le n 400) ≡ b
     few true n e = rw e refl

@@ -1,10 +1,9 @@
 -- Before any unit the header is read, and an end may stand behind the whole of it alone.
 use Rattle.std.proofs.Common.{nat_lt, ◌==◌}
-use Rattle.std.proofs.Common.{ℕ, Bool, true, false, cond, not, List, inl, inr, refl, sym, ap, subst, arith, eqb-true, ltb-true, ◌≡◌, ◌⊎◌, ◌<◌, ◌+◌, ◌∷◌, ◌++◌, ◌&&◌, ◌||◌, ◌∙◌, []}
+use Rattle.std.proofs.Common.{ℕ, Bool, true, false, not, List, inl, inr, refl, sym, ap, subst, arith, eqb-true, ltb-true, ◌≡◌, ◌⊎◌, ◌<◌, ◌+◌, ◌∷◌, ◌++◌, ◌&&◌, ◌||◌, ◌∙◌, []}
 use Rattle.tla_lexer.specs.declared.token.Token.{Token as Tok}
 use Rattle.tla_parser.proofs.Basics.{and_both, either, not_true, or_cases}
 use Rattle.tla_parser.proofs.Laws.{clash, same_sign-is}
-use Rattle.tla_parser.proofs.Starts.{Matched}
 use Rattle.tla_parser.specs.Beginnings.{begins_unit, ended}
 use Rattle.tla_parser.specs.Operators.{number_of, same_sign}
 use Rattle.tla_parser.specs.Signs.{column, sign}
@@ -16,15 +15,14 @@ use Rattle.tla_parser.specs.declared.open.Code.{Code}
 use Rattle.tla_parser.specs.declared.open.Code.TheVariants.{Part}
 use Rattle.tla_parser.specs.declared.open.Form.{Form}
 use Rattle.tla_parser.specs.declared.open.Mode.TheVariants.{Have, Read, Stuck, Want}
-use Rattle.tla_parser.specs.declared.open.Open.{Open}
 use Rattle.tla_parser.specs.declared.open.Open.TheVariants.{Before, Between, Within}
 use Rattle.tla_parser.specs.declared.signs.Sign.{Sign}
 use Rattle.tla_parser.specs.declared.signs.Sign.TheVariants.{EndSign}
-use Rattle.tla_parser.specs.inner.Derivations.{delta, look}
+use Rattle.tla_parser.specs.inner.Derivations.{delta}
 use Rattle.tla_parser.specs.inner.Moves.{Row, found, heads, listed_heads, local_heads, module_heads, moved, name_heads, recursive_heads, subscript_heads, unit_heads, unit_rows, update_heads}
-use Rattle.tla_parser.specs.inner.Moves.{is_finished, reading}
-use Rattle.tla_parser.specs.inner.Recognition.{Status, advance, ended_module, entered, finished, form, heads_on, is_fail, levels_read, lost, read_at, running}
-use Rattle.tla_parser.specs.inner.Standings.{behind_header, declaring, ends_header, heading, in_header, in_unit, leads, led_by, next_in_header, standing_of, starts, unit_goes_on, wanted_by}
+use Rattle.tla_parser.specs.inner.Moves.{is_finished}
+use Rattle.tla_parser.specs.inner.Recognition.{Status, advance, ended_module, entered, finished, form, is_fail, levels_read, lost, running}
+use Rattle.tla_parser.specs.inner.Standings.{behind_header, declaring, ends_header, heading, in_header, in_unit, leads, led_by, next_in_header, standing_of, starts, wanted_by}
 
 -- a header goes on, a unit begins, or neither
 abbrev pub leads_on : Sign → Next → Bool
@@ -126,10 +124,10 @@ header_step t k count c m h n =
     by_next : (x : Next) → (is_fail x ≡ true) ⊎ (leads_on (sign t) x ≡ true) → starts (sign t) (standing_of (at_mark k count c m)) (standing_of (entered x (count + 1) 0 [] (c ++ (Part t ∷ [])) 0)) ≡ false → heading (entered x (count + 1) 0 [] (c ++ (Part t ∷ [])) 0) ≡ true
     by_next x (inl e) q = entered_heading x (count + 1) (c ++ (Part t ∷ [])) (inl e)
     by_next x (inr e) q = elim (or_cases (next_in_header x) (begins_unit (sign t) && leads (sign t) x) e) [
-        | inl g ↦ entered_heading x (count + 1) (c ++ (Part t ∷ [])) (inr g)
-        | inr g ↦ (let b : (begins_unit (sign t) ≡ true) × (leads (sign t) x ≡ true) = and_both (begins_unit (sign t)) (leads (sign t) x) g in
-            absurd (clash (starts (sign t) (standing_of (at_mark k count c m)) (standing_of (entered x (count + 1) 0 [] (c ++ (Part t ∷ [])) 0))) (entered_starts x (sign t) (count + 1) (c ++ (Part t ∷ [])) k h b.0 b.1) q))
-      ]
+      | inl g ↦ entered_heading x (count + 1) (c ++ (Part t ∷ [])) (inr g)
+      | inr g ↦ (let b : (begins_unit (sign t) ≡ true) × (leads (sign t) x ≡ true) = and_both (begins_unit (sign t)) (leads (sign t) x) g in
+          absurd (clash (starts (sign t) (standing_of (at_mark k count c m)) (standing_of (entered x (count + 1) 0 [] (c ++ (Part t ∷ [])) 0))) (entered_starts x (sign t) (count + 1) (c ++ (Part t ∷ [])) k h b.0 b.1) q))
+    ]
 
 -- an end may stand where the whole header was read
 header_end : (t : Tok) (k : Mark) (count : ℕ) (c : List Code) (m : ℕ) → in_header k ≡ true → ends_header k ≡ finished (advance (ended t) (at_mark k count c m))
@@ -199,18 +197,18 @@ heading_state (running Read (Within f ∷ []) c m) h =
 
 pub heading_goes : (t : Tok) (st : Status) → heading st ≡ true → starts (sign t) (standing_of st) (standing_of (advance t st)) ≡ false → heading (advance t st) ≡ true
 heading_goes t st h n = elim (heading_state st h) [
-    | inl e ↦ rw e refl
-    | inr a ↦ subst (λ (x : Status). starts (sign t) (standing_of x) (standing_of (advance t x)) ≡ false → heading (advance t x) ≡ true) (sym a.state_so) (header_step t a.mark a.count a.code a.margin a.in_so) n
-  ]
+  | inl e ↦ rw e refl
+  | inr a ↦ subst (λ (x : Status). starts (sign t) (standing_of x) (standing_of (advance t x)) ≡ false → heading (advance t x) ≡ true) (sym a.state_so) (header_step t a.mark a.count a.code a.margin a.in_so) n
+]
 
 pub heading_ends : (t : Tok) (st : Status) → heading st ≡ true → behind_header (standing_of st) ≡ finished (advance (ended t) st)
 heading_ends t st h = elim (heading_state st h) [
-    | inl e ↦ rw e refl
-    | inr a ↦ subst (λ (x : Status). behind_header (standing_of x) ≡ finished (advance (ended t) x)) (sym a.state_so) (header_end t a.mark a.count a.code a.margin a.in_so)
-  ]
+  | inl e ↦ rw e refl
+  | inr a ↦ subst (λ (x : Status). behind_header (standing_of x) ≡ finished (advance (ended t) x)) (sym a.state_so) (header_end t a.mark a.count a.code a.margin a.in_so)
+]
 
 pub heading_levels : (t : Tok) (st : Status) → heading st ≡ true → levels_read (advance t st) ≡ 0
 heading_levels t st h = elim (heading_state st h) [
-    | inl e ↦ rw e refl
-    | inr a ↦ subst (λ (x : Status). levels_read (advance t x) ≡ 0) (sym a.state_so) (header_levels t a.mark a.count a.code a.margin)
-  ]
+  | inl e ↦ rw e refl
+  | inr a ↦ subst (λ (x : Status). levels_read (advance t x) ≡ 0) (sym a.state_so) (header_levels t a.mark a.count a.code a.margin)
+]

@@ -8,9 +8,9 @@ use Rattle.tla_parser.proofs.UnitHeads.{constants_more, head_kept, listed_more, 
 use Rattle.tla_parser.proofs.Shown.{awaits_definition, awaits_end, awaits_name, awaits_parameter, follows_so, last_next, nothing_goes, whole_before}
 use Rattle.tla_parser.proofs.Sticks.{module_sticks, symbol_sticks, Sticks}
 use Rattle.tla_parser.proofs.Tracking.{Tells, fault_place, nowhere_empty, nowhere_kept}
-use Rattle.tla_parser.specs.Beginnings.{Begins, FaultAt, Follows, LastAt, NoneLeft, Nowhere, OfUnit, OneAt, Whole, ended, last_of}
+use Rattle.tla_parser.specs.Beginnings.{Begins, FaultAt, Follows, Nowhere, OfUnit, OneAt, Whole, last_of}
 use Rattle.tla_parser.specs.Operators.{after, is_prefix, number_of, same_sign}
-use Rattle.tla_parser.specs.Refused.{BindsTuple, DefinesSymbol, HasParameter, HeadShows, InForm, InHead, Shows, Stands, are, before_names, before_parameter, declares_constants, in_parentheses, is_listed, is_word, named}
+use Rattle.tla_parser.specs.Refused.{BindsTuple, DefinesSymbol, HasParameter, HeadShows, InForm, InHead, Shows, Stands, are, before_names, before_parameter, is_listed, is_word, named}
 use Rattle.tla_parser.specs.Rules.{IsWritten, SpelledWithin}
 use Rattle.tla_parser.specs.Signs.{sign}
 use Rattle.tla_parser.specs.declared.fault.Syntax.{Syntax}
@@ -22,12 +22,12 @@ use Rattle.tla_parser.specs.declared.moves.Seen.{Seen}
 use Rattle.tla_parser.specs.declared.open.Mode.{Mode}
 use Rattle.tla_parser.specs.declared.open.Mode.TheVariants.{Have, Read, Stuck, Want}
 use Rattle.tla_parser.specs.declared.places.Head.{Head}
-use Rattle.tla_parser.specs.declared.places.Head.TheVariants.{Brackets, Constants, Elsewhere, Line, Local, Name, Parameters}
+use Rattle.tla_parser.specs.declared.places.Head.TheVariants.{Brackets, Constants, Elsewhere, Line, Parameters}
 use Rattle.tla_parser.specs.declared.places.Places.{Places}
 use Rattle.tla_parser.specs.declared.places.Standing.{Standing}
 use Rattle.tla_parser.specs.declared.recognizer.Recognizer.{Recognizer}
 use Rattle.tla_parser.specs.declared.signs.Sign.{Sign}
-use Rattle.tla_parser.specs.declared.signs.Sign.TheVariants.{Comma, Dashes, Defines, LeftParen, RightParen, Stray, Word}
+use Rattle.tla_parser.specs.declared.signs.Sign.TheVariants.{Comma, Dashes, Defines, LeftParen, Stray, Word}
 use Rattle.tla_parser.specs.inner.Derivations.{look}
 use Rattle.tla_parser.specs.inner.Recognition.{advance, advances, module_start, stood}
 use Rattle.tla_parser.specs.inner.Refusals.{AllBegin, HasRead, HasStart, HeadTold, IsBefore, IsEnd, IsHead, IsReading, IsShown, IsStep, IsUnshown, faulty, head_next, renewed}
@@ -108,11 +108,11 @@ kept ts t p q before behind seen place s h m unshown shown awaits =
       before_so = before_next ts t q.previous q.last (m.previous_so ∙ ap (λ (x : Seen). x.sign) s.seen_so) (m.last_so ∙ s.place_so);
       refused_so = shown;
       start_so = subst (λ (o : Option Place). HasStart IsWritten (ts ++ (t ∷ [])) o q.begun) (sym (m.start_so ∙ start_as (starts seen.sign before behind) (begins_at ts t) (behind_header before) _ place t.place p.begun p.start b (ap behind_header s.before_so) s.place_so))
-        (subst (λ (g : Bool). HasStart IsWritten (ts ++ (t ∷ [])) (renewed (begins_at ts t || (not p.begun && behind_header (standing_of (read ts)))) t.place p.start) g) (sym (m.begun_so ∙ ap (λ (x : Bool). p.begun || x) b))
-        (start_kept ts t p.start p.begun h.heading_so h.start_so));
+          (subst (λ (g : Bool). HasStart IsWritten (ts ++ (t ∷ [])) (renewed (begins_at ts t || (not p.begun && behind_header (standing_of (read ts)))) t.place p.start) g) (sym (m.begun_so ∙ ap (λ (x : Bool). p.begun || x) b))
+          (start_kept ts t p.start p.begun h.heading_so h.start_so));
       within_so = subst (λ (o : Option Place). HasStart (SpelledWithin 400) (ts ++ (t ∷ [])) o q.begun) (sym (m.within_so ∙ start_as (starts seen.sign before behind && nat_le behind.levels 400) (begins_within ts t) (behind_header before) _ place t.place p.begun p.within (within_as _ _ behind _ b s.behind_so) (ap behind_header s.before_so) s.place_so))
-        (subst (λ (g : Bool). HasStart (SpelledWithin 400) (ts ++ (t ∷ [])) (renewed (begins_within ts t || (not p.begun && behind_header (standing_of (read ts)))) t.place p.within) g) (sym (m.begun_so ∙ ap (λ (x : Bool). p.begun || x) b))
-        (within_kept ts t p.within p.begun h.heading_so h.within_so));
+          (subst (λ (g : Bool). HasStart (SpelledWithin 400) (ts ++ (t ∷ [])) (renewed (begins_within ts t || (not p.begun && behind_header (standing_of (read ts)))) t.place p.within) g) (sym (m.begun_so ∙ ap (λ (x : Bool). p.begun || x) b))
+          (within_kept ts t p.within p.begun h.heading_so h.within_so));
       starts_so = subst (λ (xs : List Place). AllBegin xs (ts ++ (t ∷ []))) (sym m.starts_so) (all_kept m.kept p.starts.items place ts t s.place_so (λ e. sym b ∙ m.kept_so e) h.starts_so);
       heading_so = λ e. heading_kept ts t p.begun h.heading_so (sym (m.begun_so ∙ ap (λ (x : Bool). p.begun || x) b) ∙ e);
       head_so = subst (λ (x : Head). IsHead x (ts ++ (t ∷ []))) (sym (m.head_so ∙ head_as _ _ p.head seen.sign (sign t) b (ap (λ (x : Seen). x.sign) s.seen_so))) (head_kept ts t p.head h.head_so);

@@ -1,5 +1,5 @@
 -- The form that is open before a token is written by the rules, as far as it goes.
-use Rattle.std.proofs.Common.{ℕ, Bool, true, false, not, List, Option, Some, None, inl, inr, refl, sym, ap, subst, ◌≡◌, ◌⊎◌, ◌∷◌, ◌++◌, ◌&&◌, ◌||◌, ◌∙◌, []}
+use Rattle.std.proofs.Common.{Bool, true, false, List, refl, sym, ap, subst, ◌≡◌, ◌∷◌, ◌++◌, ◌∙◌, []}
 use Rattle.tla_lexer.specs.declared.token.Token.{Token}
 use Rattle.tla_parser.proofs.ByTable.{alive_regular, table_parts}
 use Rattle.tla_parser.proofs.Complete.{Alive}
@@ -12,14 +12,13 @@ use Rattle.tla_parser.proofs.Sound.{Inv, flat, run-ok}
 use Rattle.tla_parser.proofs.Top.{read_as}
 use Rattle.tla_parser.specs.Beginnings.{Follows, last_of}
 use Rattle.tla_parser.specs.Refused.{Awaits, InForm}
-use Rattle.tla_parser.specs.Rules.{GoesOn, GoodParts}
 use Rattle.tla_parser.specs.Signs.{sign}
 use Rattle.tla_parser.specs.Written.{Parts, exp, from, of_module, start, tok, tokens_of, top}
 use Rattle.tla_parser.specs.declared.moves.Mark.{Mark}
 use Rattle.tla_parser.specs.declared.moves.Next.{Next}
-use Rattle.tla_parser.specs.declared.moves.Next.TheVariants.{Fail, Last, Reads, Shut, Wants}
+use Rattle.tla_parser.specs.declared.moves.Next.TheVariants.{Reads}
 use Rattle.tla_parser.specs.declared.signs.Sign.{Sign}
-use Rattle.tla_parser.specs.inner.Derivations.{TableParts, ahead, delta, look, point, resumed}
+use Rattle.tla_parser.specs.inner.Derivations.{TableParts, ahead, delta, point, resumed}
 use Rattle.tla_parser.specs.inner.Moves.{Point, found, heads, in_units, moved, reading}
 use Rattle.tla_parser.specs.inner.Recognition.{Status, advances, is_fail, module_start}
 use Rattle.tla_parser.specs.inner.Standings.{standing_of}

@@ -1,24 +1,21 @@
 -- What a token shows where nothing goes on with it.
 use Rattle.std.proofs.Common.{nat_lt, nat_le, ◌==◌, ◌+◌, max, eqb-true}
-use Rattle.std.proofs.lemmas.Bool.{eqb-false}
-use Rattle.std.proofs.Common.{ℕ, Bool, true, false, cond, not, List, Option, Some, None, IfSome, inl, inr, refl, sym, ap, subst, arith, append_assoc, ◌≡◌, ◌⊎◌, ◌∷◌, ◌++◌, ◌&&◌, ◌||◌, ◌∙◌, []}
+use Rattle.std.proofs.Common.{ℕ, Bool, true, false, cond, not, List, Option, Some, None, refl, sym, ap, append_assoc, ◌≡◌, ◌∷◌, ◌++◌, ◌∙◌, []}
 use Rattle.tla_lexer.specs.declared.token.Token.{Token}
 use Rattle.tla_meaning.specs.declared.place.Place.{Place}
-use Rattle.tla_parser.proofs.Basics.{and_both, either, or_cases}
-use Rattle.tla_parser.proofs.Faults.{begins_at, begins_tells, advances_append, read, read_based, read_next, written_tells}
+use Rattle.tla_parser.proofs.Basics.{and_both}
+use Rattle.tla_parser.proofs.Faults.{advances_append, read, read_based, read_next, written_tells}
 use Rattle.tla_parser.proofs.Headers.{never_less}
-use Rattle.tla_parser.proofs.Laws.{clash, same_sign-is, stays_in}
+use Rattle.tla_parser.proofs.Laws.{clash, stays_in}
 use Rattle.tla_parser.proofs.Opened.{opened}
-use Rattle.tla_parser.proofs.Starts.{Based, based, by_cond}
-use Rattle.tla_parser.proofs.Tracking.{Earlier, Here, split_end}
-use Rattle.tla_parser.specs.Beginnings.{Begins, Follows, Whole, begins_unit, ended, last_of}
-use Rattle.tla_parser.specs.Operators.{after, is_prefix, lo, number_of, same_sign}
-use Rattle.tla_parser.specs.Refused.{BindsTuple, DefinesSymbol, HasParameter, InForm, InHead, Shows, Stands, are, before_names, before_parameter, behind_word, binds_in_brackets, declares_constants, in_parentheses, is_listed, is_word, listing, named, signs_of}
+use Rattle.tla_parser.proofs.Starts.{Based, by_cond}
+use Rattle.tla_parser.specs.Beginnings.{Follows, Whole, ended, last_of}
+use Rattle.tla_parser.specs.Operators.{after, is_prefix, lo, number_of}
+use Rattle.tla_parser.specs.Refused.{InForm, before_names, before_parameter, is_word}
 use Rattle.tla_parser.specs.Rules.{IsWritten}
 use Rattle.tla_parser.specs.Signs.{column, sign}
-use Rattle.tla_parser.specs.declared.fault.Syntax.{Syntax}
 use Rattle.tla_parser.specs.declared.moves.Mark.{Mark}
-use Rattle.tla_parser.specs.declared.moves.Mark.TheVariants.{ArgumentName, BehindArity, BehindDeclared, BehindExtended, BehindHeader, BehindInstance, BehindParameter, BehindRecursive, BetweenUnits, ChosenName, Finished, LocalArgument, LocalHead, LocalParameter, LocalUnit, MappedName, NextBoundName, QuantifiedName, UnitHead}
+use Rattle.tla_parser.specs.declared.moves.Mark.TheVariants.{ArgumentName, BehindArity, BehindDeclared, BehindExtended, BehindHeader, BehindInstance, BehindParameter, BehindRecursive, BetweenUnits, ChosenName, Finished, LocalArgument, LocalHead, LocalParameter, MappedName, NextBoundName, QuantifiedName}
 use Rattle.tla_parser.specs.declared.moves.Next.{Next}
 use Rattle.tla_parser.specs.declared.moves.Next.TheVariants.{Fail, Last, Reads, Shut, Wants}
 use Rattle.tla_parser.specs.declared.open.Code.{Code}
@@ -28,17 +25,15 @@ use Rattle.tla_parser.specs.declared.open.Mode.TheVariants.{Have, Read, Stuck, W
 use Rattle.tla_parser.specs.declared.open.Open.{Open}
 use Rattle.tla_parser.specs.declared.open.Open.TheVariants.{Before, Between, Within}
 use Rattle.tla_parser.specs.declared.open.Operand.{Operand}
-use Rattle.tla_parser.specs.declared.places.Head.{Head}
-use Rattle.tla_parser.specs.declared.places.Head.TheVariants.{Body, Brackets, Closed, Constants, Elsewhere, Line, Local, Name, Parameters}
 use Rattle.tla_parser.specs.declared.signs.Role.{Role}
 use Rattle.tla_parser.specs.declared.signs.Role.TheVariants.{InfixRole, NoRole, PostfixRole}
 use Rattle.tla_parser.specs.declared.signs.Sign.{Sign}
-use Rattle.tla_parser.specs.declared.signs.Sign.TheVariants.{Comma, ConstantWord, Dashes, Defines, EndSign, LeftBracket, LeftParen, LocalWord, ModuleWord, RightParen, Stray, Word}
-use Rattle.tla_parser.specs.inner.Derivations.{delta, given, idle, look}
+use Rattle.tla_parser.specs.declared.signs.Sign.TheVariants.{Defines, EndSign, RightParen, Stray, Word}
+use Rattle.tla_parser.specs.inner.Derivations.{delta, given, idle}
 use Rattle.tla_parser.specs.inner.Moves.{begin, behind_op, found, heads, in_units, is_finished, listed_heads, local_heads, module_heads, moved, name_heads, reading, recursive_heads, subscript_heads, unit_heads, unit_rows, update_heads}
 use Rattle.tla_parser.specs.inner.Recognition.{Status, accepting, acted, advance, advances, entered, finished, folded, folded_code, folded_margin, folds, following, freshly, heads_on, is_fail, landed, least, lost, module_start, placing, read_at, running, taken, wanting}
-use Rattle.tla_parser.specs.inner.Refusals.{HasRead, HeadTold, IsBefore, IsHead, IsShown, head_next, head_with, opening}
-use Rattle.tla_parser.specs.inner.Standings.{binds_names, declaring, ends_unit, innermost, leads, led_by, next_ends_unit, standing_of, unit_goes_on, wanted_by}
+use Rattle.tla_parser.specs.inner.Refusals.{IsBefore}
+use Rattle.tla_parser.specs.inner.Standings.{binds_names, ends_unit, innermost, next_ends_unit, standing_of}
 
 -- ---- where nothing goes on
 

@@ -1,20 +1,19 @@
 -- Where a unit begins by the parser's table, an end may stand too, and the other way round.
 use Rattle.std.proofs.Common.{nat_lt, nat_le, ◌==◌}
-use Rattle.std.proofs.Common.{ℕ, Bool, true, false, cond, not, max, List, inl, inr, refl, sym, ap, subst, arith, ◌≡◌, ◌+◌, ◌∷◌, ◌++◌, ◌⊎◌, ◌&&◌, ◌||◌, ◌∙◌, []}
+use Rattle.std.proofs.Common.{ℕ, Bool, true, false, cond, not, max, List, inl, inr, refl, sym, ap, arith, ◌≡◌, ◌+◌, ◌∷◌, ◌++◌, ◌⊎◌, ◌&&◌, ◌||◌, ◌∙◌, []}
 use Rattle.tla_lexer.specs.declared.token.Token.{Token as Tok}
 use Rattle.tla_parser.proofs.Basics.{and_both, either}
-use Rattle.tla_parser.proofs.Laws.{clash, negated, same_sign-is, moves_stay, stays_at, stays_in}
-use Rattle.tla_parser.proofs.MarkKinds.{is_bullets, kinded, kinded_move}
+use Rattle.tla_parser.proofs.Laws.{clash, negated, same_sign-is, moves_stay, stays_in}
+use Rattle.tla_parser.proofs.MarkKinds.{kinded, kinded_move}
 use Rattle.tla_parser.proofs.TableLaw.{is_lasting}
 use Rattle.tla_parser.specs.Beginnings.{begins_unit, ended}
 use Rattle.tla_parser.specs.Operators.{after, hi, is_bullet, is_prefix, lo, number_of, prefix_lo, same, same_sign}
 use Rattle.tla_parser.specs.Signs.{column, sign}
-use Rattle.tla_parser.specs.Written.{class_of}
 use Rattle.tla_parser.specs.declared.moves.Class.{Class}
 use Rattle.tla_parser.specs.declared.moves.Class.TheVariants.{BareName}
 use Rattle.tla_parser.specs.declared.moves.Construct.TheVariants.{NameUse}
 use Rattle.tla_parser.specs.declared.moves.Mark.{Mark}
-use Rattle.tla_parser.specs.declared.moves.Mark.TheVariants.{Bullets, Finished, InAssumption, InBody, InBracket, InDefinition, InFold, InItems, InNamedAssumption, InNamedStatement, InPlainBody, InReplacement, InStatement}
+use Rattle.tla_parser.specs.declared.moves.Mark.TheVariants.{Bullets, InAssumption, InBody, InBracket, InDefinition, InFold, InItems, InNamedAssumption, InNamedStatement, InPlainBody, InReplacement, InStatement}
 use Rattle.tla_parser.specs.declared.moves.Next.{Next}
 use Rattle.tla_parser.specs.declared.moves.Next.TheVariants.{Fail, Last, Reads, Shut, Wants}
 use Rattle.tla_parser.specs.declared.moves.Seen.{Seen}
@@ -25,14 +24,13 @@ use Rattle.tla_parser.specs.declared.open.Mode.TheVariants.{Have, Read, Stuck, W
 use Rattle.tla_parser.specs.declared.open.Open.{Open}
 use Rattle.tla_parser.specs.declared.open.Open.TheVariants.{Before, Between, Within}
 use Rattle.tla_parser.specs.declared.open.Operand.{Operand}
-use Rattle.tla_parser.specs.declared.places.Standing.{Standing}
 use Rattle.tla_parser.specs.declared.signs.Role.{Role}
 use Rattle.tla_parser.specs.declared.signs.Role.TheVariants.{NoRole, InfixRole, PostfixRole}
 use Rattle.tla_parser.specs.declared.signs.Sign.{Sign}
 use Rattle.tla_parser.specs.declared.signs.Sign.TheVariants.{AssumeWord, ConstantWord, Dashes, EndSign, InstanceWord, LocalWord, RecursiveWord, TheoremWord, VariableWord, Vee, Wedge, Word}
-use Rattle.tla_parser.specs.inner.Derivations.{delta, given, idle, is_last, look, mark_column}
+use Rattle.tla_parser.specs.inner.Derivations.{delta, given, idle, is_last, look}
 use Rattle.tla_parser.specs.inner.Moves.{begin, behind_op, body_rows, bracket_rows, fair_rows, filled, fold_rows, found, goes_on, heads, hungry, in_braces, in_brackets, in_units, insteads, is_finished, listed_heads, local_heads, local_rows, module_heads, moved, name_heads, next_bullet, off, opens, reading, recursive_heads, rows, subscript_heads, tuple_rows, unit_heads, unit_rows, update_heads, update_rows}
-use Rattle.tla_parser.specs.inner.Recognition.{Status, accepting, acted, advance, advanced, advances, ended_module, entered, finished, folded, folded_code, folded_margin, folds, following, form, form_deeper, freshly, heads_on, is_fail, landed, least, levels_read, lost, op, operand, passes_by, placing, read_at, running, taken, wanting}
+use Rattle.tla_parser.specs.inner.Recognition.{Status, accepting, acted, advance, advances, ended_module, entered, finished, folded, folded_code, folds, following, freshly, heads_on, is_fail, landed, least, levels_read, lost, op, passes_by, placing, read_at, running, taken, wanting}
 use Rattle.tla_parser.specs.inner.Standings.{declaring, in_unit, innermost, leads, led_by, standing_of, starts, unit_goes_on, wanted_by}
 
 -- ---- tests of all signs that begin a unit

@@ -1,47 +1,35 @@
 -- Where the head of a unit shows a form that is read nowhere, reading sticks.
-use Rattle.std.proofs.Common.{nat_lt, nat_le, ◌==◌, ◌+◌, max, eqb-true}
-use Rattle.std.proofs.lemmas.Bool.{eqb-false}
-use Rattle.std.proofs.Common.{ℕ, Bool, true, false, cond, not, List, Option, Some, None, IfSome, inl, inr, refl, sym, ap, subst, arith, append_assoc, ◌≡◌, ◌⊎◌, ◌∷◌, ◌++◌, ◌&&◌, ◌||◌, ◌∙◌, []}
+use Rattle.std.proofs.Common.{nat_lt, ◌==◌, ◌+◌, eqb-true}
+use Rattle.std.proofs.Common.{ℕ, Bool, true, false, cond, not, List, inl, inr, refl, sym, ap, subst, append_assoc, ◌≡◌, ◌∷◌, ◌++◌, ◌&&◌, ◌∙◌, []}
 use Rattle.tla_lexer.specs.declared.token.Token.{Token}
-use Rattle.tla_meaning.specs.declared.place.Place.{Place}
-use Rattle.tla_parser.proofs.Basics.{and_both, either, or_cases}
-use Rattle.tla_parser.proofs.Faults.{begins_at, begins_tells, read, read_based, read_next, written_tells}
+use Rattle.tla_parser.proofs.Basics.{and_both, or_cases}
+use Rattle.tla_parser.proofs.Faults.{begins_at, read, read_based, read_next}
 use Rattle.tla_parser.proofs.Headers.{never_less}
 use Rattle.tla_parser.proofs.Laws.{clash, same_sign-is, stays_in}
-use Rattle.tla_parser.proofs.Opened.{opened}
-use Rattle.tla_parser.proofs.Starts.{Based, based, by_cond}
-use Rattle.tla_parser.proofs.Tracking.{Earlier, Here, split_end}
-use Rattle.tla_parser.specs.Beginnings.{Begins, Follows, Whole, begins_unit, ended, last_of}
-use Rattle.tla_parser.specs.Operators.{after, is_prefix, lo, number_of, same_sign}
-use Rattle.tla_parser.specs.Refused.{BindsTuple, DefinesSymbol, HasParameter, InForm, InHead, Shows, Stands, are, before_names, before_parameter, behind_word, binds_in_brackets, declares_constants, in_parentheses, is_listed, is_word, listing, named, signs_of}
-use Rattle.tla_parser.specs.Rules.{IsWritten}
+use Rattle.tla_parser.proofs.Starts.{Based}
+use Rattle.tla_parser.specs.Beginnings.{begins_unit}
+use Rattle.tla_parser.specs.Operators.{after, number_of, same_sign}
+use Rattle.tla_parser.specs.Refused.{InHead, are, behind_word, named, signs_of}
 use Rattle.tla_parser.specs.Signs.{column, sign}
-use Rattle.tla_parser.specs.declared.fault.Syntax.{Syntax}
 use Rattle.tla_parser.specs.declared.moves.Mark.{Mark}
-use Rattle.tla_parser.specs.declared.moves.Mark.TheVariants.{ArgumentName, BehindArity, BehindDeclared, BehindExtended, BehindHeader, BehindInstance, BehindParameter, BehindRecursive, BetweenUnits, ChosenName, Finished, LocalArgument, LocalHead, LocalParameter, LocalUnit, MappedName, NextBoundName, QuantifiedName, UnitHead}
+use Rattle.tla_parser.specs.declared.moves.Mark.TheVariants.{BetweenUnits, LocalUnit, QuantifiedName, UnitHead}
 use Rattle.tla_parser.specs.declared.moves.Next.{Next}
 use Rattle.tla_parser.specs.declared.moves.Next.TheVariants.{Fail, Last, Reads, Shut, Wants}
 use Rattle.tla_parser.specs.declared.open.Code.{Code}
 use Rattle.tla_parser.specs.declared.open.Code.TheVariants.{Part}
 use Rattle.tla_parser.specs.declared.open.Form.{Form}
 use Rattle.tla_parser.specs.declared.open.Mode.TheVariants.{Have, Read, Stuck, Want}
-use Rattle.tla_parser.specs.declared.open.Open.{Open}
 use Rattle.tla_parser.specs.declared.open.Open.TheVariants.{Before, Between, Within}
-use Rattle.tla_parser.specs.declared.open.Operand.{Operand}
-use Rattle.tla_parser.specs.declared.places.Head.{Head}
-use Rattle.tla_parser.specs.declared.places.Head.TheVariants.{Body, Brackets, Closed, Constants, Elsewhere, Line, Local, Name, Parameters}
-use Rattle.tla_parser.specs.declared.signs.Role.{Role}
-use Rattle.tla_parser.specs.declared.signs.Role.TheVariants.{InfixRole, NoRole, PostfixRole}
+use Rattle.tla_parser.specs.declared.signs.Role.TheVariants.{InfixRole}
 use Rattle.tla_parser.specs.declared.signs.Sign.{Sign}
-use Rattle.tla_parser.specs.declared.signs.Sign.TheVariants.{Comma, ConstantWord, Dashes, Defines, EndSign, LeftBracket, LeftParen, LocalWord, ModuleWord, RightParen, Stray, Word}
-use Rattle.tla_parser.specs.inner.Derivations.{delta, given, idle, look}
-use Rattle.tla_parser.specs.inner.Moves.{begin, behind_op, found, heads, in_units, is_finished, listed_heads, local_heads, module_heads, moved, name_heads, reading, recursive_heads, subscript_heads, unit_heads, unit_rows, update_heads}
-use Rattle.tla_parser.specs.inner.Recognition.{Status, accepting, acted, advance, advances, entered, finished, folded, folded_code, folded_margin, folds, following, freshly, heads_on, is_fail, landed, least, lost, module_start, placing, read_at, running, taken, wanting}
-use Rattle.tla_parser.specs.inner.Refusals.{HasRead, HeadTold, IsBefore, IsHead, IsShown, head_next, head_with, opening}
-use Rattle.tla_parser.specs.inner.Standings.{binds_names, declaring, ends_unit, innermost, leads, led_by, next_ends_unit, standing_of, unit_goes_on, wanted_by}
-
-use Rattle.tla_parser.proofs.UnitHeads.{begins_so, same_self}
+use Rattle.tla_parser.specs.declared.signs.Sign.TheVariants.{Dashes, Defines, LeftBracket, LeftParen, LocalWord, ModuleWord, Word}
+use Rattle.tla_parser.specs.inner.Derivations.{delta}
+use Rattle.tla_parser.specs.inner.Moves.{found, heads, listed_heads, local_heads, module_heads, moved, name_heads, reading, recursive_heads, subscript_heads, unit_heads, unit_rows, update_heads}
+use Rattle.tla_parser.specs.inner.Recognition.{Status, advance, entered, lost, module_start, read_at, running}
+use Rattle.tla_parser.specs.inner.Standings.{declaring, leads, led_by, standing_of, unit_goes_on, wanted_by}
+use Rattle.tla_parser.proofs.UnitHeads.{begins_so}
 use Rattle.tla_parser.proofs.Shown.{Hungry, advances_hungry, reads}
+
 all_open : Bool
 unfolding heads listed_heads update_heads subscript_heads local_heads module_heads unit_heads name_heads recursive_heads unit_rows number_of
 all_open = true
@@ -163,14 +151,14 @@ head_next_read t st e h = record {
 
 in_name : (ts : List Token) → InHead (named (are [])) ts → AtHead UnitHead (read ts)
 in_name ts i = elim (or_cases (same_sign (sign i.first) Word && are [] (signs_of i.more)) (same_sign (sign i.first) LocalWord && behind_word (are []) (signs_of i.more)) i.signs_so) [
-    | inl h ↦ (let k : (same_sign (sign i.first) Word ≡ true) × (are [] (signs_of i.more) ≡ true) = and_both (same_sign (sign i.first) Word) (are [] (signs_of i.more)) h in
-        let e : ts ≡ i.before ++ (i.first ∷ []) = i.tokens_so ∙ ap (λ (us : List Token). i.before ++ (i.first ∷ us)) (none_behind i.more k.1) in
-        subst (λ (us : List Token). AtHead UnitHead (read us)) (sym e)
-        (behind_begin Word UnitHead i.before i.first (begins_so i.before i.first i.begins) (same_sign-is (sign i.first) Word k.0) led_word unwanted_word))
-    | inr h ↦ (let k : (same_sign (sign i.first) LocalWord ≡ true) × (behind_word (are []) (signs_of i.more) ≡ true) = and_both (same_sign (sign i.first) LocalWord) (behind_word (are []) (signs_of i.more)) h in
-        subst (λ (us : List Token). AtHead UnitHead (read us)) (sym i.tokens_so)
-        (behind_local i.more k.1 (behind_begin LocalWord LocalUnit i.before i.first (begins_so i.before i.first i.begins) (same_sign-is (sign i.first) LocalWord k.0) led_local unwanted_local)))
-  ]
+  | inl h ↦ (let k : (same_sign (sign i.first) Word ≡ true) × (are [] (signs_of i.more) ≡ true) = and_both (same_sign (sign i.first) Word) (are [] (signs_of i.more)) h in
+      let e : ts ≡ i.before ++ (i.first ∷ []) = i.tokens_so ∙ ap (λ (us : List Token). i.before ++ (i.first ∷ us)) (none_behind i.more k.1) in
+      subst (λ (us : List Token). AtHead UnitHead (read us)) (sym e)
+      (behind_begin Word UnitHead i.before i.first (begins_so i.before i.first i.begins) (same_sign-is (sign i.first) Word k.0) led_word unwanted_word))
+  | inr h ↦ (let k : (same_sign (sign i.first) LocalWord ≡ true) × (behind_word (are []) (signs_of i.more) ≡ true) = and_both (same_sign (sign i.first) LocalWord) (behind_word (are []) (signs_of i.more)) h in
+      subst (λ (us : List Token). AtHead UnitHead (read us)) (sym i.tokens_so)
+      (behind_local i.more k.1 (behind_begin LocalWord LocalUnit i.before i.first (begins_so i.before i.first i.begins) (same_sign-is (sign i.first) LocalWord k.0) led_local unwanted_local)))
+]
   where
     behind_local : (more : List Token) → behind_word (are []) (signs_of more) ≡ true → AtHead LocalUnit (read (i.before ++ (i.first ∷ []))) → AtHead UnitHead (read (i.before ++ (i.first ∷ more)))
     behind_local [] w a = absurd (cc)

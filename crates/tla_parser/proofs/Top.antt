@@ -30,7 +30,7 @@ use Rattle.tla_parser.specs.inner.Checked.{IsChecked}
 use Rattle.tla_parser.specs.Written.{Parts, deepest, tokens_of, top}
 use Rattle.tla_parser.specs.Rules.{IsModule, IsWritten, SpelledWithin}
 use Rattle.tla_parser.specs.inner.Derivations.{ahead, posts}
-use Rattle.tla_parser.specs.inner.Refusals.{IsOfUnit, IsStanding, is_bad}
+use Rattle.tla_parser.specs.inner.Refusals.{IsOfUnit, IsStanding}
 use Rattle.tla_parser.specs.inner.Recognition.{advances, code_read, ended_module, ended_stack, finished, is_of_grammar, levels_read, module_start, outcome_mode, status}
 
 pub record IsRead (ts : List Tok) : Type 0 where

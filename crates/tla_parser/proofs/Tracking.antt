@@ -1,10 +1,8 @@
 -- The last place that passes, one token later.
-use Rattle.std.proofs.Common.{ℕ, Bool, true, false, not, List, Option, Some, None, length, inl, inr, refl, sym, ap, subst, arith, append_assoc, ◌≡◌, ◌≤◌, ◌⊎◌, ◌∷◌, ◌++◌, ◌&&◌, ◌||◌, ◌∙◌, []}
+use Rattle.std.proofs.Common.{Bool, true, false, not, List, Option, Some, None, length, inl, inr, refl, sym, ap, subst, arith, append_assoc, ◌≡◌, ◌≤◌, ◌⊎◌, ◌∷◌, ◌++◌, ◌&&◌, ◌||◌, ◌∙◌, []}
 use Rattle.tla_lexer.specs.declared.token.Token.{Token}
 use Rattle.tla_meaning.specs.declared.place.Place.{Place}
-use Rattle.tla_parser.proofs.Basics.{either}
-use Rattle.tla_parser.specs.Beginnings.{Begins, FaultAt, Follows, IsFirst, LastAt, NoneLeft, Nowhere, Whole, begins_unit, last_of}
-use Rattle.tla_parser.specs.Signs.{sign}
+use Rattle.tla_parser.specs.Beginnings.{Begins, FaultAt, Follows, IsFirst, LastAt, NoneLeft, Nowhere, Whole, last_of}
 use Rattle.tla_parser.specs.inner.Refusals.{HasStart, faulty, renewed}
 
 -- the test tells whether it is so
@@ -97,9 +95,9 @@ last_kept Q place ts t n l = record {
 
 pub nowhere_kept : (Q : List Token → Token → Type 0) (ts : List Token) (t : Token) → (Q ts t → ⊥) → Nowhere Q ts → Nowhere Q (ts ++ (t ∷ []))
 nowhere_kept Q ts t n w = λ f u r e p. elim (split_end ts f r t u e) [
-    | inl h ↦ n (subst (λ (x : Token). Q ts x) h.token_so (subst (λ (x : List Token). Q x u) h.front_so p))
-    | inr h ↦ w f u h.rest h.tokens_so p
-  ]
+  | inl h ↦ n (subst (λ (x : Token). Q ts x) h.token_so (subst (λ (x : List Token). Q x u) h.front_so p))
+  | inr h ↦ w f u h.rest h.tokens_so p
+]
 
 pub nowhere_empty : (Q : List Token → Token → Type 0) → Nowhere Q []
 nowhere_empty Q = λ f u r e p. no_split f r u e

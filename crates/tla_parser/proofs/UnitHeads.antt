@@ -1,44 +1,21 @@
 -- The head of the unit that is read, one token later.
-use Rattle.std.proofs.Common.{nat_lt, nat_le, ◌==◌, ◌+◌, max, eqb-true}
 use Rattle.std.proofs.lemmas.Bool.{eqb-false}
-use Rattle.std.proofs.Common.{ℕ, Bool, true, false, cond, not, List, Option, Some, None, IfSome, inl, inr, refl, sym, ap, subst, arith, append_assoc, ◌≡◌, ◌⊎◌, ◌∷◌, ◌++◌, ◌&&◌, ◌||◌, ◌∙◌, []}
+use Rattle.std.proofs.Common.{Bool, true, false, List, inl, inr, refl, sym, ap, subst, append_assoc, ◌≡◌, ◌⊎◌, ◌∷◌, ◌++◌, ◌&&◌, ◌||◌, ◌∙◌, []}
 use Rattle.tla_lexer.specs.declared.token.Token.{Token}
-use Rattle.tla_meaning.specs.declared.place.Place.{Place}
 use Rattle.tla_parser.proofs.Basics.{and_both, either, or_cases}
-use Rattle.tla_parser.proofs.Faults.{begins_at, begins_tells, read, read_based, read_next, written_tells}
-use Rattle.tla_parser.proofs.Headers.{never_less}
-use Rattle.tla_parser.proofs.Laws.{clash, same_sign-is, stays_in}
-use Rattle.tla_parser.proofs.Opened.{opened}
-use Rattle.tla_parser.proofs.Starts.{Based, based, by_cond}
-use Rattle.tla_parser.proofs.Tracking.{Earlier, Here, split_end}
-use Rattle.tla_parser.specs.Beginnings.{Begins, Follows, Whole, begins_unit, ended, last_of}
-use Rattle.tla_parser.specs.Operators.{after, is_prefix, lo, number_of, same_sign}
-use Rattle.tla_parser.specs.Refused.{BindsTuple, DefinesSymbol, HasParameter, InForm, InHead, Shows, Stands, are, before_names, before_parameter, behind_word, binds_in_brackets, declares_constants, in_parentheses, is_listed, is_word, listing, named, signs_of}
+use Rattle.tla_parser.proofs.Faults.{begins_at, begins_tells}
+use Rattle.tla_parser.proofs.Laws.{clash, same_sign-is}
+use Rattle.tla_parser.proofs.Tracking.{split_end}
+use Rattle.tla_parser.specs.Beginnings.{Begins}
+use Rattle.tla_parser.specs.Operators.{number_of, same_sign}
+use Rattle.tla_parser.specs.Refused.{InHead, are, behind_word, binds_in_brackets, declares_constants, in_parentheses, is_listed, listing, named, signs_of}
 use Rattle.tla_parser.specs.Rules.{IsWritten}
-use Rattle.tla_parser.specs.Signs.{column, sign}
-use Rattle.tla_parser.specs.declared.fault.Syntax.{Syntax}
-use Rattle.tla_parser.specs.declared.moves.Mark.{Mark}
-use Rattle.tla_parser.specs.declared.moves.Mark.TheVariants.{ArgumentName, BehindArity, BehindDeclared, BehindExtended, BehindHeader, BehindInstance, BehindParameter, BehindRecursive, BetweenUnits, ChosenName, Finished, LocalArgument, LocalHead, LocalParameter, LocalUnit, MappedName, NextBoundName, QuantifiedName, UnitHead}
-use Rattle.tla_parser.specs.declared.moves.Next.{Next}
-use Rattle.tla_parser.specs.declared.moves.Next.TheVariants.{Fail, Last, Reads, Shut, Wants}
-use Rattle.tla_parser.specs.declared.open.Code.{Code}
-use Rattle.tla_parser.specs.declared.open.Code.TheVariants.{Part}
-use Rattle.tla_parser.specs.declared.open.Form.{Form}
-use Rattle.tla_parser.specs.declared.open.Mode.TheVariants.{Have, Read, Stuck, Want}
-use Rattle.tla_parser.specs.declared.open.Open.{Open}
-use Rattle.tla_parser.specs.declared.open.Open.TheVariants.{Before, Between, Within}
-use Rattle.tla_parser.specs.declared.open.Operand.{Operand}
+use Rattle.tla_parser.specs.Signs.{sign}
 use Rattle.tla_parser.specs.declared.places.Head.{Head}
 use Rattle.tla_parser.specs.declared.places.Head.TheVariants.{Body, Brackets, Closed, Constants, Elsewhere, Line, Local, Name, Parameters}
-use Rattle.tla_parser.specs.declared.signs.Role.{Role}
-use Rattle.tla_parser.specs.declared.signs.Role.TheVariants.{InfixRole, NoRole, PostfixRole}
 use Rattle.tla_parser.specs.declared.signs.Sign.{Sign}
-use Rattle.tla_parser.specs.declared.signs.Sign.TheVariants.{Comma, ConstantWord, Dashes, Defines, EndSign, LeftBracket, LeftParen, LocalWord, ModuleWord, RightParen, Stray, Word}
-use Rattle.tla_parser.specs.inner.Derivations.{delta, given, idle, look}
-use Rattle.tla_parser.specs.inner.Moves.{begin, behind_op, found, heads, in_units, is_finished, listed_heads, local_heads, module_heads, moved, name_heads, reading, recursive_heads, subscript_heads, unit_heads, unit_rows, update_heads}
-use Rattle.tla_parser.specs.inner.Recognition.{Status, accepting, acted, advance, advances, entered, finished, folded, folded_code, folded_margin, folds, following, freshly, heads_on, is_fail, landed, least, lost, module_start, placing, read_at, running, taken, wanting}
-use Rattle.tla_parser.specs.inner.Refusals.{HasRead, HeadTold, IsBefore, IsHead, IsShown, head_next, head_with, opening}
-use Rattle.tla_parser.specs.inner.Standings.{binds_names, declaring, ends_unit, innermost, leads, led_by, next_ends_unit, standing_of, unit_goes_on, wanted_by}
+use Rattle.tla_parser.specs.declared.signs.Sign.TheVariants.{ConstantWord, Dashes, Defines, LeftBracket, LeftParen, LocalWord, RightParen, Word}
+use Rattle.tla_parser.specs.inner.Refusals.{HeadTold, IsHead, head_next, head_with, opening}
 
 -- ---- signs with one more behind
 
@@ -63,10 +40,10 @@ listing_more end [] s h = are_listing (end ++ (s ∷ [])) s [] (are_more end [] 
         or_second true b q = refl
         or_second false b q = q
 listing_more end (x ∷ ss) s h = elim (or_cases (is_listed x && listing end ss) (are end (x ∷ ss)) h) [
-    | inl e ↦ (let k : (is_listed x ≡ true) × (listing end ss ≡ true) = and_both (is_listed x) (listing end ss) e in
-        first_so (is_listed x) (listing (end ++ (s ∷ [])) (ss ++ (s ∷ []))) (are (end ++ (s ∷ [])) (x ∷ (ss ++ (s ∷ [])))) k.0 (listing_more end ss s k.1))
-    | inr e ↦ second_so (is_listed x && listing (end ++ (s ∷ [])) (ss ++ (s ∷ []))) (are (end ++ (s ∷ [])) (x ∷ (ss ++ (s ∷ [])))) (are_more end (x ∷ ss) s e)
-  ]
+  | inl e ↦ (let k : (is_listed x ≡ true) × (listing end ss ≡ true) = and_both (is_listed x) (listing end ss) e in
+      first_so (is_listed x) (listing (end ++ (s ∷ [])) (ss ++ (s ∷ []))) (are (end ++ (s ∷ [])) (x ∷ (ss ++ (s ∷ [])))) k.0 (listing_more end ss s k.1))
+  | inr e ↦ second_so (is_listed x && listing (end ++ (s ∷ [])) (ss ++ (s ∷ []))) (are (end ++ (s ∷ [])) (x ∷ (ss ++ (s ∷ [])))) (are_more end (x ∷ ss) s e)
+]
   where
     first_so : (a b c : Bool) → a ≡ true → b ≡ true → ((a && b) || c) ≡ true
     first_so a b c p q = rw (p, q) refl
@@ -78,19 +55,19 @@ listing_more end (x ∷ ss) s h = elim (or_cases (is_listed x && listing end ss)
 listing_listed : (ss : List Sign) (s : Sign) → is_listed s ≡ true → listing [] ss ≡ true → listing [] (ss ++ (s ∷ [])) ≡ true
 listing_listed [] s l h = rw l refl
 listing_listed (x ∷ ss) s l h = elim (or_cases (is_listed x && listing [] ss) false h) [
-    | inl e ↦ (let k : (is_listed x ≡ true) × (listing [] ss ≡ true) = and_both (is_listed x) (listing [] ss) e in
-        rw (k.0, listing_listed ss s l k.1) refl)
-    | inr e ↦ absurd (cc)
-  ]
+  | inl e ↦ (let k : (is_listed x ≡ true) × (listing [] ss ≡ true) = and_both (is_listed x) (listing [] ss) e in
+      rw (k.0, listing_listed ss s l k.1) refl)
+  | inr e ↦ absurd (cc)
+]
 
 named_more : (p q : List Sign → Bool) (s : Sign) → ((ss : List Sign) → p ss ≡ true → q (ss ++ (s ∷ [])) ≡ true) → (ss : List Sign) → named p ss ≡ true → named q (ss ++ (s ∷ [])) ≡ true
 named_more p q s f [] h = absurd (cc)
 named_more p q s f (x ∷ ss) h = elim (or_cases (same_sign x Word && p ss) (same_sign x LocalWord && behind_word p ss) h) [
-    | inl e ↦ (let k : (same_sign x Word ≡ true) × (p ss ≡ true) = and_both (same_sign x Word) (p ss) e in
-        first_so (same_sign x Word) (q (ss ++ (s ∷ []))) _ k.0 (f ss k.1))
-    | inr e ↦ (let k : (same_sign x LocalWord ≡ true) × (behind_word p ss ≡ true) = and_both (same_sign x LocalWord) (behind_word p ss) e in
-        second_so (same_sign x Word && q (ss ++ (s ∷ []))) (same_sign x LocalWord) (behind_word q (ss ++ (s ∷ []))) k.0 (behind_more ss k.1))
-  ]
+  | inl e ↦ (let k : (same_sign x Word ≡ true) × (p ss ≡ true) = and_both (same_sign x Word) (p ss) e in
+      first_so (same_sign x Word) (q (ss ++ (s ∷ []))) _ k.0 (f ss k.1))
+  | inr e ↦ (let k : (same_sign x LocalWord ≡ true) × (behind_word p ss ≡ true) = and_both (same_sign x LocalWord) (behind_word p ss) e in
+      second_so (same_sign x Word && q (ss ++ (s ∷ []))) (same_sign x LocalWord) (behind_word q (ss ++ (s ∷ []))) k.0 (behind_more ss k.1))
+]
   where
     first_so : (a b c : Bool) → a ≡ true → b ≡ true → ((a && b) || c) ≡ true
     first_so a b c p q = rw (p, q) refl
@@ -164,9 +141,9 @@ with_so Elsewhere ts t k = tt
 with_so Line ts t k = tt
 with_so Body ts t k = tt
 with_so Local ts t k = elim (either (same_sign (sign t) Word)) [
-    | inl e ↦ rw e (head_more (are (LocalWord ∷ [])) (named (are [])) ts t (local_named (sign t) e) k)
-    | inr e ↦ rw e tt
-  ]
+  | inl e ↦ rw e (head_more (are (LocalWord ∷ [])) (named (are [])) ts t (local_named (sign t) e) k)
+  | inr e ↦ rw e tt
+]
   where
     local_named : (s : Sign) → same_sign s Word ≡ true → (ss : List Sign) → are (LocalWord ∷ []) ss ≡ true → named (are []) (ss ++ (s ∷ [])) ≡ true
     local_named s e [] q = absurd (cc)
@@ -183,36 +160,36 @@ with_so Local ts t k = elim (either (same_sign (sign t) Word)) [
         second_so true b c m n = refl
         second_so false b c m n = rw (m, n) refl
 with_so Name ts t k = elim (either (same_sign (sign t) LeftParen)) [
-    | inl e ↦ rw e (head_more (named (are [])) (named (in_parentheses [])) ts t (named_more (are []) (in_parentheses []) (sign t) (nothing_more (in_parentheses []) (sign t) (rw e refl))) k)
-    | inr e ↦ rw e (elim (either (same_sign (sign t) LeftBracket)) [
-      | inl q ↦ rw q (head_more (named (are [])) (named binds_in_brackets) ts t (named_more (are []) binds_in_brackets (sign t) (nothing_more binds_in_brackets (sign t) q)) k)
-      | inr q ↦ rw q tt
-    ])
-  ]
-with_so Parameters ts t k = elim (either (is_listed (sign t))) [
-    | inl e ↦ rw e (head_more (named (in_parentheses [])) (named (in_parentheses [])) ts t (named_more (in_parentheses []) (in_parentheses []) (sign t) (parentheses_listed (sign t) e)) k)
-    | inr e ↦ rw e (elim (either (same_sign (sign t) RightParen)) [
-      | inl q ↦ rw q (head_more (named (in_parentheses [])) (named (in_parentheses (RightParen ∷ []))) ts t
-          (named_more (in_parentheses []) (in_parentheses (RightParen ∷ [])) (sign t) (λ ss h. subst (λ (x : Sign). in_parentheses (x ∷ []) (ss ++ (sign t ∷ [])) ≡ true) (same_sign-is (sign t) RightParen q) (parentheses_more [] (sign t) ss h))) k)
-      | inr q ↦ rw q tt
-    ])
-  ]
-with_so Closed ts t k = elim (either (same_sign (sign t) Defines)) [
-    | inl q ↦ rw q (head_more (named (in_parentheses (RightParen ∷ []))) (named (in_parentheses (RightParen ∷ Defines ∷ []))) ts t
-        (named_more (in_parentheses (RightParen ∷ [])) (in_parentheses (RightParen ∷ Defines ∷ [])) (sign t) (λ ss h. subst (λ (x : Sign). in_parentheses (RightParen ∷ x ∷ []) (ss ++ (sign t ∷ [])) ≡ true) (same_sign-is (sign t) Defines q) (parentheses_more (RightParen ∷ []) (sign t) ss h))) k)
+  | inl e ↦ rw e (head_more (named (are [])) (named (in_parentheses [])) ts t (named_more (are []) (in_parentheses []) (sign t) (nothing_more (in_parentheses []) (sign t) (rw e refl))) k)
+  | inr e ↦ rw e (elim (either (same_sign (sign t) LeftBracket)) [
+    | inl q ↦ rw q (head_more (named (are [])) (named binds_in_brackets) ts t (named_more (are []) binds_in_brackets (sign t) (nothing_more binds_in_brackets (sign t) q)) k)
     | inr q ↦ rw q tt
-  ]
+  ])
+]
+with_so Parameters ts t k = elim (either (is_listed (sign t))) [
+  | inl e ↦ rw e (head_more (named (in_parentheses [])) (named (in_parentheses [])) ts t (named_more (in_parentheses []) (in_parentheses []) (sign t) (parentheses_listed (sign t) e)) k)
+  | inr e ↦ rw e (elim (either (same_sign (sign t) RightParen)) [
+    | inl q ↦ rw q (head_more (named (in_parentheses [])) (named (in_parentheses (RightParen ∷ []))) ts t
+        (named_more (in_parentheses []) (in_parentheses (RightParen ∷ [])) (sign t) (λ ss h. subst (λ (x : Sign). in_parentheses (x ∷ []) (ss ++ (sign t ∷ [])) ≡ true) (same_sign-is (sign t) RightParen q) (parentheses_more [] (sign t) ss h))) k)
+    | inr q ↦ rw q tt
+  ])
+]
+with_so Closed ts t k = elim (either (same_sign (sign t) Defines)) [
+  | inl q ↦ rw q (head_more (named (in_parentheses (RightParen ∷ []))) (named (in_parentheses (RightParen ∷ Defines ∷ []))) ts t
+      (named_more (in_parentheses (RightParen ∷ [])) (in_parentheses (RightParen ∷ Defines ∷ [])) (sign t) (λ ss h. subst (λ (x : Sign). in_parentheses (RightParen ∷ x ∷ []) (ss ++ (sign t ∷ [])) ≡ true) (same_sign-is (sign t) Defines q) (parentheses_more (RightParen ∷ []) (sign t) ss h))) k)
+  | inr q ↦ rw q tt
+]
 with_so Constants ts t k = elim (either (is_listed (sign t))) [
-    | inl e ↦ rw e (head_more declares_constants declares_constants ts t (constants_listed (sign t) e) k)
-    | inr e ↦ rw e tt
-  ]
+  | inl e ↦ rw e (head_more declares_constants declares_constants ts t (constants_listed (sign t) e) k)
+  | inr e ↦ rw e tt
+]
 with_so Brackets ts t k = head_more (named binds_in_brackets) (named binds_in_brackets) ts t (named_more binds_in_brackets binds_in_brackets (sign t) (brackets_more (sign t))) k
 
 pub head_kept : (ts : List Token) (t : Token) (h : Head) → IsHead h ts → IsHead (head_next (begins_at ts t) h (sign t)) (ts ++ (t ∷ []))
 head_kept ts t h k = elim (either (begins_at ts t)) [
-    | inl e ↦ rw e (opening_so ts t (sign t) refl ((begins_tells ts t).yes e))
-    | inr e ↦ rw e (with_so h ts t k)
-  ]
+  | inl e ↦ rw e (opening_so ts t (sign t) refl ((begins_tells ts t).yes e))
+  | inr e ↦ rw e (with_so h ts t k)
+]
 
 pub listed_more : (ts : List Token) (t : Token) → is_listed (sign t) ≡ true → InHead (named (in_parentheses [])) ts → InHead (named (in_parentheses [])) (ts ++ (t ∷ []))
 listed_more ts t e k = head_more (named (in_parentheses [])) (named (in_parentheses [])) ts t (named_more (in_parentheses []) (in_parentheses []) (sign t) (parentheses_listed (sign t) e)) k
@@ -232,9 +209,9 @@ begins_so ts t b = elim (either (begins_at ts t)) [ inl e ↦ e | inr e ↦ absu
 one_token : (ts before more : List Token) (t first : Token) → ts ++ (t ∷ []) ≡ before ++ (first ∷ more) → Begins IsWritten before first → are [] (signs_of more) ≡ true → (begins_at ts t ≡ true) × (first ≡ t)
 one_token ts before (x ∷ more) t first e b h = absurd (nothing_behind [] x more h)
 one_token ts before [] t first e b h = elim (split_end ts before [] t first e) [
-    | inl k ↦ (begins_so ts t (subst (λ (u : Token). Begins IsWritten ts u) k.token_so (subst (λ (us : List Token). Begins IsWritten us first) k.front_so b)), k.token_so)
-    | inr k ↦ absurd (no_end k.rest k.rest_so)
-  ]
+  | inl k ↦ (begins_so ts t (subst (λ (u : Token). Begins IsWritten ts u) k.token_so (subst (λ (us : List Token). Begins IsWritten us first) k.front_so b)), k.token_so)
+  | inr k ↦ absurd (no_end k.rest k.rest_so)
+]
   where
     no_end : (rest : List Token) → [] ≡ rest ++ (t ∷ []) → ⊥
     no_end [] q = cc
@@ -253,12 +230,12 @@ pub record IsNamed (ts : List Token) (t : Token) : Type 0 where
 
 one_name : (ts : List Token) (t : Token) → InHead (named (are [])) (ts ++ (t ∷ [])) → IsNamed ts t
 one_name ts t i = elim (or_cases (same_sign (sign i.first) Word && are [] (signs_of i.more)) (same_sign (sign i.first) LocalWord && behind_word (are []) (signs_of i.more)) i.signs_so) [
-    | inl h ↦ (let k : (same_sign (sign i.first) Word ≡ true) × (are [] (signs_of i.more) ≡ true) = and_both (same_sign (sign i.first) Word) (are [] (signs_of i.more)) h in
-        let o : (begins_at ts t ≡ true) × (i.first ≡ t) = one_token ts i.before i.more t i.first i.tokens_so i.begins k.1 in
-        record { word_so = ap sign (sym o.1) ∙ same_sign-is (sign i.first) Word k.0; begins = inl o.0 })
-    | inr h ↦ (let k : (same_sign (sign i.first) LocalWord ≡ true) × (behind_word (are []) (signs_of i.more) ≡ true) = and_both (same_sign (sign i.first) LocalWord) (behind_word (are []) (signs_of i.more)) h in
-        behind_local i.before i.more i.first i.tokens_so i.begins k.0 k.1)
-  ]
+  | inl h ↦ (let k : (same_sign (sign i.first) Word ≡ true) × (are [] (signs_of i.more) ≡ true) = and_both (same_sign (sign i.first) Word) (are [] (signs_of i.more)) h in
+      let o : (begins_at ts t ≡ true) × (i.first ≡ t) = one_token ts i.before i.more t i.first i.tokens_so i.begins k.1 in
+      record { word_so = ap sign (sym o.1) ∙ same_sign-is (sign i.first) Word k.0; begins = inl o.0 })
+  | inr h ↦ (let k : (same_sign (sign i.first) LocalWord ≡ true) × (behind_word (are []) (signs_of i.more) ≡ true) = and_both (same_sign (sign i.first) LocalWord) (behind_word (are []) (signs_of i.more)) h in
+      behind_local i.before i.more i.first i.tokens_so i.begins k.0 k.1)
+]
   where
     behind_local : (before more : List Token) (first : Token) → ts ++ (t ∷ []) ≡ before ++ (first ∷ more) → Begins IsWritten before first → same_sign (sign first) LocalWord ≡ true → behind_word (are []) (signs_of more) ≡ true → IsNamed ts t
     behind_local before [] first e b l w = absurd (cc)
@@ -268,20 +245,20 @@ one_name ts t i = elim (or_cases (same_sign (sign i.first) Word && are [] (signs
         never true = refl
         never false = refl
     behind_local before (x ∷ []) first e b l w = elim (split_end ts before (x ∷ []) t first e) [
-        | inl k ↦ absurd (no_rest k.rest_so)
-        | inr k ↦ (let z : (x ≡ t) × (k.rest ≡ []) = single k.rest k.rest_so in
-            record {
-              word_so = ap sign (sym z.0) ∙ same_sign-is (sign x) Word (and_both (same_sign (sign x) Word) true w).0;
-              begins = inr (record {
-                before = before;
-                first = first;
-                more = [];
-                tokens_so = k.tokens_so ∙ ap (λ (us : List Token). before ++ (first ∷ us)) z.1;
-                begins = b;
-                signs_so = local_sign (sign first) (same_sign-is (sign first) LocalWord l);
-              });
-            })
-      ]
+      | inl k ↦ absurd (no_rest k.rest_so)
+      | inr k ↦ (let z : (x ≡ t) × (k.rest ≡ []) = single k.rest k.rest_so in
+          record {
+            word_so = ap sign (sym z.0) ∙ same_sign-is (sign x) Word (and_both (same_sign (sign x) Word) true w).0;
+            begins = inr (record {
+              before = before;
+              first = first;
+              more = [];
+              tokens_so = k.tokens_so ∙ ap (λ (us : List Token). before ++ (first ∷ us)) z.1;
+              begins = b;
+              signs_so = local_sign (sign first) (same_sign-is (sign first) LocalWord l);
+            });
+          })
+    ]
       where
         no_rest : x ∷ [] ≡ [] → ⊥
         no_rest q = cc

@@ -1,6 +1,7 @@
 -- What tokens spell. Source: Specifying Systems, chapters 15 and 17.
 use Rattle.tla_lexer.specs.declared.token.Token.{Token}
 use Rattle.tla_meaning.specs.declared.modules.Module.{Module}
+use Rattle.tla_meaning.specs.declared.place.Place.{Place}
 use Rattle.tla_parser.specs.declared.fault.ParseFault.{ParseFault}
 use Rattle.tla_parser.specs.declared.fault.ParseFault.TheVariants.{BadGrammar, TooDeep, NotSupported, Memory}
 use Rattle.std.specs.Prelude.{true, List, ◌≡◌, ◌⊎◌}
@@ -31,10 +32,14 @@ pub record Spells (m : Module) (ts : List Token) : Type 0 where
 abbrev pub NothingSpells : List Token → Type 0
 NothingSpells ts = (m : Module) → Spells m ts → ⊥
 
--- Why the tokens are refused. Where a unit is not whole, its place is named, and else that of a unit in which a record
--- names a field twice.
+-- Where a unit is not whole, the first such, and no form of a unit's head is in the way; else, where a record names a field
+-- twice, a unit.
+abbrev pub BadAt : Place → List Token → Type 0
+BadAt place ts = (FaultAt IsWritten place ts × Nowhere HeadShows ts) ⊎ (IsWritten ts × OfUnit IsWritten place ts)
+
+-- why the tokens are refused
 abbrev pub IsRefusal : ParseFault → List Token → Type 0
-IsRefusal (BadGrammar place) ts = NothingSpells ts × ((FaultAt IsWritten place ts × Nowhere HeadShows ts) ⊎ (IsWritten ts × OfUnit IsWritten place ts))
+IsRefusal (BadGrammar place) ts = NothingSpells ts × BadAt place ts
 IsRefusal (NotSupported place form) ts = NothingSpells ts × Stands form place ts
 IsRefusal (TooDeep place) ts = IsWritten ts × (SpelledWithin 400 ts → ⊥) × FaultAt (SpelledWithin 400) place ts
 IsRefusal (Memory e) ts = Unit {0}

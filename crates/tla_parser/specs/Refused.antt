@@ -1,6 +1,6 @@
 -- The forms of the language that are read nowhere, and where each stands. Source: Specifying Systems, sections 15.1, 16.1
 -- and 17.
-use Rattle.std.specs.Prelude.{Bool, true, false, cond, List, ◌≡◌, ◌⊎◌, ◌∷◌, ◌++◌, ◌&&◌, ◌||◌, []}
+use Rattle.std.specs.Prelude.{Bool, true, false, List, ◌≡◌, ◌⊎◌, ◌∷◌, ◌++◌, ◌&&◌, ◌||◌, []}
 use Rattle.tla_lexer.specs.declared.token.Token.{Token}
 use Rattle.tla_meaning.specs.declared.place.Place.{Place}
 use Rattle.tla_parser.specs.Beginnings.{Begins, Follows, Whole, last_of}

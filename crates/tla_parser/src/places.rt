@@ -542,7 +542,8 @@ impl Places {
             → result ≡ true → BindsTuple ts t }
     {
         match next {
-            Next::Reads(Mark::UnitArgument) => self.is_in_brackets() && self.previous.is(Sign::Comma),
+            Next::Reads(Mark::UnitArgument) => self.is_in_brackets()
+                && self.previous.is(Sign::Comma),
             Next::Reads(mark) => binds_names(mark) && before_names(self.previous),
             _ => false,
         }

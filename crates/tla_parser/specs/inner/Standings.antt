@@ -1,5 +1,5 @@
 -- What stands before and behind a token of a module, and whether a unit begins with it.
-use Rattle.std.specs.Prelude.{ℕ, Bool, true, false, not, List, Option, Some, None, ◌∷◌, ◌&&◌, ◌==◌, []}
+use Rattle.std.specs.Prelude.{Bool, true, false, not, List, Option, Some, None, ◌∷◌, ◌&&◌, ◌==◌, []}
 use Rattle.tla_parser.specs.Beginnings.{begins_unit}
 use Rattle.tla_parser.specs.Operators.{same_sign}
 use Rattle.tla_parser.specs.declared.moves.Mark.{Mark}

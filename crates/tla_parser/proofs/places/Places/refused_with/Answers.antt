@@ -1,4 +1,4 @@
-use Rattle.std.proofs.Common.{List, Option, sym, ap, subst, ◌++◌, ◌∷◌, []}
+use Rattle.std.proofs.Common.{ap}
 use Rattle.tla_parser.proofs.Kept.{shown_here, shown_later}
 use Rattle.tla_parser.specs.declared.moves.Seen.{Seen}
 use Rattle.tla_parser.proofs.places.Places.refused_with.Goals as goal
