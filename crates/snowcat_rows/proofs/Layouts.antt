@@ -14,7 +14,7 @@ both_blank (x ∷ a) b h k = here (is_blank x) (list_all is_blank a) (list_all i
     here false q r g f = g
 
 -- blanks before
-blank_written : (qs : List (List ℕ)) (a b : List ℕ) → IsTrue (list_all is_blank a) → Written qs b → Written qs (a ++ b)
+pub blank_written : (qs : List (List ℕ)) (a b : List ℕ) → IsTrue (list_all is_blank a) → Written qs b → Written qs (a ++ b)
 blank_written [] a b h w = both_blank a b h w
 blank_written (p ∷ ps) a b h (bl, rest, k, e, w) =
     (a ++ bl, rest, both_blank a bl h k, ap (λ z. a ++ z) (e ∙ append_assoc bl p rest) ∙ sym (append_assoc a bl (p ++ rest)) ∙ sym (append_assoc (a ++ bl) p rest), w)
@@ -23,7 +23,7 @@ pub written_append : (ps qs : List (List ℕ)) (a b : List ℕ) → Written ps a
 written_append [] qs a b h k = blank_written qs a b h k
 written_append (p ∷ ps) qs a b (bl, rest, h, e, w) k = (bl, rest ++ b, h, ap (λ z. z ++ b) e ∙ append_assoc (bl ++ p) rest b, written_append ps qs rest b w k)
 
-written_one : (p : List ℕ) → Written (p ∷ []) p
+pub written_one : (p : List ℕ) → Written (p ∷ []) p
 written_one p = ([], [], refl, sym (append-nil p), refl)
 
 at_pieces : (ps qs : List (List ℕ)) (a : List ℕ) → ps ≡ qs → Written ps a → Written qs a

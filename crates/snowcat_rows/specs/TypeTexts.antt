@@ -1,5 +1,5 @@
 -- Which bytes are the text of a type. Source: the Apalache manual, "Type System 1.2".
-use Rattle.std.specs.Prelude.{ℕ, ◌≡◌, ◌==◌, ◌&&◌, ◌||◌, Bool, true, false, not, List, [], ◌∷◌, ◌++◌, Option, Some, None, codes, bytes_eq, IsTrue}
+use Rattle.std.specs.Prelude.{ℕ, ◌+◌, ◌<◌, ◌⊎◌, length, take, ◌≡◌, ◌==◌, ◌&&◌, ◌||◌, Bool, true, false, not, List, [], ◌∷◌, ◌++◌, Option, Some, None, codes, bytes_eq, IsTrue}
 use Rattle.std.specs.List.{list_all}
 use Rattle.snowcat_rows.specs.LiteralTypes.{is_capital, is_digit, is_small, in_word, is_type_name}
 
@@ -177,3 +177,9 @@ pub record Begins (text : List ℕ) : Type 0 where
   pub rest : List ℕ
   pub syntax_of : Syntax
   pub is_text : IsTypeText (text ++ rest) syntax_of
+
+-- the text before n begins a type's text, and with the next byte it begins none; or the whole text begins one, and is none
+abbrev pub IsBadAt : List ℕ → ℕ → Type 0
+IsBadAt text n =
+    ((n < length text) × Begins (take n text) × (Begins (take (n + 1) text) → ⊥))
+    ⊎ ((n ≡ length text) × Begins text × ((s : Syntax) → IsTypeText text s → ⊥))

@@ -1,6 +1,11 @@
 pub mod Below
+pub mod Building
+pub mod Fronts
 pub mod Layouts
 pub mod Lookups
+pub mod Machine
+pub mod Marks
 pub mod Measures
 pub mod Places
+pub mod Readers
 pub mod Rounds

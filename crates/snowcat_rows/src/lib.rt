@@ -10,16 +10,25 @@
 #![tactic(auto)]
 
 mod bindings;
+mod building;
 mod differences;
+mod faults;
+mod marks;
 mod occurrences;
+mod pieces;
 mod places;
+mod reader;
+mod reading;
 mod records;
 mod replacement;
+mod scanning;
 mod showing;
 mod substitution;
 mod types;
 
+pub use faults::TypeTextFault;
 pub use occurrences::is_within;
+pub use reading::read_type;
 pub use showing::{show_type, shown_types_are_spelled};
 pub use substitution::{Subst, UnifyFault};
 pub use types::{Ty, copy_type};

@@ -1,0 +1,26 @@
+// Why the text of a type is not read.
+ghost use Rattle.std.specs.Prelude.{◌≡◌, alloc_error};
+
+use std::alloc::AllocError;
+use tla_values::Text;
+
+/// Why the text of a type is not read.
+#[derive(Drop)]
+pub enum TypeTextFault {
+    /// The text before this offset begins the text of some type, and with the next byte it begins none; or it is the
+    /// length of the text, which begins the text of a type and is none.
+    BadType(usize),
+    /// No alias of this name counts.
+    UnknownAlias(Text),
+    Memory(AllocError),
+}
+
+impl From<AllocError> for TypeTextFault {
+    ghost use Rattle.snowcat_rows.specs.declared.faults.TypeTextFault.TheVariants.{Memory as wants_memory};
+
+    ghost from_gives = { λ _ e. e ≡ wants_memory alloc_error };
+
+    fn from(_: AllocError) -> Self {
+        TypeTextFault::Memory(AllocError)
+    }
+}
