@@ -58,3 +58,112 @@ ifA i => {f: Int, r0} # Int
 1fA iSf2gR, 1 iS => {f: Set(Int), g: a2} = {f: Set(Int), g: a2}; Set(Int) = Set(Int)
 5 i => not issued
 ifE 9fR => not issued"#;
+
+// Aliases, a text, and the type that it says, shown; or where it is no type's; or which alias is unknown.
+pub(crate) const READINGS: &str = r#" | Bool ;; Bool
+ | Int ;; Int
+ | Str ;; Str
+ | U ;; U
+ | I ;; I
+ | A_1 ;; A_1
+ | a ;; a0
+ | b07 ;; a0
+ | Set(Int) ;; Set(Int)
+ | Seq(Set(a)) ;; Seq(Set(a0))
+ | Int -> Str ;; Int -> Str
+ | Int -> Str -> Bool ;; Int -> Str -> Bool
+ | (Int -> Str) -> Bool ;; (Int -> Str) -> Bool
+ | Int -> (Str -> Bool) ;; Int -> Str -> Bool
+ | <<Int>> ;; <<Int>>
+ | <<<<a>>, b>> ;; <<<<a0>>, a1>>
+ | {f: Int} ;; {f: Int}
+ | {f: Int, g: Str} ;; {f: Int, g: Str}
+ | {f: Set(Int), r} ;; {f: Set(Int), r0}
+ | {Int: Int, IF: Str, 1a: Bool} ;; {Int: Int, IF: Str, 1a: Bool}
+ | () => Bool ;; () => Bool
+ | (Int) => Bool ;; (Int) => Bool
+ | (Int, a) => a ;; (Int, a0) => a0
+ | Int -> (Str) => Bool ;; Int -> ((Str) => Bool)
+ | (Int) => Str -> Bool ;; (Int) => Str -> Bool
+ | ((Int) => Bool) -> Str ;; ((Int) => Bool) -> Str
+ | (Int) => (Str) => Bool ;; (Int) => (Str) => Bool
+ | ((Int)) ;; Int
+ | ((Int)) => Bool ;; (Int) => Bool
+ | (((a))) -> b ;; a0 -> a1
+ |   Int   ;; Int
+ | Set ( Int ) ;; Set(Int)
+ | Int->Str ;; Int -> Str
+ | << Int ,Str >> ;; <<Int, Str>>
+ | { f : Int , r } ;; {f: Int, r0}
+ | ( ) => Int ;; () => Int
+ | <<a, b, a>> ;; <<a0, a1, a0>>
+ | {f: a, a} ;; {f: a0, r1}
+ | {f: Int, f} ;; {f: Int, r0}
+ | <<{f: Int, r}, {f: Str, r}>> ;; <<{f: Int, r0}, {f: Str, r0}>>
+ | <<{f: Int, g: Int, r}, {g: Str, f: Int, r}>> ;; <<{f: Int, g: Int, r0}, {g: Str, f: Int, r0}>>
+ | {f: {f: Int, r}, r} ;; {f: {f: Int, r0}, r0}
+ | {f: {g: Int, r}, r} ;; bad 18
+ | <<{f: Int, r}, {g: Int, r}>> ;; bad 25
+ | <<{f: Int, r}, {f: Int, g: Int, r}>> ;; bad 33
+ | {f: Int, f: Str} ;; bad 10
+ | {F: Int, F} ;; bad 10
+foo=Int | $foo ;; Int
+foo=Set(a) | <<a, $foo, $foo, a>> ;; <<a0, Set(a1), Set(a2), a0>>
+foo=Int;bar=Set($foo) | $bar ;; Set(Int)
+bar=Set($foo);foo=Int | $bar ;; unknown bar
+bar=Set($foo);foo=Int | $foo ;; Int
+foo=Intt;foo=Str | $foo ;; Str
+foo=Int;foo=Str | $foo ;; Int
+foo=$foo | $foo ;; unknown foo
+foo={f: Int, r} | <<$foo, {g: Int, r}>> ;; <<{f: Int, r0}, {g: Int, r1}>>
+foo=a -> b | $foo -> c ;; (a0 -> a1) -> a2
+foo=Int -> Str | Bool -> $foo ;; Bool -> Int -> Str
+1a=Int | $1a ;; Int
+ | $foo ;; unknown foo
+ | <<$x, $y>> ;; unknown x
+foo=Int | <<$foo, $y>> ;; unknown y
+ | <<$foo ;; bad 6
+ | $foo, ;; bad 4
+ | $ foo ;; bad 1
+ | $1 ;; bad 2
+ |  ;; bad 0
+ |     ;; bad 3
+ | Intt ;; bad 3
+ | In ;; bad 2
+ | Se ;; bad 2
+ | Set ;; bad 3
+ | Set( ;; bad 4
+ | Set(Int ;; bad 7
+ | Set(Int)) ;; bad 8
+ | Set Int ;; bad 4
+ | a1b ;; bad 2
+ | aB ;; bad 1
+ | 1 ;; bad 0
+ | _A ;; bad 0
+ | A-B ;; bad 2
+ | A - > B ;; bad 3
+ | A ->  ;; bad 5
+ | -> A ;; bad 0
+ | <Int> ;; bad 1
+ | <<>> ;; bad 2
+ | <<Int,>> ;; bad 6
+ | <<Int> ;; bad 6
+ | <<Int> > ;; bad 6
+ | {} ;; bad 1
+ | {r} ;; bad 2
+ | {f Int} ;; bad 3
+ | {f: } ;; bad 4
+ | {f: Int,} ;; bad 8
+ | {f: Int, 1} ;; bad 10
+ | {f: Int, r, g: Str} ;; bad 10
+ | (Int, Str) ;; bad 10
+ | (Int, Str) -> Bool ;; bad 11
+ | () ;; bad 2
+ | () -> Int ;; bad 3
+ | (Int ;; bad 4
+ | Int) ;; bad 3
+ | Int Str ;; bad 4
+ | Int = > Str ;; bad 4
+ | (Int) = > Str ;; bad 7
+ | Int -> Str => Bool ;; bad 11
+ | a? ;; bad 1"#;

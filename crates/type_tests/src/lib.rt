@@ -6,6 +6,8 @@ mod cases;
 #[cfg(test)]
 mod postfix;
 #[cfg(test)]
+mod reading;
+#[cfg(test)]
 mod showing;
 #[cfg(test)]
 mod unifying;
