@@ -16,14 +16,14 @@ use Rattle.snowcat_rows.specs.inner.Layouts.{layout, more_layout, fields_layout,
 abbrev shown_opened : layer.Ty-F Ty → Shown
 shown_opened o = let x = map-Ty Ty Shown shown o in record { text = text_layer x; form = form_layer x }
 
-abbrev spelt_opened : layer.Ty-F Ty → Spelt
+abbrev pub spelt_opened : layer.Ty-F Ty → Spelt
 spelt_opened o = let x = map-Ty Ty Spelt spelt o in record { syntax_of = syntax_layer x; form = form_layer x }
 
 shown_out : (t : Ty) → shown t ≡ shown_opened (out-Ty t)
 unfolding shown
 shown_out t = fold_out-Ty Shown (λ x. record { text = text_layer x; form = form_layer x }) t
 
-spelt_out : (t : Ty) → spelt t ≡ spelt_opened (out-Ty t)
+pub spelt_out : (t : Ty) → spelt t ≡ spelt_opened (out-Ty t)
 unfolding spelt
 spelt_out t = fold_out-Ty Spelt (λ x. record { syntax_of = syntax_layer x; form = form_layer x }) t
 
@@ -40,13 +40,13 @@ plain e = e.0
 
 -- ---- options
 
-got : {A B C : Type 0} (f : A → B → C) (a : Option A) (b : Option B) (c : C) → both f a b ≡ Some c → (x : A) × (y : B) × (a ≡ Some x) × (b ≡ Some y) × (f x y ≡ c)
+pub got : {A B C : Type 0} (f : A → B → C) (a : Option A) (b : Option B) (c : C) → both f a b ≡ Some c → (x : A) × (y : B) × (a ≡ Some x) × (b ≡ Some y) × (f x y ≡ c)
 got f (Some a) (Some b) c e = (a, b, refl, refl, cc)
 got f (Some a) None c e = absurd (cc)
 got f None (Some b) c e = absurd (cc)
 got f None None c e = absurd (cc)
 
-got_one : {A C : Type 0} (f : A → C) (a : Option A) (c : C) → option_map f a ≡ Some c → (x : A) × (a ≡ Some x) × (f x ≡ c)
+pub got_one : {A C : Type 0} (f : A → C) (a : Option A) (c : C) → option_map f a ≡ Some c → (x : A) × (a ≡ Some x) × (f x ≡ c)
 got_one f (Some a) c e = (a, refl, cc)
 got_one f None c e = absurd (cc)
 
@@ -115,10 +115,10 @@ fields_are (f ∷ fs) ss e =
 
 -- ---- a type by its layer
 
-some_is : (a b : Syntax) → Some a ≡ Some b → a ≡ b
+pub some_is : (a b : Syntax) → Some a ≡ Some b → a ≡ b
 some_is a b e = cc
 
-got_operator : (a : Option Syntax) (b : Option Syntaxes) (c : Option Syntax) (s : Syntax) → operator_of a b c ≡ Some s →
+pub got_operator : (a : Option Syntax) (b : Option Syntaxes) (c : Option Syntax) (s : Syntax) → operator_of a b c ≡ Some s →
     (x : Syntax) × (y : Syntaxes) × (z : Syntax) × (a ≡ Some x) × (b ≡ Some y) × (c ≡ Some z) × (operator x y z ≡ s)
 got_operator (Some x) b c s e = let g = got (λ xs u. operator x xs u) b c s e in (x, g.0, g.1, refl, g.2, g.3, g.4)
 got_operator None b c s e = absurd (cc)

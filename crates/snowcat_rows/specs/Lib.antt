@@ -2,6 +2,7 @@ pub mod Chains
 pub mod Codes
 pub mod LiteralTypes
 pub mod Readings
+pub mod Renamings
 pub mod Sorting
 pub mod Spellings
 pub mod Substitutions

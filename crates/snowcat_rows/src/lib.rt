@@ -5,8 +5,9 @@
 //! that is, end in a variable which stands for a row of further fields. Field names of one record
 //! differ, and their order tells nothing.
 //!
-//! `substitution` (over `bindings`, `replacement`, `places`, `differences`, `occurrences`, `records`) and
-//! `showing` stand beside each other over `types`.
+//! `substitution` (over `bindings`, `replacement`, `places`, `differences`, `occurrences`, `records`), `showing` and
+//! `reading` stand beside each other over `types`. A text is read in two steps: `scanning` (over `reader`, `pieces`)
+//! leaves the marks of what it read (`marks`), each construct behind its parts, and `building` makes the type of them.
 #![tactic(auto)]
 
 mod bindings;
@@ -29,6 +30,6 @@ mod types;
 pub use faults::TypeTextFault;
 pub use occurrences::is_within;
 pub use reading::read_type;
-pub use showing::{show_type, shown_types_are_spelled};
+pub use showing::{show_type, shown_types_are_read_back, shown_types_are_spelled};
 pub use substitution::{Subst, UnifyFault};
 pub use types::{Ty, copy_type};

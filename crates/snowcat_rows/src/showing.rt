@@ -3,7 +3,10 @@ ghost use Rattle.std.specs.Prelude.{[], ◌==◌, ◌≡◌, ◌++◌, OnOk, cod
 ghost use Rattle.std.specs.List.{join_by};
 ghost use Rattle.snowcat_rows.specs.Texts.{fields_text, form_of, items_text, operand_text, result_text, tail_text, type_text, typed_field};
 ghost use Rattle.snowcat_rows.specs.declared.types.Ty.{Ty as AnyType};
+ghost use Rattle.snowcat_rows.specs.Readings.{IsReadAs, read};
+ghost use Rattle.snowcat_rows.specs.Renamings.{by_numbers};
 ghost use Rattle.snowcat_rows.specs.Spellings.{spelling};
+ghost use Rattle.snowcat_rows.specs.Types.{mean};
 ghost use Rattle.snowcat_rows.specs.TypeTexts.{Fronts, IsTypeText, KeepsFronts, Syntax, is_formed};
 
 use crate::types::Ty;
@@ -59,6 +62,13 @@ pub fn show_type(t: &Ty, out: &mut Vec<u8>) -> Result<(), AllocError>
 pub fn shown_types_are_spelled()
     ensures { (t : AnyType) (s : Syntax) → spelling t ≡ Some s → IsTrue (is_formed s)
         → (l : Fronts) → KeepsFronts l s → IsTypeText (type_text t) s }
+{}
+
+/// What is shown of a type is read back as the type, each variable with its number among those of the text, where the
+/// type has a text as for `shown_types_are_spelled`.
+pub fn shown_types_are_read_back()
+    ensures { (t : AnyType) (s : Syntax) → spelling t ≡ Some s → IsTrue (is_formed s)
+        → (l : Fronts) → KeepsFronts l s → IsReadAs [] (type_text t) (by_numbers (read [] s []).1 (mean t)) }
 {}
 
 #[tactic(auto, using(crate::proofs::TextForms::texts))]
