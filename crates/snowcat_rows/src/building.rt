@@ -239,7 +239,8 @@ impl Builder {
     }
 
     fn push(&mut self, t: Ty, depth: usize) -> Result<(), AllocError>
-        ensures { IfOk result (λ _. site_of self.new ≡ site (one (mean t) ∷ (site_of self.old).items) (site_of self.old).seen) }
+        ensures { IfOk result (λ _. site_of self.new
+            ≡ site (one (mean t) ∷ (site_of self.old).items) (site_of self.old).seen) }
     {
         self.count(1)?;
         self.items.push(Built::Type(t, depth))?;
@@ -247,7 +248,8 @@ impl Builder {
     }
 
     fn push_all(&mut self, ts: List<Ty>, depth: usize) -> Result<(), AllocError>
-        ensures { IfOk result (λ _. site_of self.new ≡ site (several (map mean ts) ∷ (site_of self.old).items) (site_of self.old).seen) }
+        ensures { IfOk result (λ _. site_of self.new
+            ≡ site (several (map mean ts) ∷ (site_of self.old).items) (site_of self.old).seen) }
     {
         self.items.push(Built::Types(ts, depth))?;
         Ok(())
@@ -255,7 +257,8 @@ impl Builder {
 
     // The last, which is one type: the marks of a type do not lack their parts.
     fn pop(&mut self) -> Result<(Ty, usize), AllocError>
-        ensures { IfOk result (λ r. site_of self.old ≡ site (one (mean r.0) ∷ (site_of self.new).items) (site_of self.new).seen) }
+        ensures { IfOk result (λ r. site_of self.old
+            ≡ site (one (mean r.0) ∷ (site_of self.new).items) (site_of self.new).seen) }
     {
         match self.items.pop() {
             Some(Built::Type(t, depth)) => Ok((t, depth)),
@@ -265,7 +268,8 @@ impl Builder {
 
     // The last, which is a list of types.
     fn pop_all(&mut self) -> Result<(List<Ty>, usize), AllocError>
-        ensures { IfOk result (λ r. site_of self.old ≡ site (several (map mean r.0) ∷ (site_of self.new).items) (site_of self.new).seen) }
+        ensures { IfOk result (λ r. site_of self.old
+            ≡ site (several (map mean r.0) ∷ (site_of self.new).items) (site_of self.new).seen) }
     {
         match self.items.pop() {
             Some(Built::Types(ts, depth)) => Ok((ts, depth)),
@@ -277,7 +281,8 @@ impl Builder {
     #[tactic(auto, using(crate::proofs::Moves::noted_new, crate::proofs::Moves::noted_cases))]
     fn note(&mut self, v: Seen) -> Result<u32, AllocError>
         ensures number { IfOk result (λ n. n ≡ number v (site_of self.old).seen) }
-        ensures site { IfOk result (λ _. site_of self.new ≡ site (site_of self.old).items (noted v (site_of self.old).seen)) }
+        ensures site { IfOk result (λ _. site_of self.new
+            ≡ site (site_of self.old).items (noted v (site_of self.old).seen)) }
     {
         let place = number(&v, self.seen.as_slice());
         let n = as_number(place)?;
@@ -290,7 +295,8 @@ impl Builder {
     // So many variables of an alias have numbers from now on.
     #[tactic(auto, using(crate::proofs::Moves::own_next))]
     fn own(&mut self, count: u32) -> Result<(), AllocError>
-        ensures { IfOk result (λ _. site_of self.new ≡ site (site_of self.old).items ((site_of self.old).seen ++ own count)) }
+        ensures { IfOk result (λ _. site_of self.new
+            ≡ site (site_of self.old).items ((site_of self.old).seen ++ own count)) }
     {
         for i in 0..count {
             self.seen.push(Seen::Own)?;
@@ -321,7 +327,8 @@ impl Builder {
 
     #[tactic(auto, using(crate::proofs::Means::means))]
     fn set(&mut self, alloc: Global) -> Result<(), AllocError>
-        ensures { IfOk result (λ _. site_of self.new ≡ site (wrap (con SetHead) (site_of self.old).items) (site_of self.old).seen) }
+        ensures { IfOk result (λ _. site_of self.new
+            ≡ site (wrap (con SetHead) (site_of self.old).items) (site_of self.old).seen) }
     {
         let part = self.pop()?;
         let depth = deeper(part.1)?;
@@ -332,7 +339,8 @@ impl Builder {
 
     #[tactic(auto, using(crate::proofs::Means::means))]
     fn sequence(&mut self, alloc: Global) -> Result<(), AllocError>
-        ensures { IfOk result (λ _. site_of self.new ≡ site (wrap (con SeqHead) (site_of self.old).items) (site_of self.old).seen) }
+        ensures { IfOk result (λ _. site_of self.new
+            ≡ site (wrap (con SeqHead) (site_of self.old).items) (site_of self.old).seen) }
     {
         let part = self.pop()?;
         let depth = deeper(part.1)?;
@@ -343,7 +351,8 @@ impl Builder {
 
     #[tactic(auto, using(crate::proofs::Means::means))]
     fn function(&mut self, alloc: Global) -> Result<(), AllocError>
-        ensures { IfOk result (λ _. site_of self.new ≡ site (arrow (site_of self.old).items) (site_of self.old).seen) }
+        ensures { IfOk result (λ _. site_of self.new
+            ≡ site (arrow (site_of self.old).items) (site_of self.old).seen) }
     {
         let value = self.pop()?;
         let argument = self.pop()?;
@@ -355,7 +364,8 @@ impl Builder {
     }
 
     fn gather_one(&mut self, alloc: Global) -> Result<(), AllocError>
-        ensures { IfOk result (λ _. site_of self.new ≡ site (gather_one (site_of self.old).items) (site_of self.old).seen) }
+        ensures { IfOk result (λ _. site_of self.new
+            ≡ site (gather_one (site_of self.old).items) (site_of self.old).seen) }
     {
         let part = self.pop()?;
         let mut items = Vec::new(alloc);
@@ -365,7 +375,8 @@ impl Builder {
     }
 
     fn gather_more(&mut self) -> Result<(), AllocError>
-        ensures { IfOk result (λ _. site_of self.new ≡ site (gather_more (site_of self.old).items) (site_of self.old).seen) }
+        ensures { IfOk result (λ _. site_of self.new
+            ≡ site (gather_more (site_of self.old).items) (site_of self.old).seen) }
     {
         let part = self.pop()?;
         let before = self.pop_all()?;
@@ -377,7 +388,8 @@ impl Builder {
 
     #[tactic(auto, using(crate::proofs::Means::means))]
     fn tuple(&mut self) -> Result<(), AllocError>
-        ensures { IfOk result (λ _. site_of self.new ≡ site (tuple_all (site_of self.old).items) (site_of self.old).seen) }
+        ensures { IfOk result (λ _. site_of self.new
+            ≡ site (tuple_all (site_of self.old).items) (site_of self.old).seen) }
     {
         let parts = self.pop_all()?;
         let depth = deeper(parts.1)?;
@@ -405,7 +417,8 @@ impl Builder {
         names: &[Text],
         row: &Option<Text>,
     ) -> Result<(), AllocError>
-        ensures { IfOk result (λ _. site_of self.new ≡ recorded names.now (read_row row.now (site_of self.old).seen) (site_of self.old)) }
+        ensures { IfOk result (λ _. site_of self.new
+            ≡ recorded names.now (read_row row.now (site_of self.old).seen) (site_of self.old)) }
     {
         let tail = self.tail(alloc, row)?;
         let parts = self.pop_all()?;
@@ -417,7 +430,8 @@ impl Builder {
 
     #[tactic(auto, using(crate::proofs::Means::means))]
     fn operator(&mut self, alloc: Global) -> Result<(), AllocError>
-        ensures { IfOk result (λ _. site_of self.new ≡ site (operator_all (site_of self.old).items) (site_of self.old).seen) }
+        ensures { IfOk result (λ _. site_of self.new
+            ≡ site (operator_all (site_of self.old).items) (site_of self.old).seen) }
     {
         let value = self.pop()?;
         let arguments = self.pop_all()?;

@@ -307,7 +307,8 @@ impl Reader {
     fn unwind_one(&mut self) -> Result<bool, AllocError>
         ensures frames { IfOk result (λ more. (if more then unwound self.new else (reverse self.new.frames.items, self.new.marks.items)) ≡ unwound self.old) }
         ensures rows { IfOk result (λ _. self.new.rows.items ≡ self.old.rows.items) }
-        ensures shorter { IfOk result (λ more. more ≡ true → length self.new.frames.items < length self.old.frames.items) }
+        ensures shorter { IfOk result (λ more. more
+            ≡ true → length self.new.frames.items < length self.old.frames.items) }
     {
         match self.frames.pop() {
             Some(Frame::Function) => {
@@ -327,7 +328,8 @@ impl Reader {
     }
 
     pub(crate) fn unwind(&mut self) -> Result<(), AllocError>
-        ensures frames { IfOk result (λ _. (reverse self.new.frames.items, self.new.marks.items) ≡ unwound self.old) }
+        ensures frames { IfOk result (λ _. (reverse self.new.frames.items, self.new.marks.items)
+            ≡ unwound self.old) }
         ensures rows { IfOk result (λ _. self.new.rows.items ≡ self.old.rows.items) }
     {
         while self.unwind_one()? {}

@@ -218,7 +218,8 @@ impl Scanner {
     // Reads a byte behind whole pieces; false where it may not come.
     fn begin(&mut self, byte: u8) -> Result<bool, AllocError>
         requires { self.old.piece.items ≡ [] }
-        ensures { IfOk result (λ ok. scan_left ok self.new ≡ begin_piece (state_of self.old.reader) byte) }
+        ensures { IfOk result (λ ok. scan_left ok self.new
+            ≡ begin_piece (state_of self.old.reader) byte) }
     {
         if is_blank(byte) {
             return Ok(true);
@@ -229,7 +230,8 @@ impl Scanner {
 
     // Reads the piece that has begun; false where it may not come.
     fn complete(&mut self, alloc: Global) -> Result<bool, AllocError>
-        ensures read { IfOk result (λ ok. left ok self.new.reader ≡ behind (state_of self.old.reader) self.old.piece.items) }
+        ensures read { IfOk result (λ ok. left ok self.new.reader
+            ≡ behind (state_of self.old.reader) self.old.piece.items) }
         ensures piece { IfOk result (λ _. self.new.piece.items ≡ []) }
     {
         let piece = mem::replace(&mut self.piece, Vec::new(alloc));
@@ -238,9 +240,11 @@ impl Scanner {
 
     // Whether the piece that has begun goes on with the byte; then it does.
     fn goes_on(&mut self, byte: u8) -> Result<bool, AllocError>
-        ensures test { IfOk result (λ on. on ≡ viable (state_of self.old.reader) (self.old.piece.items ++ byte ∷ [])) }
+        ensures test { IfOk result (λ on. on
+            ≡ viable (state_of self.old.reader) (self.old.piece.items ++ byte ∷ [])) }
         ensures reader { IfOk result (λ _. self.new.reader ≡ self.old.reader) }
-        ensures piece { IfOk result (λ on. self.new.piece.items ≡ (if on then self.old.piece.items ++ byte ∷ [] else self.old.piece.items)) }
+        ensures piece { IfOk result (λ on. self.new.piece.items
+            ≡ (if on then self.old.piece.items ++ byte ∷ [] else self.old.piece.items)) }
     {
         let len = self.piece.len();
         self.piece.push(byte)?;
@@ -253,7 +257,8 @@ impl Scanner {
 
     // Reads a byte behind whole pieces and one that has begun; false where it may not come.
     fn follow(&mut self, alloc: Global, byte: u8) -> Result<bool, AllocError>
-        ensures { IfOk result (λ ok. scan_left ok self.new ≡ followed (state_of self.old.reader) self.old.piece.items byte) }
+        ensures { IfOk result (λ ok. scan_left ok self.new
+            ≡ followed (state_of self.old.reader) self.old.piece.items byte) }
     {
         if self.goes_on(byte)? {
             return Ok(true);
@@ -267,7 +272,8 @@ impl Scanner {
 
     // Reads the next byte; false where it may not come.
     fn next(&mut self, alloc: Global, byte: u8) -> Result<bool, AllocError>
-        ensures { IfOk result (λ ok. scan_left ok self.new ≡ next_at (state_of self.old.reader) self.old.piece.items byte) }
+        ensures { IfOk result (λ ok. scan_left ok self.new
+            ≡ next_at (state_of self.old.reader) self.old.piece.items byte) }
     {
         if self.piece.is_empty() {
             self.begin(byte)
