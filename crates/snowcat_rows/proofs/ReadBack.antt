@@ -1,5 +1,5 @@
 -- What is shown of a type is read back.
-use Rattle.std.proofs.Common.{◌≡◌, ℕ, suc, true, inl, inr, List, [], ◌∷◌, ◌++◌, map, refl, ap, sym, ◌∙◌, subst, codes, Option, Some, None, append_assoc, IsTrue}
+use Rattle.std.proofs.Common.{◌≡◌, ◌<◌, length, arith, ℕ, suc, true, inl, inr, List, [], ◌∷◌, ◌++◌, map, refl, ap, sym, ◌∙◌, subst, codes, Option, Some, None, append_assoc, IsTrue}
 use Rattle.std.specs.Prelude.{decimal, option_map, bytes_eq}
 use Rattle.std.proofs.lemmas.Bool.{cases_Bool}
 use Rattle.std.proofs.lemmas.List.{append-nil}
@@ -17,7 +17,7 @@ use Rattle.snowcat_rows.specs.Spellings.{Spelt, spelt, spelling, syntax_layer, l
 use Rattle.snowcat_rows.specs.Readings.{Known, find, number, noted, same_seen, own, zipped, read, read_all, read_fields, read_alias, read_row, unknown, unknown_all, unknown_fields, or_first, IsReadAs}
 use Rattle.snowcat_rows.specs.Renamings.{renamed_slot, shown_type, shown_row, by_numbers}
 use Rattle.snowcat_rows.proofs.Means.{mean_out}
-use Rattle.snowcat_rows.proofs.Words.{itself}
+use Rattle.snowcat_rows.proofs.Words.{itself, same_bytes}
 use Rattle.snowcat_rows.proofs.SpellingLaw.{spelt_opened, spelt_out, got, got_one, got_operator, some_is, spelled}
 
 -- ---- numbers stay
@@ -318,3 +318,30 @@ pub read_back : (t : Ty) (s : Syntax) → spelling t ≡ Some s → IsTrue (is_f
 read_back t s e f l k =
     let c = all_claims t in
     record { known = []; syntax_of = s; knows = refl; is_text = spelled t s e f l k; all_known = c.plainly s e []; says = sym (c.terms s e [] [] (read [] s []).1 (same (read [] s []).1)) }
+
+-- ---- different variables have different numbers
+
+same_is : (v w : Seen) → same_seen v w ≡ true → v ≡ w
+same_is (seen.Type x) (seen.Type y) h = ap (λ z. seen.Type z) (same_bytes x y h)
+same_is (seen.Row x) (seen.Row y) h = ap (λ z. seen.Row z) (same_bytes x y h)
+same_is (seen.Type x) (seen.Row y) h = absurd (cc)
+same_is (seen.Type x) seen.Own h = absurd (cc)
+same_is (seen.Row x) (seen.Type y) h = absurd (cc)
+same_is (seen.Row x) seen.Own h = absurd (cc)
+same_is seen.Own w h = absurd (cc)
+
+pub numbers_tell : (ns : List Seen) (v w : Seen) → number v ns < length ns → number v ns ≡ number w ns → v ≡ w
+numbers_tell [] v w h e = absurd (omega (arith, h))
+numbers_tell (n ∷ ns) v w h e = elim (cases_Bool (same_seen n v)) [
+  | inl a ↦ elim (cases_Bool (same_seen n w)) [
+    | inl b ↦ sym (same_is n v a) ∙ same_is n w b
+    | inr b ↦ absurd (let p : number v (n ∷ ns) ≡ 0 = rw a refl in let q : number w (n ∷ ns) ≡ suc (number w ns) = rw b refl in omega (arith, p, q, e))
+  ]
+  | inr a ↦ elim (cases_Bool (same_seen n w)) [
+    | inl b ↦ absurd (let p : number v (n ∷ ns) ≡ suc (number v ns) = rw a refl in let q : number w (n ∷ ns) ≡ 0 = rw b refl in omega (arith, p, q, e))
+    | inr b ↦
+        let p : number v (n ∷ ns) ≡ suc (number v ns) = rw a refl in
+        let q : number w (n ∷ ns) ≡ suc (number w ns) = rw b refl in
+        numbers_tell ns v w (omega (arith, p, h)) (omega (arith, p, q, e))
+  ]
+]

@@ -1,9 +1,10 @@
 // The text of a type.
-ghost use Rattle.std.specs.Prelude.{[], ◌==◌, ◌≡◌, ◌++◌, OnOk, codes, decimal, if◌then◌else◌, IsTrue, length, map};
+ghost use Rattle.std.specs.Prelude.{List as Items, [], ◌<◌, ◌==◌, ◌≡◌, ◌++◌, OnOk, codes, decimal, if◌then◌else◌, IsTrue, length, map};
 ghost use Rattle.std.specs.List.{join_by};
 ghost use Rattle.snowcat_rows.specs.Texts.{fields_text, form_of, items_text, operand_text, result_text, tail_text, type_text, typed_field};
 ghost use Rattle.snowcat_rows.specs.declared.types.Ty.{Ty as AnyType};
-ghost use Rattle.snowcat_rows.specs.Readings.{IsReadAs, read};
+ghost use Rattle.snowcat_rows.specs.Readings.{IsReadAs, number, read};
+ghost use Rattle.snowcat_rows.specs.declared.marks.Seen.{Seen};
 ghost use Rattle.snowcat_rows.specs.Renamings.{by_numbers};
 ghost use Rattle.snowcat_rows.specs.Spellings.{spelling};
 ghost use Rattle.snowcat_rows.specs.Types.{mean};
@@ -69,6 +70,11 @@ pub fn shown_types_are_spelled()
 pub fn shown_types_are_read_back()
     ensures { (t : AnyType) (s : Syntax) → spelling t ≡ Some s → IsTrue (is_formed s)
         → (l : Fronts) → KeepsFronts l s → IsReadAs [] (type_text t) (by_numbers (read [] s []).1 (mean t)) }
+{}
+
+/// Different variables have different numbers.
+pub fn numbers_tell_variables()
+    ensures { (ns : Items Seen) (v w : Seen) → number v ns < length ns → number v ns ≡ number w ns → v ≡ w }
 {}
 
 #[tactic(auto, using(crate::proofs::TextForms::texts))]
