@@ -9,8 +9,10 @@ pub mod Notes
 pub mod NumberLemmas
 pub mod OneAnswer
 pub mod PlaceLemmas
+pub mod ReadOn
 pub mod RunLemmas
 pub mod Signs
+pub mod SomeTokens
 pub mod Steps
 pub mod SymbolTable
 pub mod SymbolLemmas

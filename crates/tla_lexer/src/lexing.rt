@@ -1,5 +1,5 @@
 // The tokens of a module.
-ghost use Rattle.std.specs.Prelude.{◌≡◌, ◌⊎◌, ◌++◌, ◌≤◌, ℕ, List, not, false, map, drop, take, length, alloc_error, IfOk, IfErr, MatchResult, Some};
+ghost use Rattle.std.specs.Prelude.{◌≡◌, ◌⊎◌, ◌++◌, ◌<◌, ◌≤◌, ℕ, List, not, false, map, drop, take, length, alloc_error, IfOk, IfErr, MatchResult, Some};
 ghost use Rattle.std.specs.List.{join_with_byte};
 ghost use Rattle.std.specs.Result.{IsErrAnd};
 ghost use Rattle.tla_meaning.specs.declared.place.Place.{Place};
@@ -22,12 +22,13 @@ use tla_values::{List, Text};
 /// The tokens of the module in a file of this number, or the first fault in it. (Lamport, Specifying Systems,
 /// chapter 15.)
 ///
-/// The file has at most 268,435,456 bytes. All bytes before the module's header and behind its `====` are ignored,
+/// The file has at most 268,435,456 bytes. There is at least one token, the dashes of the header. All bytes before the module's header and behind its `====` are ignored,
 /// though places count those before; where no `====` stands, the tokens have no `End`. Lines and columns are from 1,
 /// and at most 2^31 + 1. The time is in proportion to the bytes, and the memory to the tokens and notes.
 pub fn tokens(alloc: Global, file: u32, bytes: &[u8]) -> Result<Tokens, LexFault>
     requires { length bytes.now ≤ 268435456 }
     ensures run { IfOk result (λ found. IsTokenRun file bytes.now found) }
+    ensures some { IfOk result (λ found. 0 < length found) }
     ensures fault { IfErr result (λ e. IsFault file bytes.now e ⊎ (e ≡ LexFault.Memory alloc_error)) }
 
     // A file has one run of tokens or one first fault, and that is the answer.
