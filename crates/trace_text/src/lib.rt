@@ -13,5 +13,5 @@ mod verdict;
 
 pub use blocks::{blocks_are_read_one_way, read_state};
 pub use faults::StateTextFault;
-pub use reports::report_text;
+pub use reports::{module_in, report_text, show_place};
 pub use verdict::{Fault, Part, Trace, Verdict, Where};

@@ -90,7 +90,7 @@ fn outside(at: Place, files: &[Text], out: &mut Vec<u8>) -> Result<(), AllocErro
         ≡ out.old.items ++ (codes " is outside an operator's domain at " ++ place_text files.now at ++ codes "\n")) }
 {
     append(b" is outside an operator's domain at ", out)?;
-    place(at, files, out)?;
+    show_place(at, files, out)?;
     append(b"\n", out)?;
     Ok(())
 }
@@ -108,7 +108,7 @@ fn overflow_line(
     append(b": ", out)?;
     part_name(part, out)?;
     append(b" at ", out)?;
-    place(at, files, out)?;
+    show_place(at, files, out)?;
     append(b"\n", out)
 }
 
@@ -138,20 +138,20 @@ fn origin(place: Where, out: &mut Vec<u8>) -> Result<(), AllocError>
     }
 }
 
-// `Module:line:column`.
+/// Adds a place as `Module:line:column` to what is written. `files` are the names of the module files at their numbers.
 #[tactic(auto, unfolding(crate::specs::Reports::place_text))]
-fn place(at: Place, files: &[Text], out: &mut Vec<u8>) -> Result<(), AllocError>
+pub fn show_place(at: Place, files: &[Text], out: &mut Vec<u8>) -> Result<(), AllocError>
     ensures { OnOk result (out.new.items ≡ out.old.items ++ place_text files.now at) }
 {
-    append(module_of(files, at.file), out)?;
+    append(module_in(files, at.file), out)?;
     append(b":", out)?;
     number(at.line as u64, out)?;
     append(b":", out)?;
     number(at.col as u64, out)
 }
 
-// The module in the file of this number.
-fn module_of(files: &[Text], file: u32) -> &[u8]
+/// The module in the file of this number: the file's name without its folder and `.tla`.
+pub fn module_in(files: &[Text], file: u32) -> &[u8]
     ensures { result.now ≡ module_name (file_name files.now file) }
 {
     match files.get(file as usize) {
