@@ -1,6 +1,6 @@
 -- Why an answer is given.
-use Rattle.std.proofs.Common.{◌≡◌, ℕ, ◌≤◌, inr, List, [], ◌∷◌, ◌++◌, length, Option, Some, None, refl, sym, ◌∙◌, ap, subst, arith}
-use Rattle.std.specs.Prelude.{codes, IfSome}
+use Rattle.std.proofs.Common.{◌≡◌, ℕ, ◌≤◌, inr, List, [], ◌∷◌, length, Option, Some, None, refl, sym, ◌∙◌, ap, subst, arith}
+use Rattle.std.specs.Prelude.{IfSome}
 use Rattle.tool_outside.specs.Causes.{Holds, HandedOut, IsCut, IsLong}
 use Rattle.tool_outside.specs.Outside.{Folder, Changes, Rose, file_at}
 use Rattle.tool_outside.specs.declared.files.FileFail.{FileFail}
@@ -11,19 +11,20 @@ use Rattle.refutation_checker.specs.declared.answers.Recheck.{Recheck}
 use Rattle.refutation_checker.specs.declared.section.Section.{Section}
 use Rattle.refutation_checker.specs.Certificate.{certificate_text}
 use Rattle.refutation_checker.specs.Rechecking.{IsRechecked, RefutesClosed, WhereAccepted}
-use Rattle.tla_meaning.specs.declared.boolean.BooleanModule.{BooleanModule}
-use Rattle.tla_meaning.specs.declared.expr.Decl.{Decl}
+use Rattle.plain_jobs.specs.Plain.{IsPlain}
+use Rattle.plain_jobs.specs.declared.plain.Plain.{Plain}
 use Rattle.tla_meaning.specs.declared.job.Job.{Job}
-use Rattle.tla_meaning.specs.BooleanLayout.{IsBooleanModule, IsBooleanLayout, declarations, job_of, module_text}
-use Rattle.tla_values.specs.FileNames.{without_folder}
 use Rattle.trace_text.specs.declared.verdict.Verdict.{Verdict}
 use Rattle.symbolic_mc.specs.declared.answer.Answer.{Answer}
-use Rattle.symbolic_mc.specs.declared.answer.Answer.TheVariants.{Missing, NotBuilt, WriteFault, Checked, NoCertificate, Rechecked}
-use Rattle.symbolic_mc.specs.Naming.{IsModuleOf, certificate_name}
-use Rattle.symbolic_mc.specs.Top.{IsOnlyBooleanLayout, Checks, IsAnswer, ReadFailed, IsTooLong, NoModule, NotInLayout, WriteFailed, Found, NoFile, Reread, Names, Saves, SavesPart, Touches, certificate_limit, module_limit}
+use Rattle.symbolic_mc.specs.declared.answer.Answer.TheVariants.{Missing, Refused, NotBuilt, WriteFault, Checked, NoCertificate, Rechecked}
+use Rattle.plain_texts.specs.Naming.{IsModuleOf}
+use Rattle.symbolic_mc.specs.Naming.{certificate_name}
+use Rattle.symbolic_mc.specs.Top.{Checks, IsAnswer, ReadFailed, IsTooLong, NoModule, NotSpelled, NotPlain, WriteFailed, Found, NoFile, Reread, Names, Saves, SavesPart, Touches, certificate_limit, module_limit}
+use Rattle.plain_texts.specs.Sources.{IsNotPlain, IsOnlyPlainText, IsRefused}
+use Rattle.plain_texts.specs.declared.refusal.Refusal.{Refusal}
 use Rattle.symbolic_mc.specs.Verdicts.{IsChecked}
 use Rattle.symbolic_mc.specs.Words.{Command}
-use Rattle.symbolic_mc.specs.inner.Told.{IsModuleRead, IsReadFault, requests}
+use Rattle.symbolic_mc.specs.inner.Told.{IsJobRead, IsReadFault, requests}
 
 -- ---- the bytes that were handed out
 
@@ -63,44 +64,29 @@ no_certificate cert old new before now none stay = NoFile cert refl none stay
 
 -- ---- a module
 
--- each module that has the bytes as its text is this one
-abbrev pub IsSource : BooleanModule → List ℕ → Type 0
-IsSource m bytes = (other : BooleanModule) → IsBooleanModule other → bytes ≡ module_text other → other ≡ m
-
-only_form : (m : BooleanModule) (file bytes : List ℕ) → IsBooleanModule m → without_folder file ≡ m.name ++ codes ".tla"
-    → bytes ≡ module_text m → IsSource m bytes → IsOnlyBooleanLayout file (job_of file m) bytes
-only_form m file bytes wf named spelled source = record {
-  form = record { source = m; well_formed = wf; named = named; spelled = spelled; job_is = refl };
-  only = λ other form. form.job_is ∙ ap (job_of file) (source form.source form.well_formed form.spelled);
-}
-
-pub module_read : (m : BooleanModule) (held : Option Folder) (file bytes : List ℕ) → HandedOut held file module_limit bytes → IsBooleanModule m
-    → without_folder file ≡ m.name ++ codes ".tla" → bytes ≡ module_text m → IsSource m bytes → IsModuleRead held file m
-module_read m held file bytes handed wf named spelled source = record { bytes = bytes; handed = handed; form = only_form m file bytes wf named spelled source }
-
 pub no_module : (file name seen : List ℕ) (longest : ℕ) (budget : Option ℕ) (again : Option (List ℕ)) (old new : Option Folder) (before now : ℕ)
     → Holds old file None → IsModuleOf file seen → name ≡ seen → new ≡ old → IsAnswer (requests file longest budget again) old new before now (Missing name)
 no_module file name seen longest budget again old new before now none is same stay =
     NoModule file name longest budget refl none (subst (IsModuleOf file) (sym same) is) stay
 
--- a module of another name than the file's
-pub other_name : (m : BooleanModule) (file bytes : List ℕ) → IsSource m bytes → ((without_folder file ≡ m.name ++ codes ".tla") → ⊥)
-    → (job : Job) → IsBooleanLayout file job bytes → ⊥
-other_name m file bytes source differs job form =
-    differs (form.named ∙ ap (λ (x : BooleanModule). x.name ++ codes ".tla") (source form.source form.well_formed form.spelled))
+pub not_plain : (file bytes : List ℕ) (longest : ℕ) (budget : Option ℕ) (again : Option (List ℕ)) (old new : Option Folder) (before now : ℕ)
+    → HandedOut old file module_limit bytes → IsNotPlain file bytes → new ≡ old → IsAnswer (requests file longest budget again) old new before now NotBuilt
+not_plain file bytes longest budget again old new before now handed not stay = NotPlain file bytes longest budget refl handed not stay
 
-pub no_source : (file bytes : List ℕ) → ((m : BooleanModule) → IsBooleanModule m → bytes ≡ module_text m → ⊥)
-    → (job : Job) → IsBooleanLayout file job bytes → ⊥
-no_source file bytes none job form = none form.source form.well_formed form.spelled
+pub not_spelled : (file bytes : List ℕ) (longest : ℕ) (budget : Option ℕ) (again : Option (List ℕ)) (old new : Option Folder) (before now : ℕ) (refusal : Refusal) (holders : List (List ℕ))
+    → HandedOut old file module_limit bytes → IsRefused bytes refusal → holders ≡ file ∷ [] → new ≡ old
+    → IsAnswer (requests file longest budget again) old new before now (Refused holders refusal)
+not_spelled file bytes longest budget again old new before now refusal holders handed refused same stay =
+    subst (λ (x : List (List ℕ)). IsAnswer (requests file longest budget again) old new before now (Refused x refusal)) (sym same)
+    (NotSpelled file bytes longest budget refusal refl handed refused stay)
 
-pub not_in_layout : (file bytes : List ℕ) (longest : ℕ) (budget : Option ℕ) (again : Option (List ℕ)) (old new : Option Folder) (before now : ℕ)
-    → HandedOut old file module_limit bytes → ((job : Job) → IsBooleanLayout file job bytes → ⊥) → new ≡ old
-    → IsAnswer (requests file longest budget again) old new before now NotBuilt
-not_in_layout file bytes longest budget again old new before now handed none stay = NotInLayout file bytes longest budget refl handed none stay
+pub job_read : (held : Option Folder) (file bytes : List ℕ) (job : Job) (m : Plain) → HandedOut held file module_limit bytes → IsOnlyPlainText file job bytes
+    → IsPlain job m → IsJobRead held file job m
+job_read held file bytes job m handed form plain = record { bytes = bytes; handed = handed; form = form; plain = plain }
 
 -- ---- a module that was checked
 
-module _ (m : BooleanModule) (file : List ℕ) (longest : ℕ) (budget : Option ℕ) (again : Option (List ℕ)) (old new : Option Folder) (before now : ℕ) (verdict : Verdict) (sections : List Section) (read : IsModuleRead old file m) (checked : (name : List ℕ) → IsChecked (job_of name m) longest budget verdict sections) where
+module _ (m : Plain) (file : List ℕ) (job : Job) (longest : ℕ) (budget : Option ℕ) (again : Option (List ℕ)) (old new : Option Folder) (before now : ℕ) (verdict : Verdict) (sections : List Section) (read : IsJobRead old file job m) (checked : (x : Job) → IsPlain x m → IsChecked x longest budget verdict sections) where
   abbrev checks : Checks (requests file longest budget again) old verdict sections
   checks = record {
     file = file;
@@ -109,21 +95,19 @@ module _ (m : BooleanModule) (file : List ℕ) (longest : ℕ) (budget : Option 
     asked = refl;
     bytes = read.bytes;
     handed = read.handed;
-    job = job_of file m;
+    job = job;
     form = read.form;
-    checked = checked file;
+    checked = checked job read.plain;
   }
 
-  pub found_answer : (names : List Decl) (holders : List (List ℕ)) (name : List ℕ) (seen : List Section) → names ≡ declarations 3 m.vars → holders ≡ file ∷ []
-      → name ≡ certificate_name file → seen ≡ sections → Changes old new name (λ _ is. is ≡ Some (certificate_text seen))
-      → IsAnswer (requests file longest budget again) old new before now (Checked names holders verdict)
-  found_answer names holders name seen names_are holders_are name_is seen_is saved =
+  pub found_answer : (name : List ℕ) (seen : List Section) → name ≡ certificate_name file → seen ≡ sections
+      → Changes old new name (λ _ is. is ≡ Some (certificate_text seen))
+      → IsAnswer (requests file longest budget again) old new before now (Checked job.names job.files verdict)
+  found_answer name seen name_is seen_is saved =
       let here : Saves file sections old new =
       subst (λ (x : List ℕ). Changes old new x (λ _ is. is ≡ Some (certificate_text sections))) name_is
       (subst (λ (x : List Section). Changes old new name (λ _ is. is ≡ Some (certificate_text x))) seen_is saved) in
-      subst (λ (x : List Decl). IsAnswer (requests file longest budget again) old new before now (Checked x holders verdict)) (sym names_are)
-      (subst (λ (x : List (List ℕ)). IsAnswer (requests file longest budget again) old new before now (Checked (declarations 3 m.vars) x verdict)) (sym holders_are)
-      (Found verdict sections checks here))
+      Found verdict sections checks here
 
   pub part_touches : (name : List ℕ) (seen : List Section) → name ≡ certificate_name file → seen ≡ sections → Changes old new name (IsCut (certificate_text seen))
       → Touches (requests file longest budget again) old new

@@ -9,10 +9,11 @@ use Rattle.sat_formula.specs.Clause.{AllTrue}
 use Rattle.sat_formula.specs.Formula.{Satisfies}
 use Rattle.cdcl_solver.specs.Answers.{clauses_with, IsModel}
 use Rattle.refutation_checker.specs.Follows.{IsUnsatisfiable}
-use Rattle.tla_meaning.specs.declared.boolean.BooleanModule.{BooleanModule}
+use Rattle.plain_jobs.specs.declared.plain.Plain.{Plain}
 use Rattle.tla_meaning.specs.declared.job.State.{State}
 use Rattle.tla_meaning.specs.Executions.{IsExecution, invariant, last_of}
-use Rattle.tla_meaning.specs.BooleanLayout.{IsBooleanModule, job_of}
+use Rattle.plain_jobs.specs.Plain.{IsPlain}
+use Rattle.tla_meaning.specs.declared.job.Job.{Job}
 use Rattle.tla_meaning.specs.Numbers.{Width}
 use Rattle.tla_meaning.specs.Operators.{yes_no}
 use Rattle.std.proofs.lemmas.List.{length-map, get_or-map}
@@ -25,7 +26,6 @@ use Rattle.symbolic_mc.proofs.Errors.{errs_run, execution_run}
 use Rattle.symbolic_mc.proofs.Meaning.{execution_is, invariant_is, last_is}
 use Rattle.symbolic_mc.proofs.Reaching.{required_more}
 use Rattle.symbolic_mc.proofs.Runs.{runs_of, values_length}
-use Rattle.symbolic_mc.proofs.Shapes.{init_below, next_below, inv_below}
 
 pub satisfied : (a : List Bool) (f : Cnf) → AllTrue a f.clauses → Satisfies a f
 unfolding Satisfies
@@ -49,36 +49,36 @@ turned_back b c e h = e ∙ ap not h
 -- ---- what an assignment stands for
 
 -- an execution, at whose last state the invariant is FALSE
-pub record IsBrokenRun (w : Width) (file : List ℕ) (m : BooleanModule) (n : ℕ) (states : List State) : Type 0 where
-  pub execution : IsExecution w (job_of file m) states
+pub record IsBrokenRun (w : Width) (job : Job) (m : Plain) (n : ℕ) (states : List State) : Type 0 where
+  pub execution : IsExecution w job states
   pub count : length states ≡ n + 1
   pub last : State
   pub ends : last_of states ≡ Some last
-  pub broken : invariant w (job_of file m) last ≡ yes_no false
+  pub broken : invariant w job last ≡ yes_no false
 
-pub broken_run : (w : Width) (file : List ℕ) (m : BooleanModule) (n : ℕ) (f : Cnf) (codes : List (List Lit)) (l : Lit) (a : List Bool) → IsBooleanModule m
+pub broken_run : (w : Width) (job : Job) (m : Plain) (n : ℕ) (f : Cnf) (codes : List (List Lit)) (l : Lit) (a : List Bool) → IsPlain job m
     → IsLevel m f codes → length codes ≡ n + 1 → IsBroken m f codes n l → Satisfies a f → lit_value l a ≡ true
-    → IsBrokenRun w file m n (map (λ code. state_of (values_of a code)) codes)
-broken_run w file m n f codes l a wf level count is_broken sat asked =
+    → IsBrokenRun w job m n (map (λ code. state_of (values_of a code)) codes)
+broken_run w job m n f codes l a plain level count is_broken sat asked =
     let runs = runs_of m f codes n count level in
     let last : List Bool = values_of a (get_or codes n []) in
-    let size : length last ≡ length m.vars = values_length a (get_or codes n []) (length m.vars) (runs.each n [] (omega arith)).fills in
+    let size : length last ≡ m.vars = values_length a (get_or codes n []) m.vars (runs.each n [] (omega arith)).fills in
     let here : inv_holds m last ≡ false = turned (lit_value l a) (inv_holds m last) (is_broken.value a sat) asked in
     record {
-      execution = subst (λ (x : List State). IsExecution w (job_of file m) x) (map_twice a codes)
-          (execution_is w file m (map (values_of a) codes) (init_below m m.init (length m.vars) wf refl refl) (next_below m m.next (length m.vars) wf refl refl) (runs.real a sat));
+      execution = subst (λ (x : List State). IsExecution w job x) (map_twice a codes)
+          (execution_is w job m (map (values_of a) codes) plain (runs.real a sat));
       count = length-map codes (λ code. state_of (values_of a code)) ∙ count;
       last = state_of last;
       ends = last_is (λ code. state_of (values_of a code)) codes n [] count;
-      broken = invariant_is w file m last (inv_below m m.inv (length last) wf refl size) ∙ ap yes_no here;
+      broken = invariant_is w job m last plain size ∙ ap yes_no here;
     }
 
-pub breaks_here : (m : BooleanModule) (n : ℕ) (f : Cnf) (codes : List (List Lit)) (l : Lit) (a : List Bool) (states : List State) → IsBooleanModule m
+pub breaks_here : (m : Plain) (n : ℕ) (f : Cnf) (codes : List (List Lit)) (l : Lit) (a : List Bool) (states : List State)
     → IsLevel m f codes → length codes ≡ n + 1 → IsBroken m f codes n l → IsModel f l a → states ≡ map (λ code. state_of (values_of a code)) codes → Breaks m n states
-breaks_here m n f codes l a states wf level count is_broken model same = λ file.
-    let run = broken_run None file m n f codes l a wf level count is_broken model.satisfies model.assumed in
+breaks_here m n f codes l a states level count is_broken model same = λ job plain.
+    let run = broken_run None job m n f codes l a plain level count is_broken model.satisfies model.assumed in
     record {
-      execution = subst (λ (x : List State). IsExecution None (job_of file m) x) (sym same) run.execution;
+      execution = subst (λ (x : List State). IsExecution None job x) (sym same) run.execution;
       count = ap length same ∙ run.count;
       last = run.last;
       ends = ap last_of same ∙ run.ends;
@@ -87,7 +87,7 @@ breaks_here m n f codes l a states wf level count is_broken model same = λ file
 
 -- ---- what stands for an execution
 
-runs_decoded : (m : BooleanModule) (f : Cnf) (codes : List (List Lit)) (n : ℕ) (runs : List (List Bool)) (states : List State) → IsLevel m f codes → length codes ≡ n + 1
+runs_decoded : (m : Plain) (f : Cnf) (codes : List (List Lit)) (n : ℕ) (runs : List (List Bool)) (states : List State) → IsLevel m f codes → length codes ≡ n + 1
     → IsRun m runs → length runs ≡ n + 1 → map state_of runs ≡ states
     → (a : List Bool) × Decodes f.vars f.clauses codes states a × (values_of a (get_or codes n []) ≡ get_or runs n [])
 runs_decoded m f codes n runs states level count run long same =
@@ -103,11 +103,11 @@ runs_decoded m f codes n runs states level count run long same =
     )
 
 -- of as many states as the level has
-pub execution_decoded : (w : Width) (file : List ℕ) (m : BooleanModule) (f : Cnf) (codes : List (List Lit)) (states : List State) → IsBooleanModule m → IsLevel m f codes
-    → IsExecution w (job_of file m) states → length states ≡ length codes → (a : List Bool) × Decodes f.vars f.clauses codes states a
-execution_decoded w file m f codes [] wf level execution long = absurd execution
-execution_decoded w file m f codes (s ∷ states) wf level execution long =
-    let found = execution_run w file m (s ∷ states) wf execution in
+pub execution_decoded : (w : Width) (job : Job) (m : Plain) (f : Cnf) (codes : List (List Lit)) (states : List State) → IsPlain job m → IsLevel m f codes
+    → IsExecution w job states → length states ≡ length codes → (a : List Bool) × Decodes f.vars f.clauses codes states a
+execution_decoded w job m f codes [] plain level execution long = absurd execution
+execution_decoded w job m f codes (s ∷ states) plain level execution long =
+    let found = execution_run w job m (s ∷ states) plain execution in
     let n = length states in
     let count : length codes ≡ n + 1 = omega arith in
     let size : length found.0 ≡ n + 1 = sym (length-map found.0 state_of) ∙ ap length found.1 ∙ omega arith in
@@ -115,7 +115,7 @@ execution_decoded w file m f codes (s ∷ states) wf level execution long =
     (to.0, to.1)
 
 -- an execution at whose last state the invariant is FALSE
-pub broken_decoded : (m : BooleanModule) (n : ℕ) (f : Cnf) (codes : List (List Lit)) (l : Lit) (runs : List (List Bool)) (states : List State) → IsLevel m f codes
+pub broken_decoded : (m : Plain) (n : ℕ) (f : Cnf) (codes : List (List Lit)) (l : Lit) (runs : List (List Bool)) (states : List State) → IsLevel m f codes
     → length codes ≡ n + 1 → IsBroken m f codes n l → IsRun m runs → length runs ≡ n + 1 → map state_of runs ≡ states → inv_holds m (get_or runs n []) ≡ false
     → (a : List Bool) × Decodes f.vars f.clauses codes states a × (lit_value l a ≡ true)
 broken_decoded m n f codes l runs states level count is_broken run long same broken =
@@ -125,10 +125,10 @@ broken_decoded m n f codes l runs states level count is_broken run long same bro
     (a, to.1, turned_back (lit_value l a) (inv_holds m (values_of a (get_or codes n []))) (is_broken.value a (satisfied a f to.1.satisfies)) here)
 
 -- where no assignment makes the literal true, the level does not err
-pub none_found : (m : BooleanModule) (n : ℕ) (f : Cnf) (codes : List (List Lit)) (l : Lit) → IsBooleanModule m → IsLevel m f codes → length codes ≡ n + 1
+pub none_found : (m : Plain) (n : ℕ) (f : Cnf) (codes : List (List Lit)) (l : Lit) → IsLevel m f codes → length codes ≡ n + 1
     → IsBroken m f codes n l → IsUnsatisfiable (clauses_with f l) → NoError m n
-none_found m n f codes l wf level count is_broken none = λ file error.
-    let run = errs_run file m n wf error in
+none_found m n f codes l level count is_broken none = λ job plain error.
+    let run = errs_run job m n plain error in
     let to = broken_decoded m n f codes l run.0 (map state_of run.0) level count is_broken run.1 run.2 refl run.3 in
     let asked : Cnf = record { vars = f.vars; clauses = clauses_with f l } in
     none to.0 (clauses_of to.0 asked (required_more f asked l to.0 refl (satisfied to.0 f to.1.satisfies) to.2))

@@ -6,14 +6,12 @@ pub mod Encoded
 pub mod Errors
 pub mod Found
 pub mod Journals
-pub mod Layouts
 pub mod Levels
 pub mod Literals
 pub mod Meaning
 pub mod Names
 pub mod Numbers
 pub mod Reaching
-pub mod Readings
 pub mod Runs
 pub mod Saved
 pub mod Shapes

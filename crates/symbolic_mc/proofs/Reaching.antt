@@ -12,7 +12,7 @@ use Rattle.sat_formula.specs.Lit.{lit_value, IsBelow}
 use Rattle.sat_formula.specs.Clause.{clause_true, AllTrue}
 use Rattle.sat_formula.specs.Formula.{Satisfies, Extends, Grows, EitherExtends, HasValue}
 use Rattle.sat_formula.proofs.Extension.{lit_value-append}
-use Rattle.tla_meaning.specs.declared.boolean.BooleanModule.{BooleanModule}
+use Rattle.plain_jobs.specs.declared.plain.Plain.{Plain}
 use Rattle.tla_meaning.specs.declared.boolean.Conjunct.{Conjunct}
 use Rattle.symbolic_mc.specs.inner.Boolean.{IsRun, RunsOn, all_hold, some_holds, init_holds, next_holds}
 use Rattle.symbolic_mc.specs.inner.Levels.{values_of, IsCode, IsReached, AreReached}
@@ -103,11 +103,11 @@ pub extended : (f g : Cnf) (a : List Bool) → Grows f g → length a ≡ f.vars
 unfolding Extends Satisfies
 extended f g a grown size sat = let s = grown.extends.law a size sat in (s.0, s.1.0, s.1.1)
 
-pub start_reaches : (m : BooleanModule) (f g h : Cnf) (n : ℕ) (code code2 code3 asked seen : List Lit) (init : List Conjunct)
-    → IsFree f g n code → n ≡ length m.vars → init ≡ m.init → code2 ≡ code → code3 ≡ code → seen ≡ asked
+pub start_reaches : (m : Plain) (f g h : Cnf) (n : ℕ) (code code2 code3 asked seen : List Lit) (init : List Conjunct)
+    → IsFree f g n code → n ≡ m.vars → init ≡ m.init → code2 ≡ code → code3 ≡ code → seen ≡ asked
     → ((a : List Bool) → list_all (λ l. lit_value l a) asked ≡ all_hold init (values_of a code2) (values_of a code3))
     → ((a : List Bool) → Satisfies a g → list_all (λ l. lit_value l a) seen ≡ true → Satisfies a h)
-    → (a bits : List Bool) → length a ≡ f.vars → Satisfies a f → length bits ≡ length m.vars → init_holds m bits ≡ true
+    → (a bits : List Bool) → length a ≡ f.vars → Satisfies a f → length bits ≡ m.vars → init_holds m bits ≡ true
     → Satisfies (a ++ bits) h × (values_of (a ++ bits) code ≡ bits)
 start_reaches m f g h n code code2 code3 asked seen init free count is_init same2 same3 same value required a bits size sat long holds =
     let given = free a bits size sat (long ∙ sym count) in
@@ -117,11 +117,11 @@ start_reaches m f g h n code code2 code3 asked seen init free count is_init same
     ∙ ap (λ (x : List Bool). all_hold m.init bits x) (ap (values_of (a ++ bits)) same3 ∙ given.1) ∙ holds in
     (required (a ++ bits) given.0 (ap (list_all (λ l. lit_value l (a ++ bits))) same ∙ value (a ++ bits) ∙ told), given.1)
 
-pub follow_reaches : (m : BooleanModule) (f0 f1 f2 f3 : Cnf) (n : ℕ) (now next next2 : List Lit) (some : Lit) (branches : List (List Conjunct))
-    → IsCode f0 (length m.vars) now → IsCode f1 n next → IsFree f0 f1 n next → f1.vars ≡ f0.vars + n → n ≡ length m.vars → Grows f1 f2
+pub follow_reaches : (m : Plain) (f0 f1 f2 f3 : Cnf) (n : ℕ) (now next next2 : List Lit) (some : Lit) (branches : List (List Conjunct))
+    → IsCode f0 m.vars now → IsCode f1 n next → IsFree f0 f1 n next → f1.vars ≡ f0.vars + n → n ≡ m.vars → Grows f1 f2
     → HasValue f2 some (λ a. some_holds branches (values_of a now) (values_of a next2)) → branches ≡ m.next → next2 ≡ next
     → ((a : List Bool) → Satisfies a f2 → list_all (λ l. lit_value l a) (some ∷ []) ≡ true → Satisfies a f3) → f3.vars ≡ f2.vars
-    → (a bits : List Bool) → length a ≡ f0.vars → Satisfies a f0 → length bits ≡ length m.vars → next_holds m (values_of a now) bits ≡ true
+    → (a bits : List Bool) → length a ≡ f0.vars → Satisfies a f0 → length bits ≡ m.vars → next_holds m (values_of a now) bits ≡ true
     → (more : List Bool) × IsReached f3 (a ++ more) next bits
 follow_reaches m f0 f1 f2 f3 n now next next2 some branches is_now is_next free vars count grown value is_branches same required stay a bits size sat long holds =
     let given = free a bits size sat (long ∙ sym count) in
@@ -130,7 +130,7 @@ follow_reaches m f0 f1 f2 f3 n now next next2 some branches is_now is_next free 
     let all : List Bool = (a ++ bits) ++ ext.0 in
     let whole : all ≡ a ++ (bits ++ ext.0) = append_assoc a bits ext.0 in
     let next_there : values_of all next ≡ bits = code_kept f1 n (a ++ bits) ext.0 next long1 is_next ∙ given.1 in
-    let now_there : values_of all now ≡ values_of a now = ap (λ (x : List Bool). values_of x now) whole ∙ code_kept f0 (length m.vars) a (bits ++ ext.0) now size is_now in
+    let now_there : values_of all now ≡ values_of a now = ap (λ (x : List Bool). values_of x now) whole ∙ code_kept f0 m.vars a (bits ++ ext.0) now size is_now in
     let true_there : lit_value some all ≡ true =
     value.value all ext.2
     ∙ ap (λ (x : List (List Conjunct)). some_holds x (values_of all now) (values_of all next2)) is_branches
@@ -146,23 +146,23 @@ follow_reaches m f0 f1 f2 f3 n now next next2 some branches is_now is_next free 
 
 -- ---- levels
 
-run_front : (m : BooleanModule) (front : List (List Bool)) (last : List Bool) (i : ℕ) → length front ≡ i + 1 → IsRun m (front ++ last ∷ [])
-    → IsRun m front × (length last ≡ length m.vars) × (next_holds m (get_or front i []) last ≡ true)
+run_front : (m : Plain) (front : List (List Bool)) (last : List Bool) (i : ℕ) → length front ≡ i + 1 → IsRun m (front ++ last ∷ [])
+    → IsRun m front × (length last ≡ m.vars) × (next_holds m (get_or front i []) last ≡ true)
 run_front m [] last i count run = absurd (omega arith)
 run_front m (first ∷ rest) last i count run =
     let more = runs_front m first rest last run.2 in
     let at : i ≡ length rest = omega arith in
     ((run.0, run.1, more.0), more.1, subst (λ (k : ℕ). next_holds m (get_or (first ∷ rest) k []) last ≡ true) (sym at) more.2)
   where
-    runs_front : (m : BooleanModule) (now : List Bool) (rest : List (List Bool)) (last : List Bool) → RunsOn m now (rest ++ last ∷ [])
-        → RunsOn m now rest × (length last ≡ length m.vars) × (next_holds m (get_or (now ∷ rest) (length rest) []) last ≡ true)
+    runs_front : (m : Plain) (now : List Bool) (rest : List (List Bool)) (last : List Bool) → RunsOn m now (rest ++ last ∷ [])
+        → RunsOn m now rest × (length last ≡ m.vars) × (next_holds m (get_or (now ∷ rest) (length rest) []) last ≡ true)
     runs_front m now [] last run = (tt, run.0, run.1)
     runs_front m now (r ∷ rest) last run =
         let more = runs_front m r rest last run.2 in
         ((run.0, run.1, more.0), more.1, more.2)
 
-pub reached_first : (m : BooleanModule) (f0 f : Cnf) (code : List Lit) → f0.vars ≡ 1 → Satisfies (true ∷ []) f0 → f.vars ≡ f0.vars + length m.vars
-    → ((a bits : List Bool) → length a ≡ f0.vars → Satisfies a f0 → length bits ≡ length m.vars → init_holds m bits ≡ true
+pub reached_first : (m : Plain) (f0 f : Cnf) (code : List Lit) → f0.vars ≡ 1 → Satisfies (true ∷ []) f0 → f.vars ≡ f0.vars + m.vars
+    → ((a bits : List Bool) → length a ≡ f0.vars → Satisfies a f0 → length bits ≡ m.vars → init_holds m bits ≡ true
     → Satisfies (a ++ bits) f × (values_of (a ++ bits) code ≡ bits))
     → (runs : List (List Bool)) → IsRun m runs → length runs ≡ 1 → AreReached f (code ∷ []) runs
 reached_first m f0 f code one sat size reach [] run count = absurd run
@@ -176,9 +176,9 @@ reached_first m f0 f code one sat size reach (bits ∷ []) run count =
       decodes = ap (λ (x : List Bool). x ∷ []) given.1;
     }
 
-pub reached_next : (m : BooleanModule) (f g : Cnf) (codes : List (List Lit)) (i : ℕ) (d now next : List Lit) → length codes ≡ i + 1 → now ≡ get_or codes i d
-    → All (IsCode f (length m.vars)) codes → ((runs : List (List Bool)) → IsRun m runs → length runs ≡ length codes → AreReached f codes runs)
-    → ((a bits : List Bool) → length a ≡ f.vars → Satisfies a f → length bits ≡ length m.vars → next_holds m (values_of a now) bits ≡ true
+pub reached_next : (m : Plain) (f g : Cnf) (codes : List (List Lit)) (i : ℕ) (d now next : List Lit) → length codes ≡ i + 1 → now ≡ get_or codes i d
+    → All (IsCode f m.vars) codes → ((runs : List (List Bool)) → IsRun m runs → length runs ≡ length codes → AreReached f codes runs)
+    → ((a bits : List Bool) → length a ≡ f.vars → Satisfies a f → length bits ≡ m.vars → next_holds m (values_of a now) bits ≡ true
     → (more : List Bool) × IsReached g (a ++ more) next bits)
     → (runs : List (List Bool)) → IsRun m runs → length runs ≡ length (codes ++ next ∷ []) → AreReached g (codes ++ next ∷ []) runs
 reached_next m f g codes i d now next count is_now each reach step runs run long =
@@ -198,7 +198,7 @@ reached_next m f g codes i d now next count is_now each reach step runs run long
       satisfied = after.1.satisfied;
       decodes =
           map-append (values_of (before.assignment ++ after.0)) codes (next ∷ [])
-          ∙ ap (λ (x : List (List Bool)). x ++ values_of (before.assignment ++ after.0) next ∷ []) (codes_kept f (length m.vars) before.assignment after.0 codes before.size each ∙ before.decodes)
+          ∙ ap (λ (x : List (List Bool)). x ++ values_of (before.assignment ++ after.0) next ∷ []) (codes_kept f m.vars before.assignment after.0 codes before.size each ∙ before.decodes)
           ∙ ap (λ (x : List Bool). front ++ x ∷ []) after.1.decodes ∙ sym parts.3;
     }
 

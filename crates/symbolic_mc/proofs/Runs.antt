@@ -9,7 +9,7 @@ use Rattle.sat_formula.specs.declared.cnf.Cnf.{Cnf}
 use Rattle.sat_formula.specs.Lit.{lit_value, IsBelow}
 use Rattle.sat_formula.specs.Formula.{Satisfies, Grows}
 use Rattle.sat_formula.proofs.Extension.{Satisfies-older}
-use Rattle.tla_meaning.specs.declared.boolean.BooleanModule.{BooleanModule}
+use Rattle.plain_jobs.specs.declared.plain.Plain.{Plain}
 use Rattle.tla_meaning.specs.declared.boolean.Conjunct.{Conjunct}
 use Rattle.symbolic_mc.specs.inner.Boolean.{IsRun, RunsOn, all_hold, some_holds, init_holds, next_holds}
 use Rattle.symbolic_mc.specs.inner.Levels.{values_of, IsCode, IsLevel, HasRuns, IsReached}
@@ -47,12 +47,12 @@ code_later f g n code le is = record { fills = is.fills; below = below_more f.va
 
 -- ---- runs
 
-runs_more : (m : BooleanModule) (now next : List Bool) (rest : List (List Bool)) → RunsOn m now rest → length next ≡ length m.vars
+runs_more : (m : Plain) (now next : List Bool) (rest : List (List Bool)) → RunsOn m now rest → length next ≡ m.vars
     → next_holds m (get_or (now ∷ rest) (length rest) []) next ≡ true → RunsOn m now (rest ++ next ∷ [])
 runs_more m now next [] run size holds = (size, holds, tt)
 runs_more m now next (r ∷ rest) run size holds = (run.0, run.1, runs_more m r next rest run.2 size holds)
 
-run_more : (m : BooleanModule) (runs : List (List Bool)) (next : List Bool) (i : ℕ) → length runs ≡ i + 1 → IsRun m runs → length next ≡ length m.vars
+run_more : (m : Plain) (runs : List (List Bool)) (next : List Bool) (i : ℕ) → length runs ≡ i + 1 → IsRun m runs → length next ≡ m.vars
     → next_holds m (get_or runs i []) next ≡ true → IsRun m (runs ++ next ∷ [])
 run_more m [] next i count run size holds = absurd run
 run_more m (first ∷ rest) next i count run size holds =
@@ -64,49 +64,49 @@ values_length a code n e = length-map code (λ l. lit_value l a) ∙ e
 
 -- ---- levels
 
-pub level_as : (m : BooleanModule) (f : Cnf) (codes codes' : List (List Lit)) → codes' ≡ codes → IsLevel m f codes → IsLevel m f codes'
+pub level_as : (m : Plain) (f : Cnf) (codes codes' : List (List Lit)) → codes' ≡ codes → IsLevel m f codes → IsLevel m f codes'
 level_as m f codes codes' same level = subst (λ (x : List (List Lit)). IsLevel m f x) (sym same) level
 
 -- a level with states has its runs
-pub runs_of : (m : BooleanModule) (f : Cnf) (codes : List (List Lit)) (n : ℕ) → length codes ≡ n + 1 → IsLevel m f codes → HasRuns m f codes
+pub runs_of : (m : Plain) (f : Cnf) (codes : List (List Lit)) (n : ℕ) → length codes ≡ n + 1 → IsLevel m f codes → HasRuns m f codes
 runs_of m f [] n size level = absurd (omega arith)
 runs_of m f (code ∷ codes) n size level = level
 
-level_of : (m : BooleanModule) (f : Cnf) (codes : List (List Lit)) (n : ℕ) → length codes ≡ n + 1 → HasRuns m f codes → IsLevel m f codes
+level_of : (m : Plain) (f : Cnf) (codes : List (List Lit)) (n : ℕ) → length codes ≡ n + 1 → HasRuns m f codes → IsLevel m f codes
 level_of m f [] n size runs = absurd (omega arith)
 level_of m f (code ∷ codes) n size runs = runs
 
-empty_level : (m : BooleanModule) (f : Cnf) (codes : List (List Lit)) → length codes ≡ 0 → IsLevel m f codes → (f.vars ≡ 1) × Satisfies (true ∷ []) f
+empty_level : (m : Plain) (f : Cnf) (codes : List (List Lit)) → length codes ≡ 0 → IsLevel m f codes → (f.vars ≡ 1) × Satisfies (true ∷ []) f
 empty_level m f [] none level = level
 empty_level m f (code ∷ codes) none level = absurd (omega arith)
 
 -- a state of a start is the first
-pub level_first : (m : BooleanModule) (f0 f : Cnf) (codes codes' : List (List Lit)) (code : List Lit) → length codes ≡ 0 → codes' ≡ codes ++ code ∷ [] → IsLevel m f0 codes
-    → IsCode f (length m.vars) code → f.vars ≡ f0.vars + length m.vars
+pub level_first : (m : Plain) (f0 f : Cnf) (codes codes' : List (List Lit)) (code : List Lit) → length codes ≡ 0 → codes' ≡ codes ++ code ∷ [] → IsLevel m f0 codes
+    → IsCode f m.vars code → f.vars ≡ f0.vars + m.vars
     → ((a : List Bool) → Satisfies a f → Satisfies a f0 × (init_holds m (values_of a code) ≡ true))
-    → ((a bits : List Bool) → length a ≡ f0.vars → Satisfies a f0 → length bits ≡ length m.vars → init_holds m bits ≡ true
+    → ((a bits : List Bool) → length a ≡ f0.vars → Satisfies a f0 → length bits ≡ m.vars → init_holds m bits ≡ true
     → Satisfies (a ++ bits) f × (values_of (a ++ bits) code ≡ bits))
     → IsLevel m f codes'
 level_first m f0 f codes codes' code none pushed level is size real reach =
     let first = empty_level m f0 codes none level in
     level_as m f (code ∷ []) codes' (pushed ∙ ap (λ (x : List (List Lit)). x ++ code ∷ []) (nil_from_length codes none)) record {
-      each = All-cons (IsCode f (length m.vars)) code [] is (All-nil (IsCode f (length m.vars)));
-      real = λ a sat. (values_length a code (length m.vars) is.fills, (real a sat).1, tt);
+      each = All-cons (IsCode f m.vars) code [] is (All-nil (IsCode f m.vars));
+      real = λ a sat. (values_length a code m.vars is.fills, (real a sat).1, tt);
       reached = reached_first m f0 f code first.0 first.1 size reach;
     }
 
 -- a state to which Next leads is the next
-pub level_next : (m : BooleanModule) (f g : Cnf) (codes codes' : List (List Lit)) (i : ℕ) (d : List Lit) (now next : List Lit) → IsLevel m f codes → length codes ≡ i + 1
-    → codes' ≡ codes ++ next ∷ [] → now ≡ get_or codes i d → IsCode g (length m.vars) next → f.vars ≤ g.vars
+pub level_next : (m : Plain) (f g : Cnf) (codes codes' : List (List Lit)) (i : ℕ) (d : List Lit) (now next : List Lit) → IsLevel m f codes → length codes ≡ i + 1
+    → codes' ≡ codes ++ next ∷ [] → now ≡ get_or codes i d → IsCode g m.vars next → f.vars ≤ g.vars
     → ((a : List Bool) → Satisfies a g → Satisfies a f × (next_holds m (values_of a now) (values_of a next) ≡ true))
-    → ((a bits : List Bool) → length a ≡ f.vars → Satisfies a f → length bits ≡ length m.vars → next_holds m (values_of a now) bits ≡ true
+    → ((a bits : List Bool) → length a ≡ f.vars → Satisfies a f → length bits ≡ m.vars → next_holds m (values_of a now) bits ≡ true
     → (more : List Bool) × IsReached g (a ++ more) next bits)
     → IsLevel m g codes'
 level_next m f g codes codes' i d now next level count pushed last is le real step =
     let runs = runs_of m f codes i count level in
     level_as m g (codes ++ next ∷ []) codes' pushed (level_of m g (codes ++ next ∷ []) (i + 1) (length-append codes (next ∷ []) ∙ ap (λ (k : ℕ). k + 1) count) record {
       each =
-          All-push (IsCode g (length m.vars)) codes next (All-weaker (IsCode f (length m.vars)) (IsCode g (length m.vars)) (λ code h. code_later f g (length m.vars) code le h) codes runs.each) is;
+          All-push (IsCode g m.vars) codes next (All-weaker (IsCode f m.vars) (IsCode g m.vars) (λ code h. code_later f g m.vars code le h) codes runs.each) is;
       real = λ a sat.
           let facts = real a sat in
           let lt : i < length codes = omega arith in
@@ -115,16 +115,16 @@ level_next m f g codes codes' i d now next level count pushed last is le real st
           subst (λ (x : List Bool). next_holds m x (values_of a next) ≡ true) (sym here) facts.1 in
           let size : length (map (values_of a) codes) ≡ i + 1 = length-map codes (values_of a) ∙ count in
           subst (λ (x : List (List Bool)). IsRun m x) (sym (map-append (values_of a) codes (next ∷ [])))
-          (run_more m (map (values_of a) codes) (values_of a next) i size (runs.real a facts.0) (values_length a next (length m.vars) is.fills) holds);
+          (run_more m (map (values_of a) codes) (values_of a next) i size (runs.real a facts.0) (values_length a next m.vars is.fills) holds);
       reached = reached_next m f g codes i d now next count last runs.each runs.reached step;
     })
 
 -- gates added to a formula leave its level as it is
-pub level_later : (m : BooleanModule) (f g : Cnf) (codes : List (List Lit)) (n : ℕ) → length codes ≡ n + 1 → Grows f g → IsLevel m f codes → IsLevel m g codes
+pub level_later : (m : Plain) (f g : Cnf) (codes : List (List Lit)) (n : ℕ) → length codes ≡ n + 1 → Grows f g → IsLevel m f codes → IsLevel m g codes
 level_later m f g codes n count grown level =
     let runs = runs_of m f codes n count level in
     level_of m g codes n count record {
-      each = All-weaker (IsCode f (length m.vars)) (IsCode g (length m.vars)) (λ code h. code_later f g (length m.vars) code grown.vars h) codes runs.each;
+      each = All-weaker (IsCode f m.vars) (IsCode g m.vars) (λ code h. code_later f g m.vars code grown.vars h) codes runs.each;
       real = λ a sat. runs.real a (Satisfies-older f g a grown sat);
       reached = λ run is long.
           let before = runs.reached run is long in
@@ -133,15 +133,15 @@ level_later m f g codes n count grown level =
             assignment = before.assignment ++ more.0;
             size = more.1;
             satisfied = more.2;
-            decodes = codes_kept f (length m.vars) before.assignment more.0 codes before.size runs.each ∙ before.decodes;
+            decodes = codes_kept f m.vars before.assignment more.0 codes before.size runs.each ∙ before.decodes;
           };
     }
 
 -- the code of a state of a level
-pub code_of : (m : BooleanModule) (f : Cnf) (codes : List (List Lit)) (i : ℕ) (d code index : List Lit) → IsLevel m f codes → length codes ≡ i + 1
-    → code ≡ index → index ≡ get_or codes i d → IsCode f (length m.vars) code
+pub code_of : (m : Plain) (f : Cnf) (codes : List (List Lit)) (i : ℕ) (d code index : List Lit) → IsLevel m f codes → length codes ≡ i + 1
+    → code ≡ index → index ≡ get_or codes i d → IsCode f m.vars code
 code_of m f codes i d code index level count e1 e2 =
-    subst (λ (x : List Lit). IsCode f (length m.vars) x) (sym (e1 ∙ e2)) ((runs_of m f codes i count level).each i d (omega arith))
+    subst (λ (x : List Lit). IsCode f m.vars x) (sym (e1 ∙ e2)) ((runs_of m f codes i count level).each i d (omega arith))
 
 pub one_true : (b : Bool) → (b && true) ≡ true → b ≡ true
 one_true true h = refl

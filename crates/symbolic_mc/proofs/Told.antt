@@ -3,19 +3,20 @@ use Rattle.std.proofs.Common.{◌≡◌, ℕ, ◌<◌, ◌≤◌, inl, inr, ◌�
 use Rattle.std.specs.Prelude.{OnOk, OnErr, unwrap_or}
 use Rattle.std.specs.Io.KnownBytes.{Appends}
 use Rattle.refutation_checker.specs.declared.answers.Recheck.TheVariants.{Accepted, BadLine, BadStep}
-use Rattle.tool_outside.specs.Causes.{Holds, IsLong, WritesPrefix, Stayed}
+use Rattle.tool_outside.specs.Causes.{HandedOut, Holds, IsLong, WritesPrefix, Stayed}
 use Rattle.tool_outside.specs.Outside.{Folder, Rose, file_at}
 use Rattle.tool_outside.proofs.Prefixes.{all_of}
 use Rattle.tla_meaning.specs.declared.job.Job.{Job}
-use Rattle.tla_meaning.specs.BooleanLayout.{IsBooleanLayout}
+use Rattle.plain_texts.specs.Sources.{IsPlainText}
 use Rattle.trace_text.specs.declared.verdict.Verdict.{Verdict}
 use Rattle.trace_text.specs.declared.verdict.Verdict.TheVariants.{Clean, Inductive, Error, Overflow, Spent, NotInductive}
 use Rattle.trace_text.specs.declared.verdict.Where.TheVariants.{Level, Typed}
 use Rattle.symbolic_mc.specs.declared.answer.Answer.{Answer}
 use Rattle.symbolic_mc.specs.Report.{status_of, verdict_status, report_of, memory_line}
-use Rattle.symbolic_mc.specs.Top.{IsAnswer, NoCommand, ReadFailed, IsTooLong, NoModule, NotInLayout, WriteFailed, Found, NoFile, Reread, AsksForBooleanLayout, AsksToRecheck, IsStatus, IsVerdictStatus, IsCutStatus, Tells, TellsPart, WritesError, WritesClean, WritesSpent, WritesAccepted, module_limit}
+use Rattle.symbolic_mc.specs.Top.{IsAnswer, NoCommand, ReadFailed, IsTooLong, NoModule, NotSpelled, NotPlain, WriteFailed, Found, NoFile, Reread, AsksForPlainText, AsksToRecheck, IsStatus, IsVerdictStatus, IsCutStatus, Tells, TellsPart, WritesError, WritesClean, WritesSpent, WritesAccepted, module_limit}
 use Rattle.symbolic_mc.specs.Verdicts.{IsVerdict}
 use Rattle.symbolic_mc.specs.Words.{Command, Request}
+use Rattle.plain_texts.proofs.Sources.{refused_not}
 use Rattle.symbolic_mc.specs.inner.Told.{IsCalm, IsTold}
 
 -- a report, whole or in part
@@ -41,7 +42,8 @@ answer_status c old new before now _ (NoCommand none again stay) = (inr (inr (in
 answer_status c old new before now _ (ReadFailed file limit names rose stay) = (inr (inr (inr (inr (inl refl)))), omega arith)
 answer_status c old new before now _ (IsTooLong file limit names long stay) = (inr (inr (inr (inr (inl refl)))), omega arith)
 answer_status c old new before now _ (NoModule file name longest budget asked none is stay) = (inr (inr (inl refl)), omega arith)
-answer_status c old new before now _ (NotInLayout file bytes longest budget asked handed none stay) = (inr (inr (inl refl)), omega arith)
+answer_status c old new before now _ (NotSpelled file bytes longest budget refusal asked handed refused stay) = (inr (inr (inl refl)), omega arith)
+answer_status c old new before now _ (NotPlain file bytes longest budget asked handed not stay) = (inr (inr (inl refl)), omega arith)
 answer_status c old new before now _ (WriteFailed verdict sections k rose saved) = (inr (inr (inr (inr (inr (inl refl))))), omega arith)
 answer_status c old new before now _ (Found verdict sections k saved) =
     let of = found_status k.job k.longest k.budget verdict k.checked.verdict_is in
@@ -80,9 +82,17 @@ too_long_not held folder file limit told short long =
     let longer = known.2 in
     omega arith
 
--- ---- an answer in the layout, and of a certificate
+-- ---- an answer to a text that says a job, and of a certificate
 
-form_answer : (c : Command) (old new : Option Folder) (before now : ℕ) (answer : Answer) → AreApart c → AsksForBooleanLayout c old → Stayed before now
+-- the bytes that were handed out are those that say the job
+text_read : (c : Command) (old : Option Folder) (file bytes : List ℕ) (longest : ℕ) (budget : Option ℕ) → c.0 ≡ Some (file, longest, budget)
+    → HandedOut old file module_limit bytes → (form : AsksForPlainText c old) → IsPlainText file form.job bytes
+text_read c old file bytes longest budget asked handed form =
+    let same : file ≡ form.file = same_file c _ _ _ _ _ _ asked form.asked in
+    let read : bytes ≡ form.bytes = the_same _ _ (held_there old form.folder form.file file (Some bytes) _ form.told same form.there handed.told) in
+    subst (λ (x : List ℕ). IsPlainText x form.job bytes) (sym same) (subst (λ (x : List ℕ). IsPlainText form.file form.job x) (sym read) form.form)
+
+form_answer : (c : Command) (old new : Option Folder) (before now : ℕ) (answer : Answer) → AreApart c → AsksForPlainText c old → Stayed before now
     → IsAnswer c old new before now answer → IsVerdictStatus (status_of answer)
 form_answer c old new before now _ apart form stayed (NoCommand none again stay) = absurd (none_some (sym none ∙ form.asked))
 form_answer c old new before now _ apart form stayed (ReadFailed file limit names rose stay) = absurd (omega arith)
@@ -94,10 +104,10 @@ form_answer c old new before now _ apart form stayed (IsTooLong file limit (inl 
 form_answer c old new before now _ apart form stayed (IsTooLong file limit (inr names) long stay) = absurd (apart _ _ form.asked names.0)
 form_answer c old new before now _ apart form stayed (NoModule file name longest budget asked none is stay) =
     absurd (none_some (held_there old form.folder form.file file None _ form.told (same_file c _ _ _ _ _ _ asked form.asked) form.there none))
-form_answer c old new before now _ apart form stayed (NotInLayout file bytes longest budget asked handed none stay) =
-    let same : file ≡ form.file = same_file c _ _ _ _ _ _ asked form.asked in
-    let read : bytes ≡ form.bytes = the_same _ _ (held_there old form.folder form.file file (Some bytes) _ form.told same form.there handed.told) in
-    absurd (none form.job (subst (λ (x : List ℕ). IsBooleanLayout x form.job bytes) (sym same) (subst (λ (x : List ℕ). IsBooleanLayout form.file form.job x) (sym read) form.form)))
+form_answer c old new before now _ apart form stayed (NotSpelled file bytes longest budget refusal asked handed refused stay) =
+    absurd (refused_not bytes refusal _ refused (text_read c old file bytes longest budget asked handed form).spelled)
+form_answer c old new before now _ apart form stayed (NotPlain file bytes longest budget asked handed not stay) =
+    absurd (not.none form.job (text_read c old file bytes longest budget asked handed form))
 form_answer c old new before now _ apart form stayed (WriteFailed verdict sections k rose saved) = absurd (omega arith)
 form_answer c old new before now _ apart form stayed (Found verdict sections k saved) = (found_status k.job k.longest k.budget verdict k.checked.verdict_is).0
 form_answer c old new before now _ apart form stayed (NoFile cert asked none stay) = absurd (apart _ _ form.asked asked)
@@ -113,7 +123,8 @@ cert_answer c old new before now _ apart form stayed (IsTooLong file limit (inr 
     absurd (too_long_not old form.folder file limit form.told (λ bytes at.
     subst (λ (n : ℕ). length bytes ≤ n) (sym names.1) (form.short bytes (ap (file_at form.folder) (sym same) ∙ at))) long)
 cert_answer c old new before now _ apart form stayed (NoModule file name longest budget asked none is stay) = absurd (apart _ _ asked form.asked)
-cert_answer c old new before now _ apart form stayed (NotInLayout file bytes longest budget asked handed none stay) = absurd (apart _ _ asked form.asked)
+cert_answer c old new before now _ apart form stayed (NotSpelled file bytes longest budget refusal asked handed refused stay) = absurd (apart _ _ asked form.asked)
+cert_answer c old new before now _ apart form stayed (NotPlain file bytes longest budget asked handed not stay) = absurd (apart _ _ asked form.asked)
 cert_answer c old new before now _ apart form stayed (WriteFailed verdict sections k rose saved) = absurd (apart _ _ k.asked form.asked)
 cert_answer c old new before now _ apart form stayed (Found verdict sections k saved) = absurd (apart _ _ k.asked form.asked)
 cert_answer c old new before now _ apart form stayed (NoFile cert asked none stay) = inr refl
@@ -128,7 +139,8 @@ usage_answer c old new before now _ none again (ReadFailed file limit (inr names
 usage_answer c old new before now _ none again (IsTooLong file limit (inl names) long stay) = absurd (none_some (sym none ∙ names.2))
 usage_answer c old new before now _ none again (IsTooLong file limit (inr names) long stay) = absurd (none_some (sym again ∙ names.0))
 usage_answer c old new before now _ none again (NoModule file name longest budget asked other is stay) = absurd (none_some (sym none ∙ asked))
-usage_answer c old new before now _ none again (NotInLayout file bytes longest budget asked handed other stay) = absurd (none_some (sym none ∙ asked))
+usage_answer c old new before now _ none again (NotSpelled file bytes longest budget refusal asked handed refused stay) = absurd (none_some (sym none ∙ asked))
+usage_answer c old new before now _ none again (NotPlain file bytes longest budget asked handed not stay) = absurd (none_some (sym none ∙ asked))
 usage_answer c old new before now _ none again (WriteFailed verdict sections k rose saved) = absurd (none_some (sym none ∙ k.asked))
 usage_answer c old new before now _ none again (Found verdict sections k saved) = absurd (none_some (sym none ∙ k.asked))
 usage_answer c old new before now _ none again (NoFile cert asked other stay) = absurd (none_some (sym again ∙ asked))
@@ -142,7 +154,8 @@ error_answer c old new before now was is _ coded added (NoCommand none again sta
 error_answer c old new before now was is _ coded added (ReadFailed file limit names rose stay) = absurd (omega arith)
 error_answer c old new before now was is _ coded added (IsTooLong file limit names long stay) = absurd (omega arith)
 error_answer c old new before now was is _ coded added (NoModule file name longest budget asked none named stay) = absurd (omega arith)
-error_answer c old new before now was is _ coded added (NotInLayout file bytes longest budget asked handed none stay) = absurd (omega arith)
+error_answer c old new before now was is _ coded added (NotSpelled file bytes longest budget refusal asked handed refused stay) = absurd (omega arith)
+error_answer c old new before now was is _ coded added (NotPlain file bytes longest budget asked handed not stay) = absurd (omega arith)
 error_answer c old new before now was is _ coded added (WriteFailed verdict sections k rose saved) = absurd (omega arith)
 error_answer c old new before now was is _ coded added (Found (Error n fault trace) sections k saved) =
     record { level = n; fault = fault; trace = trace; sections = sections; checks = k; saved = saved; written = added }
@@ -162,7 +175,8 @@ clean_answer c old new before now was is _ coded added (NoCommand none again sta
 clean_answer c old new before now was is _ coded added (ReadFailed file limit names rose stay) = absurd (omega arith)
 clean_answer c old new before now was is _ coded added (IsTooLong file limit names long stay) = absurd (omega arith)
 clean_answer c old new before now was is _ coded added (NoModule file name longest budget asked none named stay) = absurd (omega arith)
-clean_answer c old new before now was is _ coded added (NotInLayout file bytes longest budget asked handed none stay) = absurd (omega arith)
+clean_answer c old new before now was is _ coded added (NotSpelled file bytes longest budget refusal asked handed refused stay) = absurd (omega arith)
+clean_answer c old new before now was is _ coded added (NotPlain file bytes longest budget asked handed not stay) = absurd (omega arith)
 clean_answer c old new before now was is _ coded added (WriteFailed verdict sections k rose saved) = absurd (omega arith)
 clean_answer c old new before now was is _ coded added (Found (Clean n) sections k saved) =
     inl record { level = n; sections = sections; checks = k; saved = saved; written = added }
@@ -183,7 +197,8 @@ spent_answer c old new before now was is _ coded added (NoCommand none again sta
 spent_answer c old new before now was is _ coded added (ReadFailed file limit names rose stay) = absurd (omega arith)
 spent_answer c old new before now was is _ coded added (IsTooLong file limit names long stay) = absurd (omega arith)
 spent_answer c old new before now was is _ coded added (NoModule file name longest budget asked none named stay) = absurd (omega arith)
-spent_answer c old new before now was is _ coded added (NotInLayout file bytes longest budget asked handed none stay) = absurd (omega arith)
+spent_answer c old new before now was is _ coded added (NotSpelled file bytes longest budget refusal asked handed refused stay) = absurd (omega arith)
+spent_answer c old new before now was is _ coded added (NotPlain file bytes longest budget asked handed not stay) = absurd (omega arith)
 spent_answer c old new before now was is _ coded added (WriteFailed verdict sections k rose saved) = absurd (omega arith)
 spent_answer c old new before now was is _ coded added (Found (Spent n (Level l)) sections k saved) =
     record { conflicts = n; level = l; sections = sections; checks = k; saved = saved; written = added }
@@ -249,7 +264,7 @@ module _ (c : Command) (old new : Option Folder) (before now : ℕ) (was is : Op
   told_usage (inr (inl cut)) none again = inr (inl cut.0)
   told_usage (inr (inr spent)) none again = inr (inr spent.0)
 
-  pub told_form : AreApart c → IsTold answer was is sink_before sink_now result → AsksForBooleanLayout c old → Stayed before now → Stayed sink_before sink_now
+  pub told_form : AreApart c → IsTold answer was is sink_before sink_now result → AsksForPlainText c old → Stayed before now → Stayed sink_before sink_now
       → IsVerdictStatus result ⊎ (result ≡ 50)
   told_form apart (inl all) form stayed calm = inl (subst IsVerdictStatus (sym all.0) (form_answer c old new before now answer apart form stayed cause))
   told_form apart (inr (inl cut)) form stayed calm = absurd (let rose = cut.1 in omega arith)

@@ -3,11 +3,12 @@ use Rattle.std.specs.Prelude.{ℕ, List, ◌++◌, codes}
 use Rattle.std.specs.Fmt.{decimal}
 use Rattle.refutation_checker.specs.declared.answers.Recheck.{Recheck}
 use Rattle.refutation_checker.specs.declared.answers.Recheck.TheVariants.{Accepted, BadLine, BadStep}
+use Rattle.plain_texts.specs.Refusals.{refusal_line}
 use Rattle.trace_text.specs.Reports as reports
 use Rattle.trace_text.specs.declared.verdict.Verdict.{Verdict}
 use Rattle.trace_text.specs.declared.verdict.Verdict.TheVariants.{Clean, Inductive, Error, Overflow, Spent, NotInductive}
 use Rattle.symbolic_mc.specs.declared.answer.Answer.{Answer}
-use Rattle.symbolic_mc.specs.declared.answer.Answer.TheVariants.{Usage, ReadFault, TooLong, Missing, NotBuilt, WriteFault, Checked, NoCertificate, Rechecked}
+use Rattle.symbolic_mc.specs.declared.answer.Answer.TheVariants.{Usage, ReadFault, TooLong, Missing, Refused, NotBuilt, WriteFault, Checked, NoCertificate, Rechecked}
 
 -- ---- statuses
 
@@ -30,6 +31,7 @@ status_of (ReadFault file) = 40
 status_of (TooLong file) = 40
 status_of (WriteFault file) = 41
 status_of (Missing name) = 30
+status_of (Refused files refusal) = 30
 status_of NotBuilt = 30
 status_of (Checked names files verdict) = verdict_status verdict
 status_of NoCertificate = 14
@@ -49,6 +51,7 @@ report_of (ReadFault file) = codes "read fault: " ++ file ++ codes "\n"
 report_of (TooLong file) = codes "file is too long: " ++ file ++ codes "\n"
 report_of (WriteFault file) = codes "write fault: " ++ file ++ codes "\n"
 report_of (Missing name) = codes "refused: module " ++ name ++ codes " is missing\n"
+report_of (Refused files refusal) = refusal_line files refusal
 report_of NotBuilt = codes "refused: form is not built\n"
 report_of (Checked names files verdict) = reports.report_of verdict names files
 report_of NoCertificate = codes "certificate refused: no file\n"

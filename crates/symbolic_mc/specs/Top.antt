@@ -1,5 +1,5 @@
 -- What the top call answers.
-use Rattle.std.specs.Prelude.{◌≡◌, ◌⊎◌, ℕ, ◌≤◌, List, length, Option, None, Some}
+use Rattle.std.specs.Prelude.{◌≡◌, ◌⊎◌, ℕ, ◌≤◌, List, [], ◌∷◌, length, Option, None, Some}
 use Rattle.std.specs.Io.KnownBytes.{Appends}
 use Rattle.refutation_checker.specs.declared.answers.Recheck.{Recheck}
 use Rattle.refutation_checker.specs.declared.answers.Recheck.TheVariants.{Accepted}
@@ -9,7 +9,6 @@ use Rattle.refutation_checker.specs.Rechecking.{IsRechecked, RefutesClosed, Wher
 use Rattle.tool_outside.specs.Causes.{Holds, IsLong, HandedOut, IsCut, WritesPrefix}
 use Rattle.tool_outside.specs.Outside.{Folder, Changes, Rose, file_at}
 use Rattle.tla_meaning.specs.declared.job.Job.{Job}
-use Rattle.tla_meaning.specs.BooleanLayout.{IsBooleanLayout}
 use Rattle.trace_text.specs.Reports as reports
 use Rattle.trace_text.specs.declared.verdict.Fault.{Fault}
 use Rattle.trace_text.specs.declared.verdict.Trace.{Trace}
@@ -17,9 +16,12 @@ use Rattle.trace_text.specs.declared.verdict.Verdict.{Verdict}
 use Rattle.trace_text.specs.declared.verdict.Verdict.TheVariants.{Clean, Error, Spent}
 use Rattle.trace_text.specs.declared.verdict.Where.TheVariants.{Level}
 use Rattle.symbolic_mc.specs.declared.answer.Answer.{Answer}
-use Rattle.symbolic_mc.specs.declared.answer.Answer.TheVariants.{Usage, ReadFault, TooLong, Missing, NotBuilt, WriteFault, Checked, NoCertificate, Rechecked}
-use Rattle.symbolic_mc.specs.Naming.{IsModuleOf, certificate_name}
+use Rattle.symbolic_mc.specs.declared.answer.Answer.TheVariants.{Usage, ReadFault, TooLong, Missing, Refused, NotBuilt, WriteFault, Checked, NoCertificate, Rechecked}
+use Rattle.plain_texts.specs.declared.refusal.Refusal.{Refusal}
+use Rattle.plain_texts.specs.Naming.{IsModuleOf}
+use Rattle.symbolic_mc.specs.Naming.{certificate_name}
 use Rattle.symbolic_mc.specs.Report.{recheck_report, report_of, status_of}
+use Rattle.plain_texts.specs.Sources.{IsNotPlain, IsOnlyPlainText, IsPlainText, IsRefused}
 use Rattle.symbolic_mc.specs.Verdicts.{IsChecked}
 use Rattle.symbolic_mc.specs.Words.{Command}
 
@@ -30,11 +32,6 @@ module_limit = 4194304
 -- and a certificate: 256 MiB
 abbrev pub certificate_limit : ℕ
 certificate_limit = 268435456
-
--- the bytes say this job, and no other
-pub record IsOnlyBooleanLayout (file : List ℕ) (job : Job) (bytes : List ℕ) : Type 0 where
-  pub form : IsBooleanLayout file job bytes
-  pub only : (other : Job) → IsBooleanLayout file other bytes → other ≡ job
 
 -- ---- a module that was checked
 
@@ -48,7 +45,7 @@ pub record Checks (c : Command) (held : Option Folder) (verdict : Verdict) (sect
   pub bytes : List ℕ
   pub handed : HandedOut held file module_limit bytes
   pub job : Job
-  pub form : IsOnlyBooleanLayout file job bytes
+  pub form : IsOnlyPlainText file job bytes
   pub checked : IsChecked job longest budget verdict sections
 
 -- the certificate's file holds its text, and every other file is as before
@@ -80,9 +77,13 @@ pub data IsAnswer (c : Command) (old new : Option Folder) (before now : ℕ) : A
   -- the files hold no such module
   NoModule : (file name : List ℕ) (longest : ℕ) (budget : Option ℕ) → c.0 ≡ Some (file, longest, budget)
       → Holds old file None → IsModuleOf file name → new ≡ old → IsAnswer c old new before now (Missing name)
-  -- no job has the bytes as its text
-  NotInLayout : (file bytes : List ℕ) (longest : ℕ) (budget : Option ℕ) → c.0 ≡ Some (file, longest, budget)
-      → HandedOut old file module_limit bytes → ((job : Job) → IsBooleanLayout file job bytes → ⊥) → new ≡ old
+  -- the bytes spell no module of at most 400 levels
+  NotSpelled : (file bytes : List ℕ) (longest : ℕ) (budget : Option ℕ) (refusal : Refusal) → c.0 ≡ Some (file, longest, budget)
+      → HandedOut old file module_limit bytes → IsRefused bytes refusal → new ≡ old
+      → IsAnswer c old new before now (Refused (file ∷ []) refusal)
+  -- they spell a module, which is in no form that is checked so far
+  NotPlain : (file bytes : List ℕ) (longest : ℕ) (budget : Option ℕ) → c.0 ≡ Some (file, longest, budget)
+      → HandedOut old file module_limit bytes → IsNotPlain file bytes → new ≡ old
       → IsAnswer c old new before now NotBuilt
   -- the count rose while the certificate was written
   WriteFailed : (verdict : Verdict) (sections : List Section) (k : Checks c old verdict sections) → Rose before now
@@ -162,8 +163,9 @@ Touches c old new =
 
 -- ---- when which status comes
 
--- the command names a file that the files are told to hold, of at most so many bytes as a module may have, in the layout
-pub record AsksForBooleanLayout (c : Command) (held : Option Folder) : Type 0 where
+-- the command names a file that the files are told to hold, of at most so many bytes as a module may have, in the form
+-- that is checked so far
+pub record AsksForPlainText (c : Command) (held : Option Folder) : Type 0 where
   pub folder : Folder
   pub told : held ≡ Some folder
   pub file : List ℕ
@@ -174,7 +176,7 @@ pub record AsksForBooleanLayout (c : Command) (held : Option Folder) : Type 0 wh
   pub there : file_at folder file ≡ Some bytes
   pub short : length bytes ≤ module_limit
   pub job : Job
-  pub form : IsBooleanLayout file job bytes
+  pub form : IsPlainText file job bytes
 
 -- the command asks for a certificate which the files, as they are told, do not hold too long
 pub record AsksToRecheck (c : Command) (held : Option Folder) : Type 0 where

@@ -2,6 +2,7 @@
 ghost use Rattle.std.specs.Prelude.{◌≡◌, ◌++◌, codes, IfOk};
 ghost use Rattle.symbolic_mc.specs.Report.{status_of, report_of, verdict_status, recheck_status, recheck_report};
 
+use plain_texts::Refusal;
 use refutation_checker::Recheck;
 use std::alloc::{AllocError, Global};
 use tla_meaning::Decl;
@@ -19,7 +20,9 @@ pub(crate) enum Answer {
     TooLong(Text),
     /// There is no file for the module of this name.
     Missing(Text),
-    /// The text is in no form that is read so far.
+    /// The text of the module in the files of these names is refused.
+    Refused(List<Text>, Refusal),
+    /// It spells a module that is in no form that is checked so far.
     NotBuilt,
     /// The certificate of this name could not be written.
     WriteFault(Text),
@@ -40,7 +43,7 @@ impl Answer {
             Answer::Usage => 31,
             Answer::ReadFault(_) | Answer::TooLong(_) => 40,
             Answer::WriteFault(_) => 41,
-            Answer::Missing(_) | Answer::NotBuilt => 30,
+            Answer::Missing(_) | Answer::Refused(_, _) | Answer::NotBuilt => 30,
             Answer::Checked(_, _, verdict) => verdict_status(verdict),
             Answer::NoCertificate => 14,
             Answer::Rechecked(answer) => recheck_status(answer),
@@ -60,6 +63,7 @@ impl Answer {
             Answer::TooLong(file) => line(alloc, "file is too long: ", file, "\n"),
             Answer::WriteFault(file) => line(alloc, "write fault: ", file, "\n"),
             Answer::Missing(name) => line(alloc, "refused: module ", name, " is missing\n"),
+            Answer::Refused(files, refusal) => refusal.line(alloc, files.as_slice()),
             Answer::NotBuilt => Vec::from_slice(alloc, b"refused: form is not built\n"),
             Answer::Checked(names, files, verdict) => report_text(alloc, verdict, names, files),
             Answer::NoCertificate => Vec::from_slice(alloc, b"certificate refused: no file\n"),

@@ -3,7 +3,8 @@ ghost use Rattle.std.specs.Prelude.{◌≡◌, ◌+◌, ◌<◌, All, Bool, List
 ghost use Rattle.std.specs.Bool.{OnTrue, OnFalse};
 ghost use Rattle.sat_formula.specs.Formula.{Satisfies};
 ghost use Rattle.sat_formula.specs.Lit.{lit_value, IsBelow};
-ghost use Rattle.tla_meaning.specs.BooleanLayout.{IsBooleanModule, job_of};
+ghost use Rattle.plain_jobs.specs.Plain.{IsPlain, IsWhole};
+ghost use Rattle.tla_meaning.specs.declared.job.Job.{Job};
 ghost use Rattle.tla_meaning.specs.declared.questions.Query.TheVariants.{InvNotTrue as not_true, InvBig as inv_big};
 ghost use Rattle.trace_text.specs.declared.verdict.Fault.TheVariants.{InvFalse};
 ghost use Rattle.trace_text.specs.declared.verdict.Verdict.TheVariants.{Error, Spent};
@@ -16,12 +17,13 @@ ghost use Rattle.symbolic_mc.specs.inner.Checking.{IsFound, NoError, never};
 ghost use Rattle.symbolic_mc.specs.inner.Levels.{values_of, IsLevel};
 
 use crate::asking::{Journal, Question, Reply};
+use crate::copies::copied;
 use crate::encoding::Level;
-use crate::pieces::copied;
+use plain_jobs::Plain;
 use refutation_checker::{QueryName, Section};
 use sat_formula::{Assignment, Formula, Lit, value};
 use std::alloc::{AllocError, Global};
-use tla_meaning::{BooleanModule, State};
+use tla_meaning::State;
 use tla_values::{List, Value};
 use trace_text::{Fault, Trace, Verdict, Where};
 
@@ -35,12 +37,12 @@ pub(crate) struct Checked {
 /// The verdict on the executions of at most so many steps, with at most so many conflicts where there is a budget.
 pub(crate) fn check(
     alloc: Global,
-    source: &BooleanModule,
+    source: &Plain,
     longest: u32,
     budget: Option<u64>,
 ) -> Result<Checked, AllocError>
-    requires { IsBooleanModule source.now }
-    ensures { IfOk result (λ c. (file : Items ℕ) → IsChecked (job_of file source.now) longest budget c.verdict c.sections.items) }
+    requires { IsWhole source.now }
+    ensures { IfOk result (λ c. (job : Job) → IsPlain job source.now → IsChecked job longest budget c.verdict c.sections.items) }
 {
     let mut level = Level::new(alloc)?;
     let mut journal = Journal::new(alloc, budget);
@@ -62,12 +64,12 @@ pub(crate) fn check(
 // Asks the questions of one level: what is found at it, if it is an error or the budget is spent.
 fn check_level(
     alloc: Global,
-    source: &BooleanModule,
+    source: &Plain,
     steps: u32,
     level: &mut Level,
     journal: &mut Journal,
 ) -> Result<Option<Verdict>, AllocError>
-    requires source { IsBooleanModule source.now }
+    requires source { IsWhole source.now }
     requires level { IsLevel source.now level.old.formula level.old.states.items }
     requires size { length level.old.states.items ≡ steps }
     requires refuted { HasRefuted source.now (asked_below steps) journal.old }
@@ -94,12 +96,12 @@ fn check_level(
 // Asks whether a step of the level is Wrong or Big. Whether there were answers; they are no.
 fn ask_of_step(
     alloc: Global,
-    source: &BooleanModule,
+    source: &Plain,
     steps: u32,
     level: &Level,
     journal: &mut Journal,
 ) -> Result<bool, AllocError>
-    requires source { IsBooleanModule source.now }
+    requires source { IsWhole source.now }
     requires level { IsLevel source.now level.now.formula level.now.states.items }
     requires size { length level.now.states.items ≡ steps }
     requires refuted { HasRefuted source.now (asked_below steps) journal.old }
@@ -117,12 +119,12 @@ fn ask_of_step(
 // Asks whether the invariant is FALSE at the end of an execution: what is found, if it is or the budget is spent.
 fn ask_of_invariant(
     alloc: Global,
-    source: &BooleanModule,
+    source: &Plain,
     steps: u32,
     level: &mut Level,
     journal: &mut Journal,
 ) -> Result<Option<Verdict>, AllocError>
-    requires source { IsBooleanModule source.now }
+    requires source { IsWhole source.now }
     requires level { IsLevel source.now level.old.formula level.old.states.items }
     requires size { length level.old.states.items ≡ steps + 1 }
     requires refuted { HasRefuted source.now (asked_until steps not_true) journal.old }

@@ -3,14 +3,15 @@ ghost use Rattle.std.specs.Prelude.{◌≡◌, ◌+◌, [], ◌<◌, ◌≤◌, 
 ghost use Rattle.std.specs.List.{list_all, list_any};
 ghost use Rattle.sat_formula.specs.Formula.{Grows, HasValue, Satisfies};
 ghost use Rattle.sat_formula.specs.Lit.{lit_value, IsBelow};
-ghost use Rattle.tla_meaning.specs.BooleanLayout.{IsBooleanModule};
+ghost use Rattle.plain_jobs.specs.Plain.{IsWhole};
 ghost use Rattle.symbolic_mc.specs.inner.Boolean.{allows, holds_at, all_hold, some_holds, init_holds, next_holds, SpeakOf};
 ghost use Rattle.symbolic_mc.specs.inner.Levels.{values_of, IsBroken, IsCode, IsLevel, IsReached};
-ghost use Rattle.tla_meaning.specs.declared.boolean.BooleanModule.{BooleanModule as Source};
+ghost use Rattle.plain_jobs.specs.declared.plain.Plain.{Plain as Source};
 
+use plain_jobs::Plain;
 use sat_formula::{Formula, Lit};
 use std::alloc::{AllocError, Global};
-use tla_meaning::{BooleanModule, Conjunct};
+use tla_meaning::Conjunct;
 use tla_values::List;
 
 /// The executions of so many steps as a formula: those are the assignments that satisfy it. Before it has a state, it
@@ -36,8 +37,8 @@ impl Level {
     }
 
     /// Adds a state: that of a start, or one to which Next leads from the last.
-    pub fn extend(&mut self, alloc: Global, source: &BooleanModule) -> Result<(), AllocError>
-        requires source { IsBooleanModule source.now }
+    pub fn extend(&mut self, alloc: Global, source: &Plain) -> Result<(), AllocError>
+        requires source { IsWhole source.now }
         requires level { IsLevel source.now self.old.formula self.old.states.items }
         ensures level { OnOk result (IsLevel source.now self.new.formula self.new.states.items) }
         ensures longer { OnOk result (length self.new.states.items ≡ length self.old.states.items + 1) }
@@ -48,8 +49,8 @@ impl Level {
         }
     }
 
-    fn begin(&mut self, alloc: Global, source: &BooleanModule) -> Result<(), AllocError>
-        requires source { IsBooleanModule source.now }
+    fn begin(&mut self, alloc: Global, source: &Plain) -> Result<(), AllocError>
+        requires source { IsWhole source.now }
         requires level { IsLevel source.now self.old.formula self.old.states.items }
         requires none { length self.old.states.items ≡ 0 }
         ensures level { OnOk result (IsLevel source.now self.new.formula self.new.states.items) }
@@ -61,13 +62,8 @@ impl Level {
     }
 
     // Behind the state with this number, which is the last.
-    fn go_on(
-        &mut self,
-        alloc: Global,
-        source: &BooleanModule,
-        last: usize,
-    ) -> Result<(), AllocError>
-        requires source { IsBooleanModule source.now }
+    fn go_on(&mut self, alloc: Global, source: &Plain, last: usize) -> Result<(), AllocError>
+        requires source { IsWhole source.now }
         requires level { IsLevel source.now self.old.formula self.old.states.items }
         requires last { length self.old.states.items ≡ last + 1 }
         ensures level { OnOk result (IsLevel source.now self.new.formula self.new.states.items) }
@@ -85,13 +81,8 @@ impl Level {
 
     /// A literal that is true exactly where the invariant is FALSE at the last state.
     #[tactic(auto, using(sat_formula::proofs::Extension::gates))]
-    pub fn broken(
-        &mut self,
-        alloc: Global,
-        source: &BooleanModule,
-        last: usize,
-    ) -> Result<Lit, AllocError>
-        requires source { IsBooleanModule source.now }
+    pub fn broken(&mut self, alloc: Global, source: &Plain, last: usize) -> Result<Lit, AllocError>
+        requires source { IsWhole source.now }
         requires level { IsLevel source.now self.old.formula self.old.states.items }
         requires last { length self.old.states.items ≡ last + 1 }
         ensures level { OnOk result (IsLevel source.now self.new.formula self.new.states.items) }
@@ -111,21 +102,17 @@ impl Level {
 }
 
 // A state at which Init is TRUE.
-fn start(
-    alloc: Global,
-    formula: &mut Formula,
-    source: &BooleanModule,
-) -> Result<List<Lit>, AllocError>
-    requires { IsBooleanModule source.now }
-    ensures code { IfOk result (IsCode formula.new (length source.now.vars)) }
+fn start(alloc: Global, formula: &mut Formula, source: &Plain) -> Result<List<Lit>, AllocError>
+    requires { IsWhole source.now }
+    ensures code { IfOk result (IsCode formula.new source.now.vars) }
     ensures real { IfOk result (λ state. (a : List Bool) → Satisfies a formula.new
         → Satisfies a formula.old × (init_holds source.now (values_of a state) ≡ true)) }
-    ensures size { OnOk result (formula.new.vars ≡ formula.old.vars + length source.now.vars) }
+    ensures size { OnOk result (formula.new.vars ≡ formula.old.vars + source.now.vars) }
     ensures reached { IfOk result (λ state. (a bits : List Bool) → length a ≡ formula.old.vars → Satisfies a formula.old
-        → length bits ≡ length source.now.vars → init_holds source.now bits ≡ true
+        → length bits ≡ source.now.vars → init_holds source.now bits ≡ true
         → Satisfies (a ++ bits) formula.new × (values_of (a ++ bits) state ≡ bits)) }
 {
-    let state = fresh_state(alloc, formula, source.vars.len())?;
+    let state = fresh_state(alloc, formula, source.vars)?;
     let asked = literals(
         alloc,
         source.init.as_slice(),
@@ -140,20 +127,20 @@ fn start(
 fn follow(
     alloc: Global,
     formula: &mut Formula,
-    source: &BooleanModule,
+    source: &Plain,
     now: &[Lit],
 ) -> Result<List<Lit>, AllocError>
-    requires source { IsBooleanModule source.now }
-    requires now { IsCode formula.old (length source.now.vars) now.now }
-    ensures code { IfOk result (IsCode formula.new (length source.now.vars)) }
+    requires source { IsWhole source.now }
+    requires now { IsCode formula.old source.now.vars now.now }
+    ensures code { IfOk result (IsCode formula.new source.now.vars) }
     ensures grown { formula.old.vars ≤ formula.new.vars }
     ensures real { IfOk result (λ next. (a : List Bool) → Satisfies a formula.new
         → Satisfies a formula.old × (next_holds source.now (values_of a now.now) (values_of a next) ≡ true)) }
     ensures reached { IfOk result (λ next. (a bits : List Bool) → length a ≡ formula.old.vars → Satisfies a formula.old
-        → length bits ≡ length source.now.vars → next_holds source.now (values_of a now.now) bits ≡ true
+        → length bits ≡ source.now.vars → next_holds source.now (values_of a now.now) bits ≡ true
         → (more : List Bool) × IsReached formula.new (a ++ more) next bits) }
 {
-    let next = fresh_state(alloc, formula, source.vars.len())?;
+    let next = fresh_state(alloc, formula, source.vars)?;
     let some = some_branch(alloc, formula, source.next.as_slice(), now, next.as_slice())?;
     require_all(formula, &[some])?;
     Ok(next)

@@ -10,14 +10,11 @@ use tool_outside::{HostFiles, HostSink};
 mod answer;
 mod asking;
 mod checking;
-mod declarations;
+mod copies;
 mod encoding;
 mod lines;
 mod naming;
-mod pieces;
-mod reader;
 mod saving;
-mod shape;
 mod top;
 mod words;
 

@@ -241,7 +241,67 @@ const NEVER: u64 = 1_000_000;
 
 const CALM: (u64, u64) = (NEVER, NEVER);
 
-// The status, and what the program writes for these words, where `Toggle.tla` has these bytes.
+// A module as it is written by hand: comments, lists of bullets, brackets, and conjuncts in any order.
+const BY_HAND: &str = "This file holds a module.
+---- MODULE Toggle ----
+VARIABLES
+  \\* @type: Bool;
+  x,
+  \\* The other. @type: Bool;
+  y
+
+Init ==
+  /\\ y = TRUE
+  /\\ (x = FALSE)
+
+(* Either of the two. *)
+Next ==
+  \\/ /\\ y' = FALSE
+     /\\ x = FALSE
+     /\\ x' = TRUE
+  \\/ (y' \\in BOOLEAN /\\ x = TRUE) /\\ x' = FALSE
+
+--------
+Inv == /\\ x = FALSE
+====
+What is behind is not read.
+";
+
+const BY_HAND_REPORT: &str = "error at level 1: invariant Inv is FALSE
+state 0
+/\\ x = FALSE
+/\\ y = TRUE
+state 1
+/\\ x = TRUE
+/\\ y = FALSE
+";
+
+// The text up to the invariant, which stands in line 8.
+const ROW_HEAD: &str = "---- MODULE Row ----
+EXTENDS Integers, Sequences, FiniteSets
+VARIABLE
+  \\* @type: Bool;
+  x
+Init == x = FALSE
+Next == x' = x
+Inv == ";
+
+// The status, and what the program writes for these words, where the file of this name has these bytes.
+fn answers_for(
+    alloc: Global,
+    words: &[&str],
+    name: &str,
+    bytes: &str,
+    fails: (u64, u64),
+) -> Result<(u8, Vec<u8>), Fail> {
+    let mut files = MemoryFiles::new(alloc, List::from_vec(vec![in alloc; fails.0]?));
+    files.put(name, bytes.as_bytes())?;
+    let mut out = MemorySink::new(alloc, List::from_vec(vec![in alloc; fails.1]?));
+    let status = run(alloc, &owned(alloc, words)?, &mut files, &mut out);
+    Ok((status, out.bytes().to_vec(alloc)?))
+}
+
+// What the program answers for `Toggle.tla`.
 fn answers(
     alloc: Global,
     words: &[&str],
@@ -249,11 +309,7 @@ fn answers(
     file_fails: u64,
     sink_fails: u64,
 ) -> Result<(u8, Vec<u8>), Fail> {
-    let mut files = MemoryFiles::new(alloc, List::from_vec(vec![in alloc; file_fails]?));
-    files.put("Toggle.tla", bytes.as_bytes())?;
-    let mut out = MemorySink::new(alloc, List::from_vec(vec![in alloc; sink_fails]?));
-    let status = run(alloc, &owned(alloc, words)?, &mut files, &mut out);
-    Ok((status, out.bytes().to_vec(alloc)?))
+    answers_for(alloc, words, "Toggle.tla", bytes, (file_fails, sink_fails))
 }
 
 fn agrees(
@@ -277,6 +333,7 @@ fn verdicts_have_their_status_and_their_bytes(rt: HostRuntime) -> Result<(), Fai
     let free = "error at level 0: invariant Inv is FALSE\nstate 0\n/\\ x = TRUE\n";
     agrees(&rt, toggle, TOGGLE, CALM, 12, TOGGLE_REPORT)?;
     agrees(&rt, start, FREE_TOGGLE, CALM, 12, free)?;
+    agrees(&rt, toggle, BY_HAND, CALM, 12, BY_HAND_REPORT)?;
     agrees(&rt, start, TOGGLE, CALM, 0, "no error to 0\n")
 }
 
@@ -287,11 +344,62 @@ fn refusals_have_their_status_and_their_bytes(rt: HostRuntime) -> Result<(), Fai
     let no_module = "refused: module Gone is missing\n";
     agrees(&rt, toggle, UNEQUAL_TOGGLE, CALM, 30, no_form)?;
     agrees(&rt, toggle, NO_START, CALM, 30, no_form)?;
-    agrees(&rt, toggle, "", CALM, 30, no_form)?;
+    agrees(
+        &rt,
+        toggle,
+        "",
+        CALM,
+        30,
+        "refused: no module header in Toggle\n",
+    )?;
     for file in ["Gone.tla", "far/Gone.tla", "Gone"] {
         agrees(&rt, &["check", file, "1"], TOGGLE, CALM, 30, no_module)?;
     }
     Ok(())
+}
+
+// The text of `Row.tla` with this invariant is refused with this line.
+fn refuses(rt: &(impl Abort + AllocGlobal), invariant: &str, line: &str) -> Result<(), Fail> {
+    let mut text = String::from_str(rt.alloc(), ROW_HEAD)?;
+    text.push_str(invariant)?;
+    text.push_str("\n====\n")?;
+    let words = &["check", "Row.tla", "0"];
+    let (status, out) = answers_for(rt.alloc(), words, "Row.tla", &text, CALM)?;
+    assert_eq!(rt; status, 30, "{line}");
+    assert_eq!(rt; out.as_slice(), line.as_bytes());
+    Ok(())
+}
+
+#[test]
+fn refusals_of_a_text_name_their_place_and_cause(rt: HostRuntime) -> Result<(), Fail> {
+    for (invariant, line) in [
+        ("x /\\ x \\/ x", "refused: grammar at Row:8:1\n"),
+        ("x ? x", "refused: bad token at Row:8:10\n"),
+        ("x (* no end", "refused: open comment at Row:8:10\n"),
+        (
+            "170141183460469231731687303715884105728",
+            "refused: number past 128 bits at Row:8:8\n",
+        ),
+        (
+            "\\E <<a, b>> \\in {} : x",
+            "refused: tuple pattern is not supported at Row:8:11\n",
+        ),
+        ("x = FALSE", "refused: form is not built\n"),
+    ] {
+        refuses(&rt, invariant, line)?;
+    }
+    Ok(())
+}
+
+#[test]
+fn four_hundred_levels_are_read_and_no_more(rt: HostRuntime) -> Result<(), Fail> {
+    let mut invariant = String::from_str(rt.alloc(), "TRUE")?;
+    for _sign in 0..399 {
+        invariant = format!(in rt.alloc(); "~{invariant}")?;
+    }
+    refuses(&rt, &invariant, "refused: form is not built\n")?;
+    invariant = format!(in rt.alloc(); "~{invariant}")?;
+    refuses(&rt, &invariant, "refused: nesting past 400 at Row:8:1\n")
 }
 
 // Behind the read come the create of the certificate, its first line and its six sections.

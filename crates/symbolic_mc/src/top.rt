@@ -2,25 +2,28 @@
 ghost use Rattle.std.specs.Prelude.{◌≡◌, ◌⊎◌, ◌<◌, ℕ, List as Items, Option, None, Some, IfOk};
 ghost use Rattle.tool_outside.specs.Causes.{HandedOut, Stayed, WritesPrefix};
 ghost use Rattle.tool_outside.specs.Outside.{Rose};
-ghost use Rattle.tla_meaning.specs.BooleanLayout.{IsBooleanModule};
+ghost use Rattle.tla_meaning.specs.declared.job.Job.{Job as Work};
+ghost use Rattle.plain_jobs.specs.Plain.{IsWhole};
 ghost use Rattle.symbolic_mc.specs.Report.{memory_line};
-ghost use Rattle.symbolic_mc.specs.inner.Told.{IsTold, IsModuleRead, IsReadFault, IsCalm, requests};
-ghost use Rattle.symbolic_mc.specs.Top.{module_limit, WritesError, WritesClean, WritesSpent, WritesAccepted, Tells, TellsPart, Touches, IsAnswer, AsksForBooleanLayout, AsksToRecheck, IsStatus, IsVerdictStatus, IsCutStatus};
+ghost use Rattle.symbolic_mc.specs.inner.Told.{IsTold, IsJobRead, IsReadFault, IsCalm, answer_of, requests};
+ghost use Rattle.symbolic_mc.specs.Top.{module_limit, WritesError, WritesClean, WritesSpent, WritesAccepted, Tells, TellsPart, Touches, IsAnswer, AsksForPlainText, AsksToRecheck, IsStatus, IsVerdictStatus, IsCutStatus};
 ghost use Rattle.symbolic_mc.specs.Words.{command_of, request_of, recheck_of};
 
 use crate::answer::Answer;
 use crate::checking::check;
-use crate::declarations::{declarations, one_text};
+use crate::copies::{copied, one_text};
 use crate::lines::write_lines;
-use crate::naming::{certificate_of, has_name, module_of};
-use crate::pieces::{Early, copied};
-use crate::reader::read_module;
+use crate::naming::certificate_of;
 use crate::saving::save;
 use crate::words::{Request, recheck_requested, requested};
+use plain_jobs::Plain;
+use plain_texts::{Source, module_of, read_source};
 use refutation_checker::recheck;
 use std::alloc::{AllocError, Global};
-use tla_meaning::BooleanModule;
+use tla_meaning::Job;
+use tla_values::Text;
 use tool_outside::{FileFail, Files, Sink, SinkFail};
+use trace_text::Verdict;
 
 /// The most bytes that a module may have.
 const MODULE_LIMIT: u64 = 4_194_304;
@@ -50,7 +53,7 @@ pub fn run<F: Files, K: Sink>(alloc: Global, words: &[String], files: &mut F, ou
         ⊎ WritesPrefix (K.written out.old) (K.written out.new) memory_line }
     ensures statuses { IsStatus result }
     ensures usage { request_of words.now ≡ None → recheck_of words.now ≡ None → (result ≡ 31) ⊎ IsCutStatus result }
-    ensures in_form { AsksForBooleanLayout (command_of words.now) (F.held files.old) → Stayed (F.faults files.old) (F.faults files.new)
+    ensures in_form { AsksForPlainText (command_of words.now) (F.held files.old) → Stayed (F.faults files.old) (F.faults files.new)
         → Stayed (K.faults out.old) (K.faults out.new) → IsVerdictStatus result ⊎ (result ≡ 50) }
     ensures rechecked { AsksToRecheck (command_of words.now) (F.held files.old) → Stayed (F.faults files.old) (F.faults files.new)
         → Stayed (K.faults out.old) (K.faults out.new) → (result ≡ 0) ⊎ (result ≡ 14) ⊎ (result ≡ 50) }
@@ -112,42 +115,62 @@ fn check_bytes<F: Files>(
     ensures files { (again : Option (Items ℕ)) → Touches (requests request.now.file.now request.now.longest request.now.budget again)
         (F.held files.old) (F.held files.new) }
 {
-    match read_module(alloc, bytes) {
-        Ok(source) => {
-            if has_name(request.file, source.name.bytes()) {
-                check_module(alloc, request, &source, files)
-            } else {
-                Ok(Answer::NotBuilt)
-            }
-        }
-        Err(Early::FormNotBuilt) => Ok(Answer::NotBuilt),
-        Err(Early::Memory(fail)) => Err(fail),
+    match read_source(alloc, request.file, bytes)? {
+        Source::Refused(refusal) => Ok(Answer::Refused(one_text(alloc, request.file)?, refusal)),
+        Source::NotBuilt => Ok(Answer::NotBuilt),
+        Source::Said(job, plain) => check_job(alloc, request, job, &plain, files),
     }
 }
 
-// The answer to the module that the file holds.
-fn check_module<F: Files>(
+// The answer to the job that the file says.
+fn check_job<F: Files>(
     alloc: Global,
     request: &Request<'_>,
-    source: &BooleanModule,
+    job: Job,
+    plain: &Plain,
     files: &mut F,
 ) -> Result<Answer, AllocError>
-    requires source { IsBooleanModule source.now }
-    requires read { IsModuleRead (F.held files.old) request.now.file.now source.now }
+    requires { IsJobRead (F.held files.old) request.now.file.now job plain.now }
     ensures answer { IfOk result (λ answer. (again : Option (Items ℕ)) → IsAnswer (requests request.now.file.now request.now.longest request.now.budget again)
         (F.held files.old) (F.held files.new) (F.faults files.old) (F.faults files.new) answer) }
     ensures calm { IfOk result (IsCalm (F.faults files.old) (F.faults files.new)) }
     ensures files { (again : Option (Items ℕ)) → Touches (requests request.now.file.now request.now.longest request.now.budget again)
         (F.held files.old) (F.held files.new) }
 {
-    let found = check(alloc, source, request.longest, request.budget)?;
-    let names = declarations(alloc, source.vars.as_slice())?;
-    let holders = one_text(alloc, request.file)?;
+    match check_plain(alloc, request, plain, files)? {
+        Kept::Saved(verdict) => Ok(Answer::Checked(job.names, job.files, verdict)),
+        Kept::Unsaved(name) => Ok(Answer::WriteFault(name)),
+    }
+}
+
+// What became of a check: its verdict, where the certificate was written, or the name of a certificate that could not be.
+#[derive(Drop)]
+enum Kept {
+    Saved(Verdict),
+    Unsaved(Text),
+}
+
+// Checks what a job's parts say, and writes the certificate.
+fn check_plain<F: Files>(
+    alloc: Global,
+    request: &Request<'_>,
+    plain: &Plain,
+    files: &mut F,
+) -> Result<Kept, AllocError>
+    requires { IsWhole plain.now }
+    ensures answer { IfOk result (λ kept. (job : Work) → IsJobRead (F.held files.old) request.now.file.now job plain.now → (again : Option (Items ℕ))
+        → IsAnswer (requests request.now.file.now request.now.longest request.now.budget again)
+        (F.held files.old) (F.held files.new) (F.faults files.old) (F.faults files.new) (answer_of kept job)) }
+    ensures calm { IfOk result (λ kept. (job : Work) → IsCalm (F.faults files.old) (F.faults files.new) (answer_of kept job)) }
+    ensures files { (job : Work) → IsJobRead (F.held files.old) request.now.file.now job plain.now → (again : Option (Items ℕ))
+        → Touches (requests request.now.file.now request.now.longest request.now.budget again) (F.held files.old) (F.held files.new) }
+{
+    let found = check(alloc, plain, request.longest, request.budget)?;
     let name = certificate_of(alloc, request.file)?;
     let fault = copied(alloc, name.as_bytes())?;
     match save(alloc, files, name.as_str(), found.sections.as_slice()) {
-        Ok(()) => Ok(Answer::Checked(names, holders, found.verdict)),
-        Err(FileFail::Failed) => Ok(Answer::WriteFault(fault)),
+        Ok(()) => Ok(Kept::Saved(found.verdict)),
+        Err(FileFail::Failed) => Ok(Kept::Unsaved(fault)),
         Err(FileFail::TooLong) => unreachable!(),
         Err(FileFail::Memory(fail)) => Err(fail),
     }

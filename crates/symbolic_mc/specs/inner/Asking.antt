@@ -6,8 +6,9 @@ use Rattle.refutation_checker.specs.declared.log.Step.{Step}
 use Rattle.refutation_checker.specs.declared.section.Section.{Section}
 use Rattle.sat_formula.specs.Clause.{NamesBelow}
 use Rattle.sat_formula.specs.declared.cnf.Cnf.{Cnf}
-use Rattle.tla_meaning.specs.declared.boolean.BooleanModule.{BooleanModule}
-use Rattle.tla_meaning.specs.BooleanLayout.{job_of}
+use Rattle.plain_jobs.specs.declared.plain.Plain.{Plain}
+use Rattle.plain_jobs.specs.Plain.{IsPlain}
+use Rattle.tla_meaning.specs.declared.job.Job.{Job}
 use Rattle.symbolic_mc.specs.declared.asking.Journal.{Journal}
 use Rattle.symbolic_mc.specs.declared.asking.Question.{Question}
 use Rattle.symbolic_mc.specs.declared.asking.Reply.{Reply}
@@ -60,13 +61,13 @@ IsLeft None spent (Some left) = ⊥
 IsLeft (Some budget) spent None = ⊥
 IsLeft (Some budget) spent (Some left) = spent + left ≡ budget
 
--- the journal refutes these questions of the module's job, whatever its file is called
-pub record HasRefuted (m : BooleanModule) (questions : List Asked) (journal : Journal) : Type 0 where
-  pub refuted : (file : List ℕ) → AreRefuted width (job_of file m) questions journal.sections.items
+-- the journal refutes these questions of each job that says so
+pub record HasRefuted (m : Plain) (questions : List Asked) (journal : Journal) : Type 0 where
+  pub refuted : (job : Job) → IsPlain job m → AreRefuted width job questions journal.sections.items
   pub left : IsLeft journal.budget (conflicts_spent journal.sections.items) journal.left
 
 -- the journal ends with an open section at the level, at which the budget was spent
-pub record IsCutAtLevel (m : BooleanModule) (n : ℕ) (journal : Journal) : Type 0 where
+pub record IsCutAtLevel (m : Plain) (n : ℕ) (journal : Journal) : Type 0 where
   pub conflicts : ℕ
   pub budget : journal.budget ≡ Some conflicts
-  pub cut : (file : List ℕ) → IsCutAt (job_of file m) conflicts n journal.sections.items
+  pub cut : (job : Job) → IsPlain job m → IsCutAt job conflicts n journal.sections.items

@@ -1,10 +1,11 @@
--- What is known after the questions of a level, whatever the module's file is called.
+-- What is known after the questions of a level, for each job that says so.
 use Rattle.std.specs.Prelude.{◌≡◌, ℕ, List, codes, Some, None, true}
 use Rattle.refutation_checker.specs.declared.section.QueryName.{QueryName}
-use Rattle.tla_meaning.specs.declared.boolean.BooleanModule.{BooleanModule}
+use Rattle.plain_jobs.specs.declared.plain.Plain.{Plain}
 use Rattle.tla_meaning.specs.declared.job.State.{State}
 use Rattle.tla_meaning.specs.declared.questions.Query.TheVariants.{InvNotTrue}
-use Rattle.tla_meaning.specs.BooleanLayout.{job_of}
+use Rattle.plain_jobs.specs.Plain.{IsPlain}
+use Rattle.tla_meaning.specs.declared.job.Job.{Job}
 use Rattle.tla_meaning.specs.Executions.{Errs}
 use Rattle.trace_text.specs.declared.verdict.Fault.{Fault}
 use Rattle.trace_text.specs.declared.verdict.Fault.TheVariants.{InvFalse}
@@ -19,19 +20,19 @@ use Rattle.symbolic_mc.specs.Verdicts.{IsCounterexample}
 use Rattle.symbolic_mc.specs.inner.Asking.{HasRefuted, IsCutAtLevel}
 
 -- an execution of so many steps whose last state makes the invariant FALSE
-abbrev pub Breaks : BooleanModule → ℕ → List State → Type 0
-Breaks m n states = (file : List ℕ) → IsCounterexample (job_of file m) n states
+abbrev pub Breaks : Plain → ℕ → List State → Type 0
+Breaks m n states = (job : Job) → IsPlain job m → IsCounterexample job n states
 
 -- the level does not err
-abbrev pub NoError : BooleanModule → ℕ → Type 0
-NoError m n = (file : List ℕ) → Errs (job_of file m) n → ⊥
+abbrev pub NoError : Plain → ℕ → Type 0
+NoError m n = (job : Job) → IsPlain job m → Errs job n → ⊥
 
 -- a question that never holds: its literal is the negation of `top`
 abbrev pub never : ℕ → QueryName → Question
 never n query = record { level = n; query = query; literal = record { var = 0; neg = true } }
 
 -- an error of level n
-pub record IsErrorAt (m : BooleanModule) (n : ℕ) (journal : Journal) (level : ℕ) (fault : Fault) (trace : Trace) : Type 0 where
+pub record IsErrorAt (m : Plain) (n : ℕ) (journal : Journal) (level : ℕ) (fault : Fault) (trace : Trace) : Type 0 where
   pub level_is : level ≡ n
   pub fault_is : fault ≡ InvFalse (codes "Inv")
   pub attempt : trace.attempt ≡ None
@@ -39,7 +40,7 @@ pub record IsErrorAt (m : BooleanModule) (n : ℕ) (journal : Journal) (level : 
   pub refuted : HasRefuted m (asked_until n InvNotTrue) journal
 
 -- what is found at level n: an error, or that the budget is spent
-abbrev pub IsFound : BooleanModule → ℕ → Journal → Verdict → Type 0
+abbrev pub IsFound : Plain → ℕ → Journal → Verdict → Type 0
 IsFound m n journal (Error level fault trace) = IsErrorAt m n journal level fault trace
 IsFound m n journal (Spent conflicts (Level level)) = (level ≡ n) × (journal.budget ≡ Some conflicts) × IsCutAtLevel m n journal
 IsFound m n journal (Spent conflicts Typed) = ⊥

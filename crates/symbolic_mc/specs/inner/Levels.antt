@@ -4,7 +4,7 @@ use Rattle.sat_formula.specs.declared.lit.Lit.{Lit}
 use Rattle.sat_formula.specs.declared.cnf.Cnf.{Cnf}
 use Rattle.sat_formula.specs.Lit.{lit_value, values, IsBelow}
 use Rattle.sat_formula.specs.Formula.{Satisfies}
-use Rattle.tla_meaning.specs.declared.boolean.BooleanModule.{BooleanModule}
+use Rattle.plain_jobs.specs.declared.plain.Plain.{Plain}
 use Rattle.symbolic_mc.specs.inner.Boolean.{IsRun, inv_holds}
 
 -- the truth values that an assignment gives a state's literals
@@ -31,17 +31,17 @@ pub record AreReached (f : Cnf) (codes : List (List Lit)) (runs : List (List Boo
 
 -- the literals of the states of an execution of so many steps, in the formula of that level: what satisfies the
 -- formula decodes to an execution, and each execution is decoded by what satisfies the formula
-pub record HasRuns (m : BooleanModule) (f : Cnf) (codes : List (List Lit)) : Type 0 where
-  pub each : All (IsCode f (length m.vars)) codes
+pub record HasRuns (m : Plain) (f : Cnf) (codes : List (List Lit)) : Type 0 where
+  pub each : All (IsCode f m.vars) codes
   pub real : (a : List Bool) → Satisfies a f → IsRun m (map (values_of a) codes)
   pub reached : (runs : List (List Bool)) → IsRun m runs → length runs ≡ length codes → AreReached f codes runs
 
 -- a level without states has the formula that nothing was added to
-abbrev pub IsLevel : BooleanModule → Cnf → List (List Lit) → Type 0
+abbrev pub IsLevel : Plain → Cnf → List (List Lit) → Type 0
 IsLevel m f [] = (f.vars ≡ 1) × Satisfies (true ∷ []) f
 IsLevel m f (code ∷ codes) = HasRuns m f (code ∷ codes)
 
 -- the literal is true exactly where the invariant is FALSE at the state with this number
-pub record IsBroken (m : BooleanModule) (f : Cnf) (codes : List (List Lit)) (n : ℕ) (l : Lit) : Type 0 where
+pub record IsBroken (m : Plain) (f : Cnf) (codes : List (List Lit)) (n : ℕ) (l : Lit) : Type 0 where
   pub below : l.var < f.vars
   pub value : (a : List Bool) → Satisfies a f → lit_value l a ≡ not (inv_holds m (values_of a (slice_index_or codes n [])))

@@ -5,23 +5,33 @@ use Rattle.tool_outside.specs.Causes.{HandedOut, WritesPrefix}
 use Rattle.tool_outside.specs.Outside.{Folder, Rose}
 use Rattle.tool_outside.specs.declared.files.FileFail.{FileFail}
 use Rattle.tool_outside.specs.declared.files.FileFail.TheVariants as fail
-use Rattle.tla_meaning.specs.declared.boolean.BooleanModule.{BooleanModule}
-use Rattle.tla_meaning.specs.BooleanLayout.{job_of}
+use Rattle.plain_jobs.specs.Plain.{IsPlain}
+use Rattle.plain_jobs.specs.declared.plain.Plain.{Plain}
+use Rattle.tla_meaning.specs.declared.job.Job.{Job}
 use Rattle.symbolic_mc.specs.declared.answer.Answer.{Answer}
-use Rattle.symbolic_mc.specs.declared.answer.Answer.TheVariants.{ReadFault, TooLong}
+use Rattle.symbolic_mc.specs.declared.answer.Answer.TheVariants.{Checked, ReadFault, TooLong, WriteFault}
 use Rattle.symbolic_mc.specs.Report.{status_of, report_of, memory_line}
-use Rattle.symbolic_mc.specs.Top.{IsOnlyBooleanLayout, module_limit}
+use Rattle.plain_texts.specs.Sources.{IsOnlyPlainText}
+use Rattle.symbolic_mc.specs.Top.{module_limit}
+use Rattle.symbolic_mc.specs.declared.top.Kept.{Kept}
+use Rattle.symbolic_mc.specs.declared.top.Kept.TheVariants.{Saved, Unsaved}
 use Rattle.symbolic_mc.specs.Words.{Command}
 
 -- the command to check a file
 abbrev pub requests : List ℕ → ℕ → Option ℕ → Option (List ℕ) → Command
 requests file longest budget again = (Some (file, longest, budget), again)
 
--- the bytes that were handed out for the file say this module's job, and no other
-pub record IsModuleRead (held : Option Folder) (file : List ℕ) (m : BooleanModule) : Type 0 where
+-- the bytes that were handed out for the file say this job, and no other, and this is what its parts say
+pub record IsJobRead (held : Option Folder) (file : List ℕ) (job : Job) (m : Plain) : Type 0 where
   pub bytes : List ℕ
   pub handed : HandedOut held file module_limit bytes
-  pub form : IsOnlyBooleanLayout file (job_of file m) bytes
+  pub form : IsOnlyPlainText file job bytes
+  pub plain : IsPlain job m
+
+-- the answer to what became of a check, where this is the job
+abbrev pub answer_of : Kept → Job → Answer
+answer_of (Saved verdict) job = Checked job.names job.files verdict
+answer_of (Unsaved name) job = WriteFault name
 
 -- the answer to a read that failed
 abbrev pub IsReadFault : List ℕ → FileFail → Answer → Type 0

@@ -12,24 +12,24 @@ use Rattle.symbolic_mc.proofs.checking.ask_of_invariant.Goals as goal
 
 pub returns-in-Refuted-clause-calm : goal.returns-in-Refuted-clause-calm
 returns-in-Refuted-clause-calm c =
-    level_calm c.args.source.now c.args.steps _ _ _ c.requires.source c.in_ok-literal.ensures.level (ap (λ v. length v.items) c.in_ok-literal.ensures.states ∙ c.requires.size)
+    level_calm c.args.source.now c.args.steps _ _ _ c.in_ok-literal.ensures.level (ap (λ v. length v.items) c.in_ok-literal.ensures.states ∙ c.requires.size)
     c.in_ok-literal.ensures.value _ _ (reply_refuted _ _ _ _ _ c.in_ok-ask.ensures c.in-Refuted.is)
 
 pub returns-in-Refuted-clause-refuted : goal.returns-in-Refuted-clause-refuted
 returns-in-Refuted-clause-refuted c =
-    invariant_refuted c.args.source.now c.args.steps _ _ _ c.requires.source c.in_ok-literal.ensures.level (ap (λ v. length v.items) c.in_ok-literal.ensures.states ∙ c.requires.size)
+    invariant_refuted c.args.source.now c.args.steps _ _ _ c.in_ok-literal.ensures.level (ap (λ v. length v.items) c.in_ok-literal.ensures.states ∙ c.requires.size)
     c.in_ok-literal.ensures.value _ _ c.requires.refuted (reply_refuted _ _ _ _ _ c.in_ok-ask.ensures c.in-Refuted.is)
 
 pub returns-in-Spent-clause-found : goal.returns-in-Spent-clause-found
 returns-in-Spent-clause-found c =
     found_spent c.args.source.now c.args.steps _ _
-    (invariant_cut c.args.source.now c.args.steps _ _ _ c.requires.source c.in_ok-literal.ensures.level (ap (λ v. length v.items) c.in_ok-literal.ensures.states ∙ c.requires.size)
+    (invariant_cut c.args.source.now c.args.steps _ _ _ c.in_ok-literal.ensures.level (ap (λ v. length v.items) c.in_ok-literal.ensures.states ∙ c.requires.size)
     c.in_ok-literal.ensures.value _ _ c.requires.refuted (reply_spent _ _ _ _ _ c.in_ok-ask.ensures c.in-Spent.is)) c.spent.ensures
 
 pub returns-in_ok-verdict-in-Holds-clause-found : goal.returns-in_ok-verdict-in-Holds-clause-found
 returns-in_ok-verdict-in-Holds-clause-found c =
     let holds = reply_holds _ _ _ _ _ c.in-Holds.assignment c.in_ok-ask.ensures c.in-Holds.is in
-    let breaks = level_breaks c.args.source.now c.args.steps _ _ _ c.requires.source c.in_ok-literal.ensures.level (ap (λ v. length v.items) c.in_ok-literal.ensures.states ∙ c.requires.size)
+    let breaks = level_breaks c.args.source.now c.args.steps _ _ _ c.in_ok-literal.ensures.level (ap (λ v. length v.items) c.in_ok-literal.ensures.states ∙ c.requires.size)
     c.in_ok-literal.ensures.value c.in-Holds.assignment c.in_ok-states-in-Holds.states holds.0
     (c.in_ok-states-in-Holds.ensures ∙ ap (λ (x : List (List Lit)). map (λ code. state_of (values_of c.in-Holds.assignment code)) x) c.as_slice.ensures.value) in
     found_error c.args.source.now c.args.steps _ _ c.in_ok-states-in-Holds.states breaks

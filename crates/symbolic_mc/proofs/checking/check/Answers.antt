@@ -14,8 +14,8 @@ loop-steps-init c = record {
 }
 
 pub returns-in-Some : goal.returns-in-Some
-returns-in-Some c = λ file.
-    found_checked c.args.source.now c.loop-steps.steps c.args.longest c.args.budget _ c.in-Some.verdict file
+returns-in-Some c = λ job plain.
+    found_checked c.args.source.now c.loop-steps.steps c.args.longest c.args.budget _ c.in-Some.verdict job plain
     (some_of c.in_ok-found.found c.in-Some.verdict (IsFound c.args.source.now c.loop-steps.steps c.check_level.new.journal) c.in-Some.is c.in_ok-found.ensures.found)
     c.loop-steps.invariant.none (omega arith) (c.in_ok-found.ensures.budget ∙ c.loop-steps.invariant.budget)
 

@@ -10,7 +10,7 @@ returns-then-not-branch-2-clause-found c =
     let m = c.args.source.now in
     let n = c.args.steps in
     let count : length c.ask_of_invariant.new.level.states.items ≡ n + 1 = omega (arith, ap (λ v. length v.items) c.in_ok-verdict.ensures.states, c.in_ok-extend.ensures.longer, c.requires.size) in
-    found_spent m n _ _ (never_cut m n InvBig _ _ c.requires.source tt c.in_ok-verdict.ensures.level count c.in_ok-ask_never.ensures.forced _ _
+    found_spent m n _ _ (never_cut m n InvBig _ _ tt c.in_ok-verdict.ensures.level count c.in_ok-ask_never.ensures.forced _ _
     (none_of c.in_ok-verdict.field-0 _ c.in_default.is c.in_ok-verdict.ensures.refuted)
     (where_false c.in_ok-ask_never.field-0 _ c.in_ok-ask_never.ensures.spent c.if-not-branch-2.true)) c.spent-then-not-branch-2.ensures
 
@@ -19,6 +19,6 @@ returns-clause-refuted c =
     let m = c.args.source.now in
     let n = c.args.steps in
     let count : length c.ask_of_invariant.new.level.states.items ≡ n + 1 = omega (arith, ap (λ v. length v.items) c.in_ok-verdict.ensures.states, c.in_ok-extend.ensures.longer, c.requires.size) in
-    ends_level m n _ (never_refuted m n InvBig _ _ c.requires.source tt c.in_ok-verdict.ensures.level count c.in_ok-ask_never.ensures.forced _ _
+    ends_level m n _ (never_refuted m n InvBig _ _ tt c.in_ok-verdict.ensures.level count c.in_ok-ask_never.ensures.forced _ _
     (none_of c.in_ok-verdict.field-0 _ c.in_default.is c.in_ok-verdict.ensures.refuted)
     (where_true c.in_ok-ask_never.field-0 _ c.in_ok-ask_never.ensures.refuted c.if-not-branch-2.false))

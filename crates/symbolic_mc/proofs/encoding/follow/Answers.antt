@@ -1,3 +1,4 @@
+use Rattle.std.proofs.Common.{refl}
 use Rattle.sat_formula.proofs.Extension.{Satisfies-older}
 use Rattle.symbolic_mc.proofs.Reaching.{follow_reaches}
 use Rattle.symbolic_mc.proofs.Runs.{some_holds_as, one_true}
@@ -18,6 +19,6 @@ returns-clause-real c = λ a sat.
 pub returns-clause-reached : goal.returns-clause-reached
 returns-clause-reached c =
     follow_reaches c.args.source.now _ _ _ _ _ c.args.now.now c.in_ok-next.next _ c.in_ok-some.some _
-    c.requires.now c.in_ok-next.ensures.code c.in_ok-next.ensures.free c.in_ok-next.ensures.size c.len.ensures
+    c.requires.now c.in_ok-next.ensures.code c.in_ok-next.ensures.free c.in_ok-next.ensures.size refl
     c.in_ok-some.ensures.grows c.in_ok-some.ensures.value c.as_slice.ensures c.as_slice-2.ensures
     c.in_ok-require_all.ensures.reached c.in_ok-require_all.ensures.vars
