@@ -1,0 +1,10 @@
+pub mod BranchTrees
+pub mod Branches
+pub mod Conjunctions
+pub mod ConjunctTrees
+pub mod Conjuncts
+pub mod Lines
+pub mod ModuleTrees
+pub mod Modules
+pub mod Spelled
+pub mod Texts
