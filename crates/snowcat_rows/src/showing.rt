@@ -8,11 +8,12 @@ ghost use Rattle.snowcat_rows.specs.declared.marks.Seen.{Seen};
 ghost use Rattle.snowcat_rows.specs.Renamings.{by_numbers};
 ghost use Rattle.snowcat_rows.specs.Spellings.{spelling};
 ghost use Rattle.snowcat_rows.specs.Types.{mean};
+ghost use Rattle.tla_values.specs.Show.{Begins};
 ghost use Rattle.snowcat_rows.specs.TypeTexts.{Fronts, IsTypeText, KeepsFronts, Syntax, is_formed};
 
 use crate::types::Ty;
 use itoa::Buffer;
-use std::alloc::AllocError;
+use std::alloc::{AllocError, Global};
 use tla_values::Text;
 
 // What decides where a type's text stands in parentheses.
@@ -26,11 +27,20 @@ pub(crate) enum Form {
 /// Adds the text of a type: `Set(Int)`, `Int -> Str -> Bool`, `<<Int, Str>>`, `{f: Int, r0}`, `(Int, a1) => Bool`.
 ///
 /// The type variable with number n is `a` and n, a row variable `r` and n. A function stands in parentheses to the left
-/// of `->`, an operator on both sides. Source: the Apalache manual, "Type System 1.2".
+/// of `->`, an operator on both sides. After a refusal `out` begins with its old bytes.
+/// Source: the Apalache manual, "Type System 1.2".
+pub fn show_type(_alloc: Global, t: &Ty, out: &mut Vec<u8>) -> Result<(), AllocError>
+    ensures text { OnOk result (out.new.items ≡ out.old.items ++ type_text t.now) }
+    ensures begins { Begins out.old.items out.new.items }
+{
+    show_part(t, out)
+}
+
 #[tactic(auto, using(crate::proofs::TextForms::texts))]
-#[cycle(show)]
-pub fn show_type(t: &Ty, out: &mut Vec<u8>) -> Result<(), AllocError>
-    ensures { OnOk result (out.new.items ≡ out.old.items ++ type_text t.now) }
+#[cycle(show_part)]
+fn show_part(t: &Ty, out: &mut Vec<u8>) -> Result<(), AllocError>
+    ensures text { OnOk result (out.new.items ≡ out.old.items ++ type_text t.now) }
+    ensures begins { Begins out.old.items out.new.items }
 {
     match t {
         Ty::Bool => append(b"Bool", out),
@@ -52,7 +62,7 @@ pub fn show_type(t: &Ty, out: &mut Vec<u8>) -> Result<(), AllocError>
             append(b"(", out)?;
             show_items(ts.as_slice(), out)?;
             append(b") => ", out)?;
-            show_type(b, out)?;
+            show_part(b, out)?;
             Ok(())
         }
     }
@@ -96,62 +106,72 @@ fn read_form(t: &Ty) -> Form
     }
 }
 
-#[cycle(show)]
+#[cycle(show_part)]
 fn show_between(head: &[u8], t: &Ty, out: &mut Vec<u8>) -> Result<(), AllocError>
-    ensures { OnOk result (out.new.items ≡ out.old.items ++ (head.now ++ type_text t.now ++ codes ")")) }
+    ensures text { OnOk result
+        (out.new.items ≡ out.old.items ++ (head.now ++ type_text t.now ++ codes ")")) }
+    ensures begins { Begins out.old.items out.new.items }
 {
     append(head, out)?;
-    show_type(t, out)?;
+    show_part(t, out)?;
     append(b")", out)
 }
 
-#[cycle(show)]
+#[cycle(show_part)]
 fn show_operand(t: &Ty, out: &mut Vec<u8>) -> Result<(), AllocError>
-    ensures { OnOk result (out.new.items ≡ out.old.items ++ operand_text (form_of t.now) (type_text t.now)) }
+    ensures text { OnOk result
+        (out.new.items ≡ out.old.items ++ operand_text (form_of t.now) (type_text t.now)) }
+    ensures begins { Begins out.old.items out.new.items }
 {
     match read_form(t) {
-        Form::Operand => show_type(t, out),
+        Form::Operand => show_part(t, out),
         Form::Function => show_between(b"(", t, out),
         Form::Operator => show_between(b"(", t, out),
     }
 }
 
-#[cycle(show)]
+#[cycle(show_part)]
 fn show_result(t: &Ty, out: &mut Vec<u8>) -> Result<(), AllocError>
-    ensures { OnOk result (out.new.items ≡ out.old.items ++ result_text (form_of t.now) (type_text t.now)) }
+    ensures text { OnOk result
+        (out.new.items ≡ out.old.items ++ result_text (form_of t.now) (type_text t.now)) }
+    ensures begins { Begins out.old.items out.new.items }
 {
     match read_form(t) {
-        Form::Operand => show_type(t, out),
-        Form::Function => show_type(t, out),
+        Form::Operand => show_part(t, out),
+        Form::Function => show_part(t, out),
         Form::Operator => show_between(b"(", t, out),
     }
 }
 
-#[cycle(show)]
+#[cycle(show_part)]
 fn show_tuple(ts: &[Ty], out: &mut Vec<u8>) -> Result<(), AllocError>
-    ensures { OnOk result (out.new.items ≡ out.old.items
+    ensures text { OnOk result (out.new.items ≡ out.old.items
         ++ (codes "<<" ++ items_text (map type_text ts.now) ++ codes ">>")) }
+    ensures begins { Begins out.old.items out.new.items }
 {
     append(b"<<", out)?;
     show_items(ts, out)?;
     append(b">>", out)
 }
 
-#[cycle(show)]
+#[cycle(show_part)]
 fn show_items(ts: &[Ty], out: &mut Vec<u8>) -> Result<(), AllocError>
-    ensures { OnOk result (out.new.items ≡ out.old.items ++ items_text (map type_text ts.now)) }
+    ensures text { OnOk result
+        (out.new.items ≡ out.old.items ++ items_text (map type_text ts.now)) }
+    ensures begins { Begins out.old.items out.new.items }
 {
     for i in 0..ts.len() {
         separate(i, out)?;
-        show_type(&ts[i], out)?;
+        show_part(&ts[i], out)?;
     }
     Ok(())
 }
 
-#[cycle(show)]
+#[cycle(show_part)]
 fn show_record(fs: &[(Text, Ty)], tail: Option<u32>, out: &mut Vec<u8>) -> Result<(), AllocError>
-    ensures { OnOk result (out.new.items ≡ out.old.items
+    ensures text { OnOk result (out.new.items ≡ out.old.items
         ++ (codes "{" ++ fields_text (map typed_field fs.now) ++ tail_text (length fs.now) tail ++ codes "}")) }
+    ensures begins { Begins out.old.items out.new.items }
 {
     append(b"{", out)?;
     show_fields(fs, out)?;
@@ -159,23 +179,26 @@ fn show_record(fs: &[(Text, Ty)], tail: Option<u32>, out: &mut Vec<u8>) -> Resul
     append(b"}", out)
 }
 
-#[cycle(show)]
+#[cycle(show_part)]
 fn show_fields(fs: &[(Text, Ty)], out: &mut Vec<u8>) -> Result<(), AllocError>
-    ensures { OnOk result (out.new.items ≡ out.old.items ++ fields_text (map typed_field fs.now)) }
+    ensures text { OnOk result
+        (out.new.items ≡ out.old.items ++ fields_text (map typed_field fs.now)) }
+    ensures begins { Begins out.old.items out.new.items }
 {
     for i in 0..fs.len() {
         let f = &fs[i];
         separate(i, out)?;
         append(f.0.bytes(), out)?;
         append(b": ", out)?;
-        show_type(&f.1, out)?;
+        show_part(&f.1, out)?;
     }
     Ok(())
 }
 
 // The row variable behind so many fields.
 fn show_tail(count: usize, tail: Option<u32>, out: &mut Vec<u8>) -> Result<(), AllocError>
-    ensures { OnOk result (out.new.items ≡ out.old.items ++ tail_text count tail) }
+    ensures text { OnOk result (out.new.items ≡ out.old.items ++ tail_text count tail) }
+    ensures begins { Begins out.old.items out.new.items }
 {
     match tail {
         None => Ok(()),
@@ -187,7 +210,8 @@ fn show_tail(count: usize, tail: Option<u32>, out: &mut Vec<u8>) -> Result<(), A
 }
 
 fn show_variable(letter: &[u8], n: u32, out: &mut Vec<u8>) -> Result<(), AllocError>
-    ensures { OnOk result (out.new.items ≡ out.old.items ++ (letter.now ++ decimal n)) }
+    ensures text { OnOk result (out.new.items ≡ out.old.items ++ (letter.now ++ decimal n)) }
+    ensures begins { Begins out.old.items out.new.items }
 {
     append(letter, out)?;
     let mut buffer = Buffer::new();
@@ -196,13 +220,16 @@ fn show_variable(letter: &[u8], n: u32, out: &mut Vec<u8>) -> Result<(), AllocEr
 
 // What stands before the item at a place of a list.
 fn separate(i: usize, out: &mut Vec<u8>) -> Result<(), AllocError>
-    ensures { OnOk result (out.new.items ≡ out.old.items ++ (if i == 0 then [] else codes ", ")) }
+    ensures text { OnOk result
+        (out.new.items ≡ out.old.items ++ (if i == 0 then [] else codes ", ")) }
+    ensures begins { Begins out.old.items out.new.items }
 {
     if i == 0 { Ok(()) } else { append(b", ", out) }
 }
 
 fn append(bytes: &[u8], out: &mut Vec<u8>) -> Result<(), AllocError>
-    ensures { OnOk result (out.new.items ≡ out.old.items ++ bytes.now) }
+    ensures text { OnOk result (out.new.items ≡ out.old.items ++ bytes.now) }
+    ensures begins { Begins out.old.items out.new.items }
 {
     out.extend_from_slice(bytes)
 }

@@ -237,10 +237,10 @@ impl Subst {
     }
 
     /// The type under the substitution.
-    pub fn resolved(&self, t: &Ty) -> Result<Ty, AllocError>
+    pub fn resolved(&self, alloc: Global, t: &Ty) -> Result<Ty, AllocError>
         ensures { IfOk result (λ r. mean r ≡ apply (stands_for self.now) (mean t.now)) }
     {
-        let settled = settle(self.alloc, t, self.bindings.as_slice(), &self.places)?;
+        let settled = settle(alloc, t, self.bindings.as_slice(), &self.places)?;
         Ok(settled)
     }
 

@@ -41,7 +41,7 @@ fn show_answer(alloc: Global, answer: &Result<Ty, TypeTextFault>) -> Result<Vec<
     match answer {
         Ok(t) => {
             let mut out = Vec::new(alloc);
-            show_type(t, &mut out)?;
+            show_type(alloc, t, &mut out)?;
             Ok(out)
         }
         Err(fault) => show_fault(alloc, fault),

@@ -10,7 +10,7 @@ fn is_shown(alloc: Global, line: &str) -> Result<bool, AllocError> {
     let (word, want) = line.split_once(" => ").unwrap_or((line, ""));
     let t = type_of(alloc, word)?;
     let mut out = Vec::new(alloc);
-    show_type(&t, &mut out)?;
+    show_type(alloc, &t, &mut out)?;
     Ok(out.as_slice() == want.as_bytes())
 }
 

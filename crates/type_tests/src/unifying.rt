@@ -17,24 +17,30 @@ fn five(alloc: Global) -> Subst {
     s
 }
 
-fn show_both(x: &Ty, middle: &str, y: &Ty, out: &mut Vec<u8>) -> Result<(), AllocError> {
-    show_type(x, out)?;
+fn show_both(
+    alloc: Global,
+    x: &Ty,
+    middle: &str,
+    y: &Ty,
+    out: &mut Vec<u8>,
+) -> Result<(), AllocError> {
+    show_type(alloc, x, out)?;
     out.extend_from_slice(middle.as_bytes())?;
-    show_type(y, out)
+    show_type(alloc, y, out)
 }
 
 // Adds what both types are after one call, or the two parts that clash.
-fn step(s: &mut Subst, a: &Ty, b: &Ty, out: &mut Vec<u8>) -> Result<(), AllocError> {
+fn step(alloc: Global, s: &mut Subst, a: &Ty, b: &Ty, out: &mut Vec<u8>) -> Result<(), AllocError> {
     if !is_within(a, s.issued()) || !is_within(b, s.issued()) {
         return out.extend_from_slice(b"not issued");
     }
     match s.unify(a, b) {
         Ok(()) => {
-            let left = s.resolved(a)?;
-            let right = s.resolved(b)?;
-            show_both(&left, " = ", &right, out)
+            let left = s.resolved(alloc, a)?;
+            let right = s.resolved(alloc, b)?;
+            show_both(alloc, &left, " = ", &right, out)
         }
-        Err(UnifyFault::Clash(x, y)) => show_both(&x, " # ", &y, out),
+        Err(UnifyFault::Clash(x, y)) => show_both(alloc, &x, " # ", &y, out),
         Err(UnifyFault::Memory(e)) => Err(e),
     }
 }
@@ -49,7 +55,7 @@ fn told(alloc: Global, steps: &str) -> Result<Vec<u8>, AllocError> {
         let (left, right) = pair.split_once(" ").unwrap_or((pair, ""));
         let a = type_of(alloc, left)?;
         let b = type_of(alloc, right)?;
-        step(&mut s, &a, &b, &mut out)?;
+        step(alloc, &mut s, &a, &b, &mut out)?;
     }
     Ok(out)
 }
