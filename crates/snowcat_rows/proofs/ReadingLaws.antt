@@ -6,11 +6,11 @@ use Rattle.snowcat_rows.specs.declared.faults.TypeTextFault.{TypeTextFault}
 use Rattle.snowcat_rows.specs.declared.faults.TypeTextFault.TheVariants as fault
 use Rattle.snowcat_rows.specs.Types.{Term, con, BoolHead}
 use Rattle.snowcat_rows.specs.TypeTexts.{Syntax, IsTypeText, IsBadAt}
-use Rattle.snowcat_rows.specs.Readings.{Known, read, unknown, or_first, Counts, Knows, IsReadAs, IsTextFault, WantsMemory}
+use Rattle.snowcat_rows.specs.Readings.{Known, read, unknown, or_first, unknown_within, Counts, Knows, IsReadAs, IsFaultOf, IsTextFault, WantsMemory}
 use Rattle.snowcat_rows.specs.inner.Building.{Item, one, several, Site, site, push, built, built_all, unknown_mark, unknown_in}
 use Rattle.snowcat_rows.specs.inner.Machine.{Scan, finished}
 use Rattle.snowcat_rows.specs.inner.Marks.{marked}
-use Rattle.snowcat_rows.specs.inner.Readers.{AreBuilt, AreMarks, IsBuilt, Tells, Leaves, IsWhole, IsFaultOf}
+use Rattle.snowcat_rows.specs.inner.Readers.{AreBuilt, AreMarks, IsBuilt, Tells, Leaves, IsWhole}
 use Rattle.snowcat_rows.proofs.Builds.{builds, built_more, unknowns, unknown_more}
 use Rattle.snowcat_rows.proofs.Scans.{complete}
 
@@ -96,7 +96,7 @@ is_whole k text ms s t n (x, i, e) (b, u) ((is, g), h) =
 pub is_unknown : (k : Known) (text : List ℕ) (ms : List Mark) (e : TypeTextFault) → AreMarks text ms → Tells (unknown_in k ms) e → IsFaultOf k text e
 is_unknown k text ms (fault.BadType n) m t = absurd t
 is_unknown k text ms (fault.Memory a) m t = tt
-is_unknown k text ms (fault.UnknownAlias x) (s, i, e) t = (s, i, sym (unknown_marks k s) ∙ ap (λ z. unknown_in k z) (sym e) ∙ t)
+is_unknown k text ms (fault.UnknownAlias x) (s, i, e) t = inl (s, i, sym (unknown_marks k s) ∙ ap (λ z. unknown_in k z) (sym e) ∙ t)
 
 -- a bad text is no type's
 pub bad_is_none : (text : List ℕ) (n : ℕ) → IsBadAt text n → (s : Syntax) → IsTypeText text s → ⊥
@@ -126,8 +126,9 @@ pub counts_whole : (k : Known) (a : List ℕ × List ℕ) (t : Term) (n : ℕ) �
 counts_whole k a t n (s, i, u, e, f) = inl (s, i, u, ap (λ z. k ++ (a.0, z, n) ∷ []) e ∙ ap (λ z. k ++ (a.0, (read k s []).0, z) ∷ []) f)
 
 pub counts_fault : (k : Known) (a : List ℕ × List ℕ) (e : TypeTextFault) → IsFaultOf k a.1 e → (WantsMemory e → ⊥) → Counts k a k
-counts_fault k a (fault.BadType n) b m = inr ((λ s i u. bad_is_none a.1 n b s i), refl)
-counts_fault k a (fault.UnknownAlias x) (s, i, u) m = inr ((λ t j v. absurd (let d : Some x ≡ None = sym u ∙ same_unknown k a.1 s t i j ∙ v in cc)), refl)
+counts_fault k a (fault.BadType n) (b, w) m = inr ((λ s i u. bad_is_none a.1 n b s i), refl)
+counts_fault k a (fault.UnknownAlias x) (inr (n, b, w)) m = inr ((λ s i u. bad_is_none a.1 n b s i), refl)
+counts_fault k a (fault.UnknownAlias x) (inl (s, i, u)) m = inr ((λ t j v. absurd (let d : Some x ≡ None = sym u ∙ same_unknown k a.1 s t i j ∙ v in cc)), refl)
 counts_fault k a (fault.Memory e) b m = absurd (m tt)
 
 pub knows_next : (as_ : List (List ℕ × List ℕ)) (i : ℕ) (d : List ℕ × List ℕ) (k j : Known) → i < length as_ → Knows [] (take i as_) k → Counts k (get_or as_ i d) j → Knows [] (take (i + 1) as_) j
@@ -147,17 +148,18 @@ one_reading aliases text a b g h =
     g.says ∙ ap (λ z. (read z g.syntax_of []).0) e ∙ same_term h.known text g.syntax_of h.syntax_of g.is_text h.is_text ∙ sym h.says
 
 pub no_fault : (aliases : List (List ℕ × List ℕ)) (text : List ℕ) (t : Term) → IsReadAs aliases text t → (k : Known) → Knows [] aliases k → (x : List ℕ) → IsFaultOf k text (fault.UnknownAlias x) → ⊥
-no_fault aliases text t h k g x (s, i, u) =
+no_fault aliases text t h k g x (inr (n, b, w)) = bad_is_none text n b h.syntax_of h.is_text
+no_fault aliases text t h k g x (inl (s, i, u)) =
     let e = same_known aliases [] k h.known g h.knows in
     let d : Some x ≡ None = sym u ∙ ap (λ z. unknown z s) e ∙ same_unknown h.known text s h.syntax_of i h.is_text ∙ h.all_known in cc
 
 pub is_fault : (aliases : List (List ℕ × List ℕ)) (text : List ℕ) (k : Known) (e : TypeTextFault) → Knows [] aliases k → IsFaultOf k text e → IsTextFault aliases text e
-is_fault aliases text k (fault.BadType n) h f = f
-is_fault aliases text k (fault.UnknownAlias x) h (s, i, u) = (k, s, h, i, u)
+is_fault aliases text k (fault.BadType n) h f = (k, h, f)
+is_fault aliases text k (fault.UnknownAlias x) h f = (k, h, f)
 is_fault aliases text k (fault.Memory a) h f = tt
 
 -- a fault where the text says a type is want of memory
 pub only_memory : (aliases : List (List ℕ × List ℕ)) (text : List ℕ) (k : Known) (e : TypeTextFault) (t : Term) → Knows [] aliases k → IsFaultOf k text e → IsReadAs aliases text t → WantsMemory e
-only_memory aliases text k (fault.BadType n) t h f r = absurd (bad_is_none text n f r.syntax_of r.is_text)
+only_memory aliases text k (fault.BadType n) t h (b, w) r = absurd (bad_is_none text n b r.syntax_of r.is_text)
 only_memory aliases text k (fault.UnknownAlias x) t h f r = absurd (no_fault aliases text t r k h x f)
 only_memory aliases text k (fault.Memory a) t h f r = tt

@@ -1,13 +1,14 @@
 -- What the text of a type says: its aliases replaced, its variables numbered in the order in which they occur first.
 -- Source: the Apalache manual, "Type System 1.2" and "Type aliases".
-use Rattle.std.specs.Prelude.{ℕ, zero, suc, ◌+◌, ◌≡◌, ◌⊎◌, Bool, false, List, [], ◌∷◌, ◌++◌, length, MatchResult, Option, Some, None, option_map, Result, bytes_eq, if◌then◌else◌}
+use Rattle.std.specs.Prelude.{ℕ, zero, suc, ◌+◌, ◌≡◌, ◌==◌, ◌&&◌, ◌⊎◌, Bool, false, not, List, [], ◌∷◌, ◌++◌, length, take, MatchResult, Option, Some, None, is_some, option_map, Result, bytes_eq, if◌then◌else◌}
+use Rattle.snowcat_rows.specs.LiteralTypes.{in_word}
 use Rattle.snowcat_rows.specs.declared.marks.Seen.{Seen}
 use Rattle.snowcat_rows.specs.declared.marks.Seen.TheVariants as seen
 use Rattle.snowcat_rows.specs.declared.faults.TypeTextFault.{TypeTextFault}
 use Rattle.snowcat_rows.specs.declared.faults.TypeTextFault.TheVariants as fault
 use Rattle.snowcat_rows.specs.declared.types.Ty.{Ty}
 use Rattle.snowcat_rows.specs.Types.{mean, Term, Slot, var, con, app, fields, none, some, row, lookup, BoolHead, IntHead, StrHead, NamedHead, SetHead, SeqHead, FunHead, TupHead, OperHead}
-use Rattle.snowcat_rows.specs.TypeTexts.{Syntax, Syntaxes, Fields, bool, int, str, named, variable, alias, set, seq, function, tuple, record_of, constant, operator, parens, end, more, last, also, names_of, IsBadAt, IsTypeText}
+use Rattle.snowcat_rows.specs.TypeTexts.{Syntax, Syntaxes, Fields, bool, int, str, named, variable, alias, set, seq, function, tuple, record_of, constant, operator, parens, end, more, last, also, names_of, is_name, IsBadAt, IsTypeText}
 
 -- ---- numbers of variables
 
@@ -154,13 +155,39 @@ pub record IsReadAs (aliases : List (List ℕ × List ℕ)) (text : List ℕ) (t
   pub all_known : unknown known syntax_of ≡ None
   pub says : t ≡ (read known syntax_of []).0
 
+-- ---- unknown aliases of a text that is no type's
+
+-- the letters, digits and _ that the bytes begin with
+abbrev pub first_word : List ℕ → List ℕ
+first_word [] = []
+first_word (b ∷ bs) = if in_word b then b ∷ first_word bs else []
+
+abbrev pub is_unknown : Known → List ℕ → Bool
+is_unknown k x = is_name x && not (is_some (find k x))
+
+-- the bytes begin with `$` and the name of an alias that is unknown
+abbrev pub begins_unknown : Known → List ℕ → Bool
+begins_unknown k [] = false
+begins_unknown k (b ∷ bs) = b == 36 && is_unknown k (first_word bs)
+
+-- the first alias in the bytes that is unknown
+abbrev pub unknown_within : Known → List ℕ → Option (List ℕ)
+unknown_within k [] = None
+unknown_within k (b ∷ bs) = if begins_unknown k (b ∷ bs) then Some (first_word bs) else unknown_within k bs
+
 -- ---- the answers
 
--- why the text is not read: it is no type's, and this is where; or an alias is unknown, and it is the first
+-- why a text is not read: the first unknown alias, of the type or before the bad byte; or the place of this byte
+abbrev pub IsFaultOf : Known → List ℕ → TypeTextFault → Type 0
+IsFaultOf k text (fault.BadType n) = IsBadAt text n × (unknown_within k (take n text) ≡ None)
+IsFaultOf k text (fault.UnknownAlias x) =
+    ((s : Syntax) × IsTypeText text s × (unknown k s ≡ Some x))
+    ⊎ ((n : ℕ) × IsBadAt text n × (unknown_within k (take n text) ≡ Some x))
+IsFaultOf k text (fault.Memory e) = Unit {0}
+
 abbrev pub IsTextFault : List (List ℕ × List ℕ) → List ℕ → TypeTextFault → Type 0
-IsTextFault aliases text (fault.BadType n) = IsBadAt text n
-IsTextFault aliases text (fault.UnknownAlias x) = (k : Known) × (s : Syntax) × Knows [] aliases k × IsTypeText text s × (unknown k s ≡ Some x)
 IsTextFault aliases text (fault.Memory e) = Unit {0}
+IsTextFault aliases text f = (k : Known) × Knows [] aliases k × IsFaultOf k text f
 
 abbrev pub WantsMemory : TypeTextFault → Type 0
 WantsMemory (fault.Memory e) = Unit {0}

@@ -309,7 +309,7 @@ impl Builder {
             (λ _. IsBuilt (known_of known.now) (alias_mark name.now) (site_of self.old) (site_of self.new))
             (Tells (unknown_mark (known_of known.now) (alias_mark name.now))) }
     {
-        match find(known, name) {
+        match find(known, name.bytes()) {
             None => {
                 let name = copy_text(alloc, name)?;
                 Err(TypeTextFault::UnknownAlias(name))
@@ -442,11 +442,11 @@ impl Builder {
     }
 }
 
-fn find<'a>(known: &'a [Alias], name: &Text) -> Option<&'a Alias>
+pub(crate) fn find<'a>(known: &'a [Alias], name: &[u8]) -> Option<&'a Alias>
     ensures { found_of (option_copied result) ≡ find (known_of known.now) name.now }
 {
     for alias in known {
-        if alias.name.bytes() == name.bytes() {
+        if alias.name.bytes() == name {
             return Some(alias);
         }
     }

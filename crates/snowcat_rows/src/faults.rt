@@ -8,9 +8,9 @@ use tla_values::Text;
 #[derive(Drop)]
 pub enum TypeTextFault {
     /// The text before this offset begins the text of some type, and with the next byte it begins none; or it is the
-    /// length of the text, which begins the text of a type and is none.
+    /// length of the text, which begins the text of a type and is none. No alias before the offset is unknown.
     BadType(usize),
-    /// No alias of this name counts.
+    /// No alias of this name counts: the first such, in a type's text or before its first bad byte.
     UnknownAlias(Text),
     Memory(AllocError),
 }

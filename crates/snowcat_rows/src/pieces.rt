@@ -26,7 +26,7 @@ fn is_digit(byte: u8) -> bool
     b'0' <= byte && byte <= b'9'
 }
 
-fn in_word(byte: u8) -> bool
+pub(crate) fn in_word(byte: u8) -> bool
     ensures { result ≡ in_word byte }
 {
     is_capital(byte) || is_small(byte) || is_digit(byte) || byte == b'_'

@@ -1,15 +1,76 @@
 // The type that a text says.
-ghost use Rattle.std.specs.Prelude.{◌≡◌, [], IfErr, IfOk, MatchResult};
+ghost use Rattle.std.specs.Prelude.{◌≡◌, [], IfErr, IfOk, MatchResult, drop};
 ghost use Rattle.snowcat_rows.specs.Types.{mean};
-ghost use Rattle.snowcat_rows.specs.Readings.{Counts, IsOnly, IsReadAs, IsTextFault, Knows, WantsMemory};
-ghost use Rattle.snowcat_rows.specs.inner.Readers.{IsFaultOf, IsWhole, known_of};
+ghost use Rattle.snowcat_rows.specs.Readings.{Counts, IsFaultOf, IsOnly, IsReadAs, IsTextFault, Knows, WantsMemory, begins_unknown, first_word, is_unknown, unknown_within};
+ghost use Rattle.snowcat_rows.specs.TypeTexts.{IsBadAt};
+ghost use Rattle.snowcat_rows.specs.inner.Readers.{IsWhole, known_of};
 
-use crate::building::{Alias, Whole, build};
+use crate::building::{Alias, Whole, build, find};
 use crate::faults::TypeTextFault;
+use crate::pieces::{in_word, is_name};
 use crate::scanning::scan;
 use crate::types::Ty;
 use std::alloc::{AllocError, Global};
 use tla_values::{List, Text, copy_text};
+
+fn after(bytes: &[u8], n: usize) -> &[u8]
+    ensures { result.now ≡ drop n bytes.now }
+{
+    if n < bytes.len() { &bytes[n..] } else { &[] }
+}
+
+// The letters, digits and `_` that the bytes begin with.
+fn first_word(bytes: &[u8]) -> &[u8]
+    ensures { result.now ≡ first_word bytes.now }
+{
+    for at in 0..bytes.len() {
+        if !in_word(bytes[at]) {
+            return &bytes[..at];
+        }
+    }
+    bytes
+}
+
+fn is_unknown(known: &[Alias], name: &[u8]) -> bool
+    ensures { result ≡ is_unknown (known_of known.now) name.now }
+{
+    is_name(name) && find(known, name).is_none()
+}
+
+// Whether the bytes begin with an alias that is unknown.
+fn begins_unknown(known: &[Alias], bytes: &[u8]) -> bool
+    ensures { result ≡ begins_unknown (known_of known.now) bytes.now }
+{
+    match bytes {
+        [] => false,
+        [first, ..] => *first == b'$' && is_unknown(known, first_word(&bytes[1..])),
+    }
+}
+
+// The first alias in the bytes that is unknown.
+fn unknown_within(alloc: Global, known: &[Alias], bytes: &[u8]) -> Result<Option<Text>, AllocError>
+    ensures { IfOk result (λ x. x ≡ unknown_within (known_of known.now) bytes.now) }
+{
+    for at in 0..bytes.len() {
+        if begins_unknown(known, after(bytes, at)) {
+            let name = Vec::from_slice(alloc, first_word(after(bytes, at + 1)))?;
+            return Ok(Some(Text::from_vec(name)));
+        }
+    }
+    Ok(None)
+}
+
+// Why a text that is bad at this place is not read.
+fn fault_at(alloc: Global, known: &[Alias], text: &[u8], at: usize) -> TypeTextFault
+    requires { IsBadAt text.now at }
+    ensures { IsFaultOf (known_of known.now) text.now result }
+{
+    match unknown_within(alloc, known, &text[..at]) {
+        Ok(Some(name)) => TypeTextFault::UnknownAlias(name),
+        Ok(None) => TypeTextFault::BadType(at),
+        Err(fault) => TypeTextFault::Memory(fault),
+    }
+}
 
 // The type of a text, where these aliases are known.
 fn read_by(alloc: Global, text: &[u8], known: &[Alias]) -> Result<Whole, TypeTextFault>
@@ -18,7 +79,7 @@ fn read_by(alloc: Global, text: &[u8], known: &[Alias]) -> Result<Whole, TypeTex
         (IsFaultOf (known_of known.now) text.now) }
 {
     match scan(alloc, text)? {
-        Err(at) => Err(TypeTextFault::BadType(at)),
+        Err(at) => Err(fault_at(alloc, known, text, at)),
         Ok(marks) => match build(alloc, known, marks.as_slice()) {
             Err(fault) => Err(fault),
             Ok(builder) => {
@@ -94,8 +155,10 @@ fn known_aliases(alloc: Global, aliases: &[(Text, Text)]) -> Result<Vec<Alias>, 
 /// The aliases are names with the texts of their types. One counts where its text is a type's whose aliases stand before
 /// it and count; of several of one name that count the first is taken. An alias's variables are its own wherever it
 /// stands. Type and row variables are numbered together from 0, in the order in which they occur first. A type of more
-/// than 1,000 levels or of more than 1,048,576 parts is want of memory. Source: the Apalache manual, "Type System 1.2"
-/// and "Type aliases".
+/// than 1,000 levels or of more than 1,048,576 parts is want of memory.
+///
+/// The earlier place comes first: an alias that is unknown, also where the text is no type's and the alias stands before
+/// its first bad byte; else this byte. Source: the Apalache manual, "Type System 1.2" and "Type aliases".
 pub fn read_type(
     alloc: Global,
     text: &[u8],

@@ -122,8 +122,13 @@ foo=Int -> Str | Bool -> $foo ;; Bool -> Int -> Str
  | $foo ;; unknown foo
  | <<$x, $y>> ;; unknown x
 foo=Int | <<$foo, $y>> ;; unknown y
- | <<$foo ;; bad 6
- | $foo, ;; bad 4
+ | <<$foo ;; unknown foo
+ | $foo, ;; unknown foo
+ | $foo -> Intt ;; unknown foo
+foo=Int | $foo -> Intt ;; bad 11
+foo=Int | <<$foo, $bar, $x> ;; unknown bar
+ | <Int$foo ;; bad 1
+foo=Int | <<$foo ;; bad 6
  | $ foo ;; bad 1
  | $1 ;; bad 2
  |  ;; bad 0

@@ -20,7 +20,7 @@ use Rattle.snowcat_rows.specs.inner.Building.{Item, one, several, Site, site, bu
 use Rattle.snowcat_rows.specs.declared.faults.TypeTextFault.{TypeTextFault}
 use Rattle.snowcat_rows.specs.declared.faults.TypeTextFault.TheVariants as fault
 use Rattle.snowcat_rows.specs.declared.scanning.Scanner.{Scanner}
-use Rattle.snowcat_rows.specs.TypeTexts.{Syntax, IsBadAt, IsTypeText}
+use Rattle.snowcat_rows.specs.TypeTexts.{Syntax, IsTypeText}
 use Rattle.snowcat_rows.specs.inner.Marks.{marked}
 use Rattle.snowcat_rows.specs.inner.Machine.{State, Rows, Scan, scanned, unwind, can_name, can_end, is_front}
 
@@ -179,8 +179,3 @@ Leaves s t n = ((is : List Item) × (s.items ≡ one t ∷ is)) × (n ≡ length
 -- the text is this type's, with so many variables
 abbrev pub IsWhole : Known → List ℕ → Term → ℕ → Type 0
 IsWhole k text t n = (s : Syntax) × IsTypeText text s × (unknown k s ≡ None) × (t ≡ (read k s []).0) × (n ≡ length (read k s []).1)
-
-abbrev pub IsFaultOf : Known → List ℕ → TypeTextFault → Type 0
-IsFaultOf k text (fault.BadType n) = IsBadAt text n
-IsFaultOf k text (fault.UnknownAlias x) = (s : Syntax) × IsTypeText text s × (unknown k s ≡ Some x)
-IsFaultOf k text (fault.Memory e) = Unit {0}

@@ -1,7 +1,8 @@
 use Rattle.std.proofs.Common.{List, subst}
 use Rattle.std.specs.Prelude.{ℕ}
 use Rattle.snowcat_rows.specs.declared.building.Alias.{Alias}
-use Rattle.snowcat_rows.specs.inner.Readers.{IsFaultOf, known_of}
+use Rattle.snowcat_rows.specs.Readings.{IsFaultOf}
+use Rattle.snowcat_rows.specs.inner.Readers.{known_of}
 use Rattle.snowcat_rows.proofs.ReadingLaws.{counts_fault}
 use Rattle.snowcat_rows.proofs.reading.learn.Goals as goal
 

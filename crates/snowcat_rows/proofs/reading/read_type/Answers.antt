@@ -2,8 +2,8 @@ use Rattle.std.proofs.Common.{List, subst, ap, ◌∙◌}
 use Rattle.std.specs.Prelude.{ℕ, []}
 use Rattle.snowcat_rows.specs.declared.building.Alias.{Alias}
 use Rattle.snowcat_rows.specs.Types.{mean}
-use Rattle.snowcat_rows.specs.Readings.{Knows}
-use Rattle.snowcat_rows.specs.inner.Readers.{IsFaultOf, IsWhole, known_of}
+use Rattle.snowcat_rows.specs.Readings.{IsFaultOf, Knows}
+use Rattle.snowcat_rows.specs.inner.Readers.{IsWhole, known_of}
 use Rattle.snowcat_rows.proofs.ReadingLaws.{reads_as, one_reading, only_memory}
 use Rattle.snowcat_rows.proofs.reading.read_type.Goals as goal
 
