@@ -6,7 +6,7 @@ use Rattle.snowcat_rows.specs.declared.faults.TypeTextFault.{TypeTextFault}
 use Rattle.snowcat_rows.specs.declared.faults.TypeTextFault.TheVariants as fault
 use Rattle.snowcat_rows.specs.Types.{Term, con, BoolHead}
 use Rattle.snowcat_rows.specs.TypeTexts.{Syntax, IsTypeText, IsBadAt}
-use Rattle.snowcat_rows.specs.Readings.{Known, read, unknown, or_first, unknown_within, Counts, Knows, IsReadAs, IsFaultOf, IsTextFault, WantsMemory}
+use Rattle.snowcat_rows.specs.Readings.{Known, read, unknown, or_first, Counts, Knows, IsReadAs, IsFaultOf, IsTextFault, WantsMemory}
 use Rattle.snowcat_rows.specs.inner.Building.{Item, one, several, Site, site, push, built, built_all, unknown_mark, unknown_in}
 use Rattle.snowcat_rows.specs.inner.Machine.{Scan, finished}
 use Rattle.snowcat_rows.specs.inner.Marks.{marked}

@@ -1,5 +1,5 @@
 -- The first unknown alias in bytes, found byte by byte.
-use Rattle.std.proofs.Common.{◌≡◌, ℕ, zero, suc, ◌+◌, ◌<◌, true, false, List, [], ◌∷◌, length, drop, refl, ap, ◌∙◌, sym, Option, Some, arith}
+use Rattle.std.proofs.Common.{◌≡◌, ℕ, zero, suc, ◌+◌, ◌<◌, true, false, List, [], ◌∷◌, length, drop, refl, ap, ◌∙◌, sym, Some, arith}
 use Rattle.snowcat_rows.specs.Readings.{Known, begins_unknown, first_word, unknown_within}
 
 found : (k : Known) (bs : List ℕ) (i : ℕ) → i < length bs → begins_unknown k (drop i bs) ≡ true → unknown_within k (drop i bs) ≡ Some (first_word (drop (suc i) bs))

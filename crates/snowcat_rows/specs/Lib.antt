@@ -1,5 +1,6 @@
 pub mod Chains
 pub mod Codes
+pub mod FieldNames
 pub mod LiteralTypes
 pub mod Readings
 pub mod Renamings

@@ -9,3 +9,4 @@ pub mod Measures
 pub mod Places
 pub mod Readers
 pub mod Rounds
+pub mod Naming

@@ -1,5 +1,9 @@
 // The type that the marks of a text leave.
-ghost use Rattle.std.specs.Prelude.{◌≡◌, ◌+◌, ◌++◌, ◌∷◌, [], IfOk, List as Items, MatchResult, OnOk, map, option_copied, option_map, reverse};
+ghost use Rattle.std.specs.Prelude.{◌≡◌, ◌+◌, ◌++◌, ◌∷◌, [], IfOk, IfSome, List as Items, MatchResult, OnOk, map, option_copied, option_map, reverse, true};
+ghost use Rattle.std.specs.List.{list_all};
+ghost use Rattle.snowcat_rows.specs.FieldNames.{names as names_of, names_differ};
+ghost use Rattle.snowcat_rows.specs.TypeTexts.{are_distinct};
+ghost use Rattle.snowcat_rows.specs.inner.Naming.{aliases_named, all_named, fields_named, mark_named};
 ghost use Rattle.snowcat_rows.specs.declared.types.Ty.{Ty as AnyType};
 ghost use Rattle.snowcat_rows.specs.Types.{SeqHead, SetHead, con, lookup, mean, row};
 ghost use Rattle.snowcat_rows.specs.Codes.{named};
@@ -93,10 +97,11 @@ fn as_number(n: usize) -> Result<u32, AllocError>
 }
 
 // The type with numbers that are greater by so many.
-#[tactic(auto, using(crate::proofs::Means::means))]
+#[tactic(auto, using(crate::proofs::Means::means, crate::proofs::Naming::differs))]
 #[cycle(moved)]
 fn copy_moved(alloc: Global, t: &Ty, by: u32) -> Result<Ty, AllocError>
-    ensures { IfOk result (λ r. mean r ≡ moved by (mean t.now)) }
+    ensures mean { IfOk result (λ r. mean r ≡ moved by (mean t.now)) }
+    ensures named { IfOk result (λ r. names_differ r ≡ names_differ t.now) }
 {
     match t {
         Ty::Bool => Ok(Ty::Bool),
@@ -140,10 +145,11 @@ fn copy_moved(alloc: Global, t: &Ty, by: u32) -> Result<Ty, AllocError>
     }
 }
 
-#[tactic(auto, using(crate::proofs::Means::means))]
+#[tactic(auto, using(crate::proofs::Means::means, crate::proofs::Naming::differs))]
 #[cycle(moved)]
 fn copy_all_moved(alloc: Global, ts: &[Ty], by: u32) -> Result<List<Ty>, AllocError>
-    ensures { IfOk result (λ r. row (map mean r) ≡ moved by (row (map mean ts.now))) }
+    ensures mean { IfOk result (λ r. row (map mean r) ≡ moved by (row (map mean ts.now))) }
+    ensures named { IfOk result (λ r. list_all names_differ r ≡ list_all names_differ ts.now) }
 {
     let mut items = Vec::new(alloc);
     for t in ts {
@@ -153,14 +159,16 @@ fn copy_all_moved(alloc: Global, ts: &[Ty], by: u32) -> Result<List<Ty>, AllocEr
     Ok(List::from_vec(items))
 }
 
-#[tactic(auto, using(crate::proofs::Means::means))]
+#[tactic(auto, using(crate::proofs::Means::means, crate::proofs::Naming::differs))]
 #[cycle(moved)]
 fn copy_fields_moved(
     alloc: Global,
     fs: &[(Text, Ty)],
     by: u32,
 ) -> Result<List<(Text, Ty)>, AllocError>
-    ensures { IfOk result (λ r. named r ≡ moved_fields by fs.now) }
+    ensures mean { IfOk result (λ r. named r ≡ moved_fields by fs.now) }
+    ensures names { IfOk result (λ r. names_of r ≡ names_of fs.now) }
+    ensures named { IfOk result (λ r. fields_named r ≡ fields_named fs.now) }
 {
     let mut items = Vec::new(alloc);
     for f in fs {
@@ -194,7 +202,9 @@ fn row_later(by: u32, tail: Option<u32>) -> Result<Option<u32>, AllocError>
 
 // Each type with its name.
 fn with_names(alloc: Global, names: &[Text], types: Vec<Ty>) -> Result<Vec<(Text, Ty)>, AllocError>
-    ensures { IfOk result (λ r. named r.items ≡ zipped names.now (map mean types.items)) }
+    ensures mean { IfOk result (λ r. named r.items ≡ zipped names.now (map mean types.items)) }
+    ensures named { list_all names_differ types.items ≡ true
+        → IfOk result (λ r. fields_named r.items ≡ true) }
 {
     let mut fields = Vec::new(alloc);
     for t in types {
@@ -210,8 +220,10 @@ fn push_field(
     t: Ty,
     fields: &mut Vec<(Text, Ty)>,
 ) -> Result<(), AllocError>
-    ensures { (ts : Items AnyType) → named fields.old.items ≡ zipped names.now (map mean ts) →
+    ensures mean { (ts : Items AnyType) → named fields.old.items ≡ zipped names.now (map mean ts) →
         OnOk result (named fields.new.items ≡ zipped names.now (map mean (ts ++ t ∷ []))) }
+    ensures named { names_differ t ≡ true → fields_named fields.old.items ≡ true
+        → OnOk result (fields_named fields.new.items ≡ true) }
 {
     let place = fields.len();
     if place < names.len() {
@@ -224,7 +236,8 @@ fn push_field(
 impl Builder {
     // So many parts more.
     fn count(&mut self, parts: usize) -> Result<(), AllocError>
-        ensures { IfOk result (λ _. site_of self.new ≡ site_of self.old) }
+        ensures site { IfOk result (λ _. site_of self.new ≡ site_of self.old) }
+        ensures named { IfOk result (λ _. all_named self.new ≡ all_named self.old) }
     {
         match self.parts.checked_add(parts) {
             Some(sum) => {
@@ -239,8 +252,11 @@ impl Builder {
     }
 
     fn push(&mut self, t: Ty, depth: usize) -> Result<(), AllocError>
-        ensures { IfOk result (λ _. site_of self.new
+        requires before { all_named self.old ≡ true }
+        requires named { names_differ t ≡ true }
+        ensures site { IfOk result (λ _. site_of self.new
             ≡ site (one (mean t) ∷ (site_of self.old).items) (site_of self.old).seen) }
+        ensures named { IfOk result (λ _. all_named self.new ≡ true) }
     {
         self.count(1)?;
         self.items.push(Built::Type(t, depth))?;
@@ -248,8 +264,11 @@ impl Builder {
     }
 
     fn push_all(&mut self, ts: List<Ty>, depth: usize) -> Result<(), AllocError>
-        ensures { IfOk result (λ _. site_of self.new
+        requires before { all_named self.old ≡ true }
+        requires named { list_all names_differ ts ≡ true }
+        ensures site { IfOk result (λ _. site_of self.new
             ≡ site (several (map mean ts) ∷ (site_of self.old).items) (site_of self.old).seen) }
+        ensures named { IfOk result (λ _. all_named self.new ≡ true) }
     {
         self.items.push(Built::Types(ts, depth))?;
         Ok(())
@@ -257,8 +276,11 @@ impl Builder {
 
     // The last, which is one type: the marks of a type do not lack their parts.
     fn pop(&mut self) -> Result<(Ty, usize), AllocError>
-        ensures { IfOk result (λ r. site_of self.old
+        requires before { all_named self.old ≡ true }
+        ensures site { IfOk result (λ r. site_of self.old
             ≡ site (one (mean r.0) ∷ (site_of self.new).items) (site_of self.new).seen) }
+        ensures named { IfOk result (λ r. names_differ r.0 ≡ true) }
+        ensures left { IfOk result (λ _. all_named self.new ≡ true) }
     {
         match self.items.pop() {
             Some(Built::Type(t, depth)) => Ok((t, depth)),
@@ -268,8 +290,11 @@ impl Builder {
 
     // The last, which is a list of types.
     fn pop_all(&mut self) -> Result<(List<Ty>, usize), AllocError>
-        ensures { IfOk result (λ r. site_of self.old
+        requires before { all_named self.old ≡ true }
+        ensures site { IfOk result (λ r. site_of self.old
             ≡ site (several (map mean r.0) ∷ (site_of self.new).items) (site_of self.new).seen) }
+        ensures named { IfOk result (λ r. list_all names_differ r.0 ≡ true) }
+        ensures left { IfOk result (λ _. all_named self.new ≡ true) }
     {
         match self.items.pop() {
             Some(Built::Types(ts, depth)) => Ok((ts, depth)),
@@ -283,6 +308,7 @@ impl Builder {
         ensures number { IfOk result (λ n. n ≡ number v (site_of self.old).seen) }
         ensures site { IfOk result (λ _. site_of self.new
             ≡ site (site_of self.old).items (noted v (site_of self.old).seen)) }
+        ensures named { IfOk result (λ _. all_named self.new ≡ all_named self.old) }
     {
         let place = number(&v, self.seen.as_slice());
         let n = as_number(place)?;
@@ -295,8 +321,9 @@ impl Builder {
     // So many variables of an alias have numbers from now on.
     #[tactic(auto, using(crate::proofs::Moves::own_next))]
     fn own(&mut self, count: u32) -> Result<(), AllocError>
-        ensures { IfOk result (λ _. site_of self.new
+        ensures site { IfOk result (λ _. site_of self.new
             ≡ site (site_of self.old).items ((site_of self.old).seen ++ own count)) }
+        ensures named { IfOk result (λ _. all_named self.new ≡ all_named self.old) }
     {
         for i in 0..count {
             self.seen.push(Seen::Own)?;
@@ -305,9 +332,12 @@ impl Builder {
     }
 
     fn alias(&mut self, alloc: Global, known: &[Alias], name: &Text) -> Result<(), TypeTextFault>
-        ensures { MatchResult result
+        requires before { all_named self.old ≡ true }
+        requires known { aliases_named known.now ≡ true }
+        ensures site { MatchResult result
             (λ _. IsBuilt (known_of known.now) (alias_mark name.now) (site_of self.old) (site_of self.new))
             (Tells (unknown_mark (known_of known.now) (alias_mark name.now))) }
+        ensures named { IfOk result (λ _. all_named self.new ≡ true) }
     {
         match find(known, name.bytes()) {
             None => {
@@ -325,10 +355,12 @@ impl Builder {
         }
     }
 
-    #[tactic(auto, using(crate::proofs::Means::means))]
+    #[tactic(auto, using(crate::proofs::Means::means, crate::proofs::Naming::differs))]
     fn set(&mut self, alloc: Global) -> Result<(), AllocError>
-        ensures { IfOk result (λ _. site_of self.new
+        requires before { all_named self.old ≡ true }
+        ensures site { IfOk result (λ _. site_of self.new
             ≡ site (wrap (con SetHead) (site_of self.old).items) (site_of self.old).seen) }
+        ensures named { IfOk result (λ _. all_named self.new ≡ true) }
     {
         let part = self.pop()?;
         let depth = deeper(part.1)?;
@@ -337,10 +369,12 @@ impl Builder {
         Ok(())
     }
 
-    #[tactic(auto, using(crate::proofs::Means::means))]
+    #[tactic(auto, using(crate::proofs::Means::means, crate::proofs::Naming::differs))]
     fn sequence(&mut self, alloc: Global) -> Result<(), AllocError>
-        ensures { IfOk result (λ _. site_of self.new
+        requires before { all_named self.old ≡ true }
+        ensures site { IfOk result (λ _. site_of self.new
             ≡ site (wrap (con SeqHead) (site_of self.old).items) (site_of self.old).seen) }
+        ensures named { IfOk result (λ _. all_named self.new ≡ true) }
     {
         let part = self.pop()?;
         let depth = deeper(part.1)?;
@@ -349,10 +383,12 @@ impl Builder {
         Ok(())
     }
 
-    #[tactic(auto, using(crate::proofs::Means::means))]
+    #[tactic(auto, using(crate::proofs::Means::means, crate::proofs::Naming::differs))]
     fn function(&mut self, alloc: Global) -> Result<(), AllocError>
-        ensures { IfOk result (λ _. site_of self.new
+        requires before { all_named self.old ≡ true }
+        ensures site { IfOk result (λ _. site_of self.new
             ≡ site (arrow (site_of self.old).items) (site_of self.old).seen) }
+        ensures named { IfOk result (λ _. all_named self.new ≡ true) }
     {
         let value = self.pop()?;
         let argument = self.pop()?;
@@ -364,8 +400,10 @@ impl Builder {
     }
 
     fn gather_one(&mut self, alloc: Global) -> Result<(), AllocError>
-        ensures { IfOk result (λ _. site_of self.new
+        requires before { all_named self.old ≡ true }
+        ensures site { IfOk result (λ _. site_of self.new
             ≡ site (gather_one (site_of self.old).items) (site_of self.old).seen) }
+        ensures named { IfOk result (λ _. all_named self.new ≡ true) }
     {
         let part = self.pop()?;
         let mut items = Vec::new(alloc);
@@ -375,8 +413,10 @@ impl Builder {
     }
 
     fn gather_more(&mut self) -> Result<(), AllocError>
-        ensures { IfOk result (λ _. site_of self.new
+        requires before { all_named self.old ≡ true }
+        ensures site { IfOk result (λ _. site_of self.new
             ≡ site (gather_more (site_of self.old).items) (site_of self.old).seen) }
+        ensures named { IfOk result (λ _. all_named self.new ≡ true) }
     {
         let part = self.pop()?;
         let before = self.pop_all()?;
@@ -386,10 +426,12 @@ impl Builder {
         Ok(())
     }
 
-    #[tactic(auto, using(crate::proofs::Means::means))]
+    #[tactic(auto, using(crate::proofs::Means::means, crate::proofs::Naming::differs))]
     fn tuple(&mut self) -> Result<(), AllocError>
-        ensures { IfOk result (λ _. site_of self.new
+        requires before { all_named self.old ≡ true }
+        ensures site { IfOk result (λ _. site_of self.new
             ≡ site (tuple_all (site_of self.old).items) (site_of self.old).seen) }
+        ensures named { IfOk result (λ _. all_named self.new ≡ true) }
     {
         let parts = self.pop_all()?;
         let depth = deeper(parts.1)?;
@@ -398,7 +440,8 @@ impl Builder {
     }
 
     fn tail(&mut self, alloc: Global, row: &Option<Text>) -> Result<Option<u32>, AllocError>
-        ensures { IfOk result (λ k. IsRow k row.now (site_of self.old) (site_of self.new)) }
+        ensures site { IfOk result (λ k. IsRow k row.now (site_of self.old) (site_of self.new)) }
+        ensures named { IfOk result (λ _. all_named self.new ≡ all_named self.old) }
     {
         match row {
             None => Ok(None),
@@ -410,15 +453,18 @@ impl Builder {
         }
     }
 
-    #[tactic(auto, using(crate::proofs::Means::means))]
+    #[tactic(auto, using(crate::proofs::Means::means, crate::proofs::Naming::differs))]
     fn record(
         &mut self,
         alloc: Global,
         names: &[Text],
         row: &Option<Text>,
     ) -> Result<(), AllocError>
-        ensures { IfOk result (λ _. site_of self.new
+        requires before { all_named self.old ≡ true }
+        requires names { are_distinct names.now ≡ true }
+        ensures site { IfOk result (λ _. site_of self.new
             ≡ recorded names.now (read_row row.now (site_of self.old).seen) (site_of self.old)) }
+        ensures named { IfOk result (λ _. all_named self.new ≡ true) }
     {
         let tail = self.tail(alloc, row)?;
         let parts = self.pop_all()?;
@@ -428,10 +474,12 @@ impl Builder {
         Ok(())
     }
 
-    #[tactic(auto, using(crate::proofs::Means::means))]
+    #[tactic(auto, using(crate::proofs::Means::means, crate::proofs::Naming::differs))]
     fn operator(&mut self, alloc: Global) -> Result<(), AllocError>
-        ensures { IfOk result (λ _. site_of self.new
+        requires before { all_named self.old ≡ true }
+        ensures site { IfOk result (λ _. site_of self.new
             ≡ site (operator_all (site_of self.old).items) (site_of self.old).seen) }
+        ensures named { IfOk result (λ _. all_named self.new ≡ true) }
     {
         let value = self.pop()?;
         let arguments = self.pop_all()?;
@@ -443,7 +491,9 @@ impl Builder {
 }
 
 pub(crate) fn find<'a>(known: &'a [Alias], name: &[u8]) -> Option<&'a Alias>
-    ensures { found_of (option_copied result) ≡ find (known_of known.now) name.now }
+    ensures found { found_of (option_copied result) ≡ find (known_of known.now) name.now }
+    ensures named { aliases_named known.now ≡ true
+        → IfSome result (λ a. names_differ a.now.of ≡ true) }
 {
     for alias in known {
         if alias.name.bytes() == name {
@@ -455,11 +505,15 @@ pub(crate) fn find<'a>(known: &'a [Alias], name: &[u8]) -> Option<&'a Alias>
 
 impl Builder {
     // What one mark makes of it.
-    #[tactic(auto, using(crate::proofs::Means::means))]
+    #[tactic(auto, using(crate::proofs::Means::means, crate::proofs::Naming::differs))]
     fn step(&mut self, alloc: Global, known: &[Alias], mark: &Mark) -> Result<(), TypeTextFault>
-        ensures { MatchResult result
+        requires before { all_named self.old ≡ true }
+        requires known { aliases_named known.now ≡ true }
+        requires mark { mark_named mark.now ≡ true }
+        ensures site { MatchResult result
             (λ _. IsBuilt (known_of known.now) mark.now (site_of self.old) (site_of self.new))
             (Tells (unknown_mark (known_of known.now) mark.now)) }
+        ensures named { IfOk result (λ _. all_named self.new ≡ true) }
     {
         match mark {
             Mark::Bool => {
@@ -527,7 +581,9 @@ impl Builder {
 
     /// The one type that was built.
     pub(crate) fn whole(self) -> Result<Whole, AllocError>
-        ensures { IfOk result (λ w. Leaves (site_of self) (mean w.of) w.count) }
+        requires { all_named self ≡ true }
+        ensures site { IfOk result (λ w. Leaves (site_of self) (mean w.of) w.count) }
+        ensures named { IfOk result (λ w. names_differ w.of ≡ true) }
     {
         let mut builder = self;
         let count = as_number(builder.seen.len())?;
@@ -558,9 +614,12 @@ pub(crate) fn build(
     known: &[Alias],
     marks: &[Mark],
 ) -> Result<Builder, TypeTextFault>
-    ensures { MatchResult result
+    requires known { aliases_named known.now ≡ true }
+    requires marks { list_all mark_named marks.now ≡ true }
+    ensures site { MatchResult result
         (λ b. AreBuilt (known_of known.now) marks.now (site_of b))
         (Tells (unknown_in (known_of known.now) marks.now)) }
+    ensures named { IfOk result (λ b. all_named b ≡ true) }
 {
     let mut builder = Builder {
         items: Vec::new(alloc),

@@ -1,6 +1,8 @@
 // The type that a text says.
-ghost use Rattle.std.specs.Prelude.{◌≡◌, [], IfErr, IfOk, MatchResult, drop};
+ghost use Rattle.std.specs.Prelude.{◌≡◌, [], IfErr, IfOk, MatchResult, drop, true};
 ghost use Rattle.snowcat_rows.specs.Types.{mean};
+ghost use Rattle.snowcat_rows.specs.FieldNames.{names_differ};
+ghost use Rattle.snowcat_rows.specs.inner.Naming.{aliases_named};
 ghost use Rattle.snowcat_rows.specs.Readings.{Counts, IsFaultOf, IsOnly, IsReadAs, IsTextFault, Knows, WantsMemory, begins_unknown, first_word, is_unknown, unknown_within};
 ghost use Rattle.snowcat_rows.specs.TypeTexts.{IsBadAt};
 ghost use Rattle.snowcat_rows.specs.inner.Readers.{IsWhole, known_of};
@@ -74,9 +76,11 @@ fn fault_at(alloc: Global, known: &[Alias], text: &[u8], at: usize) -> TypeTextF
 
 // The type of a text, where these aliases are known.
 fn read_by(alloc: Global, text: &[u8], known: &[Alias]) -> Result<Whole, TypeTextFault>
-    ensures { MatchResult result
+    requires { aliases_named known.now ≡ true }
+    ensures read { MatchResult result
         (λ w. IsWhole (known_of known.now) text.now (mean w.of) w.count)
         (IsFaultOf (known_of known.now) text.now) }
+    ensures named { IfOk result (λ w. names_differ w.of ≡ true) }
 {
     match scan(alloc, text)? {
         Err(at) => Err(fault_at(alloc, known, text, at)),
@@ -123,7 +127,10 @@ fn type_of(whole: Whole) -> Ty
 
 // The alias joins those that are known, where it counts.
 fn learn(alloc: Global, alias: &(Text, Text), known: &mut Vec<Alias>) -> Result<(), AllocError>
-    ensures { IfOk result (λ _. Counts (known_of known.old.items) alias.now (known_of known.new.items)) }
+    requires { aliases_named known.old.items ≡ true }
+    ensures counts { IfOk result
+        (λ _. Counts (known_of known.old.items) alias.now (known_of known.new.items)) }
+    ensures named { IfOk result (λ _. aliases_named known.new.items ≡ true) }
 {
     match read_by(alloc, alias.1.bytes(), known.as_slice()) {
         Ok(whole) => {
@@ -140,7 +147,8 @@ fn learn(alloc: Global, alias: &(Text, Text), known: &mut Vec<Alias>) -> Result<
 
 // The aliases that count.
 fn known_aliases(alloc: Global, aliases: &[(Text, Text)]) -> Result<Vec<Alias>, AllocError>
-    ensures { IfOk result (λ r. Knows [] aliases.now (known_of r.items)) }
+    ensures knows { IfOk result (λ r. Knows [] aliases.now (known_of r.items)) }
+    ensures named { IfOk result (λ r. aliases_named r.items ≡ true) }
 {
     let mut known: Vec<Alias> = Vec::new(alloc);
     for i in 0..aliases.len() {
@@ -165,6 +173,7 @@ pub fn read_type(
     aliases: &List<(Text, Text)>,
 ) -> Result<Ty, TypeTextFault>
     ensures ok { IfOk result (λ t. IsReadAs aliases.now text.now (mean t)) }
+    ensures names { IfOk result (λ t. names_differ t ≡ true) }
     ensures only { IsOnly aliases.now text.now result }
     ensures fault { IfErr result (IsTextFault aliases.now text.now) }
 {

@@ -10,4 +10,4 @@ loop-i-preserved c =
     let k = known_of c.loop-i.known.items in
     let j = known_of c.learn.new.known.items in
     let P : List ℕ × List ℕ → Type 0 = λ z. Counts k z j in
-    knows_next c.args.aliases.now c.loop-i.i c.index-aliases-i.result k j (search rules) c.loop-i.invariant (subst P c.index-aliases-i.is c.in_ok-learn.ensures)
+    (knows_next c.args.aliases.now c.loop-i.i c.index-aliases-i.result k j (search rules) c.loop-i.invariant.0 (subst P c.index-aliases-i.is c.in_ok-learn.ensures.counts), c.in_ok-learn.ensures.named)

@@ -14,10 +14,10 @@ returns-in-Ok-clause-only c = λ t r.
     let P : List Alias → Type 0 = λ z. IsWhole (known_of z) c.args.text.now (mean w.of) w.count in
     ap mean c.type_of.ensures
     ∙ one_reading c.args.aliases.now c.args.text.now (mean w.of) t
-    (reads_as c.args.aliases.now c.args.text.now (known_of c.in_ok-known.known.items) (mean w.of) w.count (subst A c.as_slice.ensures c.in_ok-known.ensures) (subst P c.as_slice-2.ensures.value c.in-Ok.ensures)) r
+    (reads_as c.args.aliases.now c.args.text.now (known_of c.in_ok-known.known.items) (mean w.of) w.count (subst A c.as_slice.ensures c.in_ok-known.ensures.knows) (subst P c.as_slice-2.ensures.value c.in-Ok.ensures.read)) r
 
 pub returns-clause-only : goal.returns-clause-only
 returns-clause-only c = λ t r.
     let A : List (List ℕ × List ℕ) → Type 0 = λ z. Knows [] z (known_of c.in_ok-known.known.items) in
     let P : List Alias → Type 0 = λ z. IsFaultOf (known_of z) c.args.text.now c.in-Err.fault in
-    only_memory c.args.aliases.now c.args.text.now (known_of c.in_ok-known.known.items) c.in-Err.fault t (subst A c.as_slice.ensures c.in_ok-known.ensures) (subst P c.as_slice-2.ensures.value c.in-Err.ensures) r
+    only_memory c.args.aliases.now c.args.text.now (known_of c.in_ok-known.known.items) c.in-Err.fault t (subst A c.as_slice.ensures c.in_ok-known.ensures.knows) (subst P c.as_slice-2.ensures.value c.in-Err.ensures.read) r
