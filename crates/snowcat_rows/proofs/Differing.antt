@@ -2,51 +2,40 @@
 use Rattle.std.proofs.Common.{◌≡◌, ℕ, zero, suc, ◌<◌, ◌≤◌, List, [], ◌∷◌, map, length, drop, get_or, drop-cons, refl, ap, ◌∙◌, sym, subst, Option, Some, None, MatchOption, inl, inr, arith}
 use Rattle.std.proofs.lemmas.List.{drop_all}
 use Rattle.snowcat_rows.specs.declared.types.Ty.{Ty}
-use Rattle.snowcat_rows.specs.Types.{Term, Slot, var, con, app, fields, none, some, row, mean, IsPart, PartSlot}
+use Rattle.snowcat_rows.specs.Types.{Term, Slot, var, con, app, fields, none, some, row, mean, Beside, here, first, second, field}
 use Rattle.snowcat_rows.specs.Substitutions.{Sub, apply, apply_slot, or_else, tail_row}
 use Rattle.snowcat_rows.specs.Chains.{Variable, Occurs}
 use Rattle.snowcat_rows.specs.inner.Rounds.{Unlike, Differ, Common, Is, SameNames}
 use Rattle.snowcat_rows.proofs.Rounding.{same_names}
 
-part_left : (x a c : Term) → IsPart x a → IsPart x (app a c)
-part_left x a c (inl e) = inr (inl (inl e))
-part_left x a c (inr p) = inr (inl (inr p))
-
-part_right : (x a c : Term) → IsPart x c → IsPart x (app a c)
-part_right x a c (inl e) = inr (inr (inl e))
-part_right x a c (inr p) = inr (inr (inr p))
-
 differ_left : (a b c d x y : Term) → Differ a b x y → Differ (app a c) (app b d) x y
 differ_left a b c d x y h = record {
-  within = λ s e. h.within s (first s e);
-  left = part_left x a c h.left;
-  right = part_left y b d h.right;
+  within = λ s e. h.within s (firsts s e);
+  beside = first a b c d h.beside;
   unlike = h.unlike;
 }
   where
-    first : (s : Sub) → apply s (app a c) ≡ apply s (app b d) → apply s a ≡ apply s b
-    first s e = cc
+    firsts : (s : Sub) → apply s (app a c) ≡ apply s (app b d) → apply s a ≡ apply s b
+    firsts s e = cc
 
-differ_right : (a b c d x y : Term) → Differ c d x y → Differ (app a c) (app b d) x y
-differ_right a b c d x y h = record {
-  within = λ s e. h.within s (second s e);
-  left = part_right x a c h.left;
-  right = part_right y b d h.right;
+differ_right : (a c d x y : Term) → Differ c d x y → Differ (app a c) (app a d) x y
+differ_right a c d x y h = record {
+  within = λ s e. h.within s (seconds s e);
+  beside = second a c d h.beside;
   unlike = h.unlike;
 }
   where
-    second : (s : Sub) → apply s (app a c) ≡ apply s (app b d) → apply s c ≡ apply s d
-    second s e = cc
+    seconds : (s : Sub) → apply s (app a c) ≡ apply s (app a d) → apply s c ≡ apply s d
+    seconds s e = cc
 
 pub differ_here : (a b : Term) → Unlike a b → Differ a b a b
-differ_here a b u = record { within = λ s e. e; left = inl refl; right = inl refl; unlike = u }
+differ_here a b u = record { within = λ s e. e; beside = here; unlike = u }
 
 -- what is left of two lists from a place on decides them
 pub record Rest (xs ys us vs : List Term) : Type 0 where
   pub same : row us ≡ row vs → row xs ≡ row ys
   pub within : (s : Sub) → apply s (row xs) ≡ apply s (row ys) → apply s (row us) ≡ apply s (row vs)
-  pub left : (x : Term) → IsPart x (row us) → IsPart x (row xs)
-  pub right : (y : Term) → IsPart y (row vs) → IsPart y (row ys)
+  pub beside : (x y : Term) → Beside x y (row us) (row vs) → Beside x y (row xs) (row ys)
 
 pub moved : (a b c d x y : Term) → a ≡ c → b ≡ d → Differ c d x y → Differ a b x y
 moved a b c d x y e f h =
@@ -57,43 +46,41 @@ moved a b c d x y e f h =
 pub through_right : {A : Type 0} (r : Option A) (f g : A → Term) (a b h u w : Term) → a ≡ app h u → b ≡ app h w →
     MatchOption r (u ≡ w) (λ z. Differ u w (f z) (g z)) → MatchOption r (a ≡ b) (λ z. Differ a b (f z) (g z))
 through_right None f g a b h u w e k m = e ∙ ap (λ t. app h t) m ∙ sym k
-through_right (Some z) f g a b h u w e k m = moved a b (app h u) (app h w) (f z) (g z) e k (differ_right h h u w (f z) (g z) m)
+through_right (Some z) f g a b h u w e k m = moved a b (app h u) (app h w) (f z) (g z) e k (differ_right h u w (f z) (g z) m)
 
 -- the first of two parts
 pub through_first : (a b h u w v z x y : Term) → a ≡ app h (app u v) → b ≡ app h (app w z) → Differ u w x y → Differ a b x y
 through_first a b h u w v z x y e k d =
-    moved a b (app h (app u v)) (app h (app w z)) x y e k (differ_right h h (app u v) (app w z) x y (differ_left u w v z x y d))
+    moved a b (app h (app u v)) (app h (app w z)) x y e k (differ_right h (app u v) (app w z) x y (differ_left u w v z x y d))
 
 -- the second of two parts, where the first are equal
 pub through_second : {A : Type 0} (r : Option A) (f g : A → Term) (a b h u w v z : Term) → a ≡ app h (app u v) → b ≡ app h (app w z) → u ≡ w →
     MatchOption r (v ≡ z) (λ p. Differ v z (f p) (g p)) → MatchOption r (a ≡ b) (λ p. Differ a b (f p) (g p))
 through_second None f g a b h u w v z e k l m = e ∙ ap (λ t. app h (app t v)) l ∙ ap (λ t. app h (app w t)) m ∙ sym k
 through_second (Some p) f g a b h u w v z e k l m =
-    moved a b (app h (app u v)) (app h (app w z)) (f p) (g p) e k
-    (differ_right h h (app u v) (app w z) (f p) (g p) (differ_right u w v z (f p) (g p) m))
+    moved a b (app h (app u v)) (app h (app u z)) (f p) (g p) e (k ∙ ap (λ t. app h (app t z)) (sym l))
+    (differ_right h (app u v) (app u z) (f p) (g p) (differ_right u v z (f p) (g p) m))
 
 pub rest_none : (xs ys : List Term) → Rest xs ys xs ys
-rest_none xs ys = record { same = λ e. e; within = λ s e. e; left = λ x p. p; right = λ y p. p }
+rest_none xs ys = record { same = λ e. e; within = λ s e. e; beside = λ x y p. p }
 
 -- two lists that go on
 rest_cons : (xs ys us vs : List Term) (x y : Term) → x ≡ y → Rest xs ys (x ∷ us) (y ∷ vs) → Rest xs ys us vs
 rest_cons xs ys us vs x y e r = record {
   same = λ h. r.same (ap (λ t. app t (row us)) e ∙ ap (λ t. app y t) h);
-  within = λ s h. second s (r.within s h);
-  left = λ z p. r.left z (part_right z x (row us) p);
-  right = λ z p. r.right z (part_right z y (row vs) p);
+  within = λ s h. seconds s (r.within s h);
+  beside = λ p q z. (let P : Term → Type 0 = λ t. Beside p q (app x (row us)) (app t (row vs)) in r.beside p q (subst P e (second x (row us) (row vs) z)));
 }
   where
-    second : (s : Sub) → app (apply s x) (apply s (row us)) ≡ app (apply s y) (apply s (row vs)) → apply s (row us) ≡ apply s (row vs)
-    second s h = cc
+    seconds : (s : Sub) → app (apply s x) (apply s (row us)) ≡ app (apply s y) (apply s (row vs)) → apply s (row us) ≡ apply s (row vs)
+    seconds s h = cc
 
 found_cons : (xs ys us vs : List Term) (x y p q : Term) → Rest xs ys (x ∷ us) (y ∷ vs) → Differ x y p q → Differ (row xs) (row ys) p q
 found_cons xs ys us vs x y p q r d =
     let k : Differ (app x (row us)) (app y (row vs)) p q = differ_left x y (row us) (row vs) p q d in
     record {
       within = λ s h. k.within s (r.within s h);
-      left = r.left p k.left;
-      right = r.right q k.right;
+      beside = r.beside p q k.beside;
       unlike = k.unlike;
     }
 
@@ -105,8 +92,8 @@ module _ (xs ys : List Ty) (i : ℕ) (x y : Ty) (lx : i < length xs) (ly : i < l
   opened_y : drop i ys ≡ y ∷ drop (suc i) ys
   opened_y = drop-cons ys i y ly ∙ ap (λ t. t ∷ drop (suc i) ys) (sym ey)
 
-  here : Rest (map mean xs) (map mean ys) (mean x ∷ map mean (drop (suc i) xs)) (mean y ∷ map mean (drop (suc i) ys))
-  here =
+  opened : Rest (map mean xs) (map mean ys) (mean x ∷ map mean (drop (suc i) xs)) (mean y ∷ map mean (drop (suc i) ys))
+  opened =
       let P : List Ty → Type 0 = λ l. Rest (map mean xs) (map mean ys) (map mean l) (map mean (drop i ys)) in
       let Q : List Ty → Type 0 = λ l. Rest (map mean xs) (map mean ys) (mean x ∷ map mean (drop (suc i) xs)) (map mean l) in
       subst Q opened_y (subst P opened_x r)
@@ -114,10 +101,10 @@ module _ (xs ys : List Ty) (i : ℕ) (x y : Ty) (lx : i < length xs) (ly : i < l
   pub rest_more : (j : ℕ) → j ≡ suc i → mean x ≡ mean y → Rest (map mean xs) (map mean ys) (map mean (drop j xs)) (map mean (drop j ys))
   rest_more j k e =
       let P : ℕ → Type 0 = λ n. Rest (map mean xs) (map mean ys) (map mean (drop n xs)) (map mean (drop n ys)) in
-      subst P (sym k) (rest_cons _ _ (map mean (drop (suc i) xs)) (map mean (drop (suc i) ys)) (mean x) (mean y) e here)
+      subst P (sym k) (rest_cons _ _ (map mean (drop (suc i) xs)) (map mean (drop (suc i) ys)) (mean x) (mean y) e opened)
 
   pub rest_found : (p q : Term) → Differ (mean x) (mean y) p q → Differ (row (map mean xs)) (row (map mean ys)) p q
-  rest_found p q d = found_cons _ _ (map mean (drop (suc i) xs)) (map mean (drop (suc i) ys)) (mean x) (mean y) p q here d
+  rest_found p q d = found_cons _ _ (map mean (drop (suc i) xs)) (map mean (drop (suc i) ys)) (mean x) (mean y) p q opened d
 
 pub rest_end : (xs ys : List Ty) (i : ℕ) → length xs ≤ i → length ys ≤ i → Rest (map mean xs) (map mean ys) (map mean (drop i xs)) (map mean (drop i ys)) → row (map mean xs) ≡ row (map mean ys)
 rest_end xs ys i l k r = r.same (ap (λ m. row (map mean m)) (drop_all i xs l) ∙ sym (ap (λ m. row (map mean m)) (drop_all i ys k)))
@@ -140,13 +127,9 @@ unfolding at_name
 through_field a b f g k j n t u x y ea eb ef eg d = moved a b (fields f k) (fields g j) x y ea eb (record {
   within = λ s e. d.within s (slot_same (apply s t) (apply s u)
       (ap (λ z. or_else (apply_slot s z) ((tail_row s k).at n)) (sym ef) ∙ ap (λ z. at_name z n) e ∙ ap (λ z. or_else (apply_slot s z) ((tail_row s j).at n)) eg));
-  left = inr (n, in_slot (f n) t x ef d.left);
-  right = inr (n, in_slot (g n) u y eg d.right);
+  beside = field f g k j n t u ef eg d.beside;
   unlike = d.unlike;
 })
-  where
-    in_slot : (z : Slot) (t x : Term) → z ≡ some t → IsPart x t → PartSlot x z
-    in_slot z t x e p = let P : Slot → Type 0 = λ w. PartSlot x w in subst P (sym e) p
 
 not_record : (f : List ℕ → Slot) (k : Option ℕ) (v : ℕ) → fields f k ≡ var v → ⊥
 not_record f k v e = cc

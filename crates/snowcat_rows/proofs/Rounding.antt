@@ -1,7 +1,8 @@
 -- A round's bindings follow from the two types, and what is stuck is never equal.
 use Rattle.std.proofs.Common.{◌≡◌, ℕ, ◌+◌, ◌<◌, Bool, true, false, ◌||◌, ◌⊎◌, inl, inr, List, [], ◌∷◌, ◌++◌, refl, ap, sym, ◌∙◌, subst, arith, append_assoc, Option, Some, None}
 use Rattle.std.proofs.lemmas.Bool.Decides.{eqb_tells}
-use Rattle.snowcat_rows.specs.Types.{Term, Slot, var, con, app, fields, none, some, Part, PartSlot, IsPart}
+use Rattle.snowcat_rows.specs.Types.{Term, Slot, var, con, app, fields, none, some}
+use Rattle.snowcat_rows.specs.inner.Parts.{Part, PartSlot, IsPart}
 use Rattle.snowcat_rows.specs.Substitutions.{Sub, apply, apply_slot, apply_row, or_else, tail_row, then_sub, same_sub, Fits, Fronts, Sorted, SortedSlot, Present}
 use Rattle.snowcat_rows.specs.Sorting.{Within, RowSorted, Follows, BindingSorted}
 use Rattle.snowcat_rows.specs.Chains.{Variable, type_var, row_var, Binding, to_type, to_row, single, solved, Occurs, OccursSlot, OccursIn, key, Keeps}
@@ -114,7 +115,7 @@ right_after f g r q m n =
     rows h = cc
 
 -- what is extra then
-extra_is : (s : Sub) (x y : Slot) → only (or_else (apply_slot s x) (only y x)) (apply_slot s y) ≡ apply_slot s (only x y)
+pub extra_is : (s : Sub) (x y : Slot) → only (or_else (apply_slot s x) (only y x)) (apply_slot s y) ≡ apply_slot s (only x y)
 extra_is s none none = refl
 extra_is s none (some t) = refl
 extra_is s (some u) none = refl
@@ -129,7 +130,7 @@ slot_is : (s : Sub) (x : Slot) → Is (apply_slot s x) → Is x
 slot_is s none i = i
 slot_is s (some t) i = tt
 
-joined_covers : (s : Sub) (x y : Slot) → Is (apply_slot s y) → Is (or_else (apply_slot s x) (only y x))
+pub joined_covers : (s : Sub) (x y : Slot) → Is (apply_slot s y) → Is (or_else (apply_slot s x) (only y x))
 joined_covers s none none i = i
 joined_covers s none (some t) i = tt
 joined_covers s (some u) y i = tt
@@ -288,6 +289,27 @@ module _ (n m : ℕ) (l k : Fronts) (bs cs : List Binding) (a b x y : Term) (h :
           sym (apply_apply s (single c) (solved cs a)) ∙ ap (apply s) (sym (solved_snoc cs c a)) ∙ eq ∙ ap (apply s) (solved_snoc cs c b) ∙ apply_apply s (single c) (solved cs b) in
           let here : apply t (fields f (Some r)) ≡ apply t (fields g (Some q)) = equal_at t x y (fields f (Some r)) (fields g (Some q)) e i (within t base) in
           ap (apply s) (sym (left_after f g r m)) ∙ apply_apply s (single c) (fields f (Some r)) ∙ here ∙ sym (apply_apply s (single c) (fields g (Some q))) ∙ ap (apply s) (right_after f g r q m apart)
+
+-- ---- the names before row variables after a round
+
+abbrev pub fronts_after : Fronts → (m p : ℕ) (x y : Term) (cs ds : List Binding) → Advances x y m cs ds p → Fronts
+fronts_after k m p x y cs ds (left_type v e f) = k
+fronts_after k m p x y cs ds (right_type v e f) = k
+fronts_after k m p x y cs ds (left_row f g r j e i c o) = k
+fronts_after k m p x y cs ds (right_row f g j q e i c o) = k
+fronts_after k m p x y cs ds (both_rows f g r q e i a fr fq) = more_fronts k m r g
+
+module _ (n m : ℕ) (l k : Fronts) (bs cs : List Binding) (a b x y : Term) (h : Reached n m l k bs cs a b) (wa : Within n a) (wb : Within n b)
+    (pl : Plain n m cs) (wx : Within m x) (wy : Within m y) (tx : TypesBelow n x) (ty : TypesBelow n y) (cx : Clear cs x) (cy : Clear cs y)
+    (sx : Sorted k x) (sy : Sorted k y) (within : (s : Sub) → apply s (solved cs a) ≡ apply s (solved cs b) → apply s x ≡ apply s y) where
+  pub next_fronts : (p : ℕ) (ds : List Binding) (v : Advances x y m cs ds p) →
+      (next n m l k bs cs a b x y h wa wb pl wx wy tx ty cx cy sx sy within p ds v).fronts ≡ fronts_after k m p x y cs ds v
+  unfolding next by_one
+  next_fronts p ds (left_type v e f) = refl
+  next_fronts p ds (right_type v e f) = refl
+  next_fronts p ds (left_row f g r j e i c o) = refl
+  next_fronts p ds (right_row f g j q e i c o) = refl
+  next_fronts p ds (both_rows f g r q e i apart fr fq) = refl
 
 -- ---- what is stuck
 

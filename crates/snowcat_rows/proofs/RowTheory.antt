@@ -1,7 +1,8 @@
 -- Laws of substitutions with rows.
 use Rattle.std.proofs.Common.{◌≡◌, ℕ, ◌==◌, if◌then◌else◌, ◌⊎◌, inl, inr, List, [], ◌∷◌, refl, ap, sym, ◌∙◌, subst, Option, Some, None}
 use Rattle.std.proofs.lemmas.Bool.Decides.{eqb_tells}
-use Rattle.snowcat_rows.specs.Types.{Term, Slot, var, con, app, fields, none, some, Part, PartSlot}
+use Rattle.snowcat_rows.specs.Types.{Term, Slot, var, con, app, fields, none, some}
+use Rattle.snowcat_rows.specs.inner.Parts.{Part, PartSlot}
 use Rattle.snowcat_rows.specs.inner.Rounds.{only, Is}
 use Rattle.snowcat_rows.specs.Substitutions.{Row, Sub, apply, apply_slot, apply_row, or_else, tail_row, then_sub, same_sub}
 use Rattle.snowcat_rows.specs.Chains.{Variable, type_var, row_var, Stands, Ends, Binding, to_type, to_row, single, solved, sub_of, Occurs, OccursSlot, OccursRow, OccursIn, key, Keeps, Solves, Absent, Chain}
@@ -58,7 +59,7 @@ pub row_off : (b : Binding) (v : ℕ) → (row_var v ≡ key b → ⊥) → (sin
 row_off (to_type w t) v n = refl
 row_off (to_row w t) v n = elim (eqb_tells v w) [ inl h ↦ absurd (n (ap row_var h.1)) | inr h ↦ rw h.0 refl ]
 
-tail_off : (b : Binding) (k : Option ℕ) → ((v : ℕ) → k ≡ Some v → row_var v ≡ key b → ⊥) → tail_row (single b) k ≡ tail_row same_sub k
+pub tail_off : (b : Binding) (k : Option ℕ) → ((v : ℕ) → k ≡ Some v → row_var v ≡ key b → ⊥) → tail_row (single b) k ≡ tail_row same_sub k
 tail_off b None n = refl
 tail_off b (Some v) n = row_off b v (n v refl)
 

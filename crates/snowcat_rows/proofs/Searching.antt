@@ -1,26 +1,28 @@
 -- The search of unification: its invariant, a round, its ends.
 use Rattle.std.proofs.Common.{◌≡◌, ℕ, ◌<◌, ◌≤◌, List, [], ◌∷◌, ◌++◌, refl, ap, sym, ◌∙◌, subst, arith, append_assoc}
-use Rattle.snowcat_rows.specs.Types.{Term, IsPart}
+use Rattle.snowcat_rows.specs.Types.{Term, Beside}
+use Rattle.snowcat_rows.specs.inner.Parts.{IsPart}
 use Rattle.snowcat_rows.specs.Substitutions.{Sub, apply, Fronts, Fits, Sorted}
 use Rattle.snowcat_rows.specs.Chains.{Variable, type_var, row_var, number, Binding, Chain, solved}
 use Rattle.snowcat_rows.specs.Sorting.{Within, BindingWithin, AllWithin, AllSorted}
 use Rattle.snowcat_rows.specs.inner.Rounds.{Differ, Advances, PutIn, Stuck}
 use Rattle.snowcat_rows.specs.inner.Measures.{open_count, TypesBelow, BindingTypes, AllTypes}
 use Rattle.snowcat_rows.specs.Codes.{Begins}
-use Rattle.snowcat_rows.specs.Unifying.{Same, IsMade, Unmade}
+use Rattle.snowcat_rows.specs.Unifying.{Same, Made, IsMade, Follow, given, and_then, Unmade}
 use Rattle.snowcat_rows.proofs.Lookups.{solved_append}
 use Rattle.snowcat_rows.proofs.Sorts.{Sorted-solved}
 use Rattle.snowcat_rows.proofs.General.{Reached, sorted_agree, unified, apart}
 use Rattle.snowcat_rows.proofs.Solving.{Clear, solved_clear, clear_sub, within_solved, occurs_is_part}
 use Rattle.snowcat_rows.proofs.Counting.{types_solved}
 use Rattle.snowcat_rows.proofs.Advancing.{Plain, Fewer, next_plain}
-use Rattle.snowcat_rows.proofs.Rounding.{sorted_is_part, next, stuck_never}
+use Rattle.snowcat_rows.proofs.Rounding.{sorted_is_part, next, fronts_after, next_fronts, stuck_never}
+use Rattle.snowcat_rows.proofs.Equalled.{beside_left, beside_right, Alone, alone, made_alone}
 
 -- n variables were issued with the bindings bs, and m are now with cs
 pub record Searching (n m : ℕ) (bs cs : List Binding) (a b : Term) : Type 0 where
   pub plain : Plain n m cs
   pub more : n ≤ m
-  pub follows : (l : Fronts) → AllSorted l bs → Sorted l a → Sorted l b → (k : Fronts) × Reached n m l k bs cs a b
+  pub follows : (l : Fronts) → AllSorted l bs → Sorted l a → Sorted l b → (k : Fronts) × (Reached n m l k bs cs a b × Follow n l bs a b m k cs)
 
 binding_types : (n : ℕ) (b : Binding) → BindingWithin n b → BindingTypes n b
 binding_types n b w = (λ v e. (let P : Variable → Type 0 = λ z. number z < n in subst P e w.0), λ v o. w.1 (type_var v) o)
@@ -39,15 +41,18 @@ at_first n bs a b c w = record {
   more = omega arith;
   follows = λ l h sa sb. (
     l,
-    record {
-      chain = c;
-      within = w;
-      sorted = h;
-      more = omega arith;
-      fronts = λ v lt x. refl;
-      added = ([], sym (append_none bs));
-      kept = λ s fs k e. record { to = s; agree = record { types = λ v lt. refl; rows = λ v lt. refl }; fits = fs; solves = k };
-    },
+    (
+      record {
+        chain = c;
+        within = w;
+        sorted = h;
+        more = omega arith;
+        fronts = λ v lt x. refl;
+        added = ([], sym (append_none bs));
+        kept = λ s fs k e. record { to = s; agree = record { types = λ v lt. refl; rows = λ v lt. refl }; fits = fs; solves = k };
+      },
+      given,
+    ),
   );
 }
 
@@ -71,23 +76,41 @@ module _ (n m : ℕ) (bs cs : List Binding) (a b : Term) (h : Searching n m bs c
   part_sorted : (l k : Fronts) (x u : Term) → Reached n m l k bs cs a b → Within n u → Sorted l u → IsPart x (solved cs u) → Sorted k x
   part_sorted l k x u r w s p = sorted_is_part k x (solved cs u) p (Sorted-solved k cs u r.sorted (sorted_then n l k u w r.fronts s))
 
+  -- the bindings of one more round follow too
+  followed : (l k : Fronts) (p : ℕ) (ds : List Binding) (x y : Term) → Follow n l bs a b m k cs → Beside x y (solved cs a) (solved cs b) → (o : Alone x y m p cs ds) →
+      (j : Fronts) → (i : Made m p k [] o.news x y) × (i.fronts ≡ j) → Follow n l bs a b p j ds
+  followed l k p ds x y f e o j (i, q) =
+      let t : Follow n l bs a b p i.fronts (cs ++ o.news) = and_then m p k cs o.news x y f e o.few i in
+      let P : Fronts → Type 0 = λ v. Follow n l bs a b p v (cs ++ o.news) in
+      let Q : List Binding → Type 0 = λ v. Follow n l bs a b p j v in
+      subst Q (sym o.added) (subst P q t)
+
   pub further : (p : ℕ) (ds : List Binding) (x y : Term) → Differ (solved cs a) (solved cs b) x y → Advances x y m cs ds p →
       Searching n p bs ds a b × (open_count n p ds < open_count n m cs)
   further p ds x y d k =
-      let wx = part_within x a wa d.left in
-      let wy = part_within y b wb d.right in
-      let tx = part_types x a wa d.left in
-      let ty = part_types y b wb d.right in
-      let cx = part_clear x a d.left in
-      let cy = part_clear y b d.right in
+      let left = beside_left x y (solved cs a) (solved cs b) d.beside in
+      let right = beside_right x y (solved cs a) (solved cs b) d.beside in
+      let wx = part_within x a wa left in
+      let wy = part_within y b wb right in
+      let tx = part_types x a wa left in
+      let ty = part_types y b wb right in
+      let cx = part_clear x a left in
+      let cy = part_clear y b right in
       let f : Fewer n m p cs ds = next_plain n m p cs ds x y h.plain wx wy tx ty cx cy k in (
         record {
           plain = f.plain;
           more = omega (arith, h.more, f.more);
           follows = λ l q sa sb.
               let r = h.follows l q sa sb in
-              let z = next n m l r.0 bs cs a b x y r.1 wa wb h.plain wx wy tx ty cx cy (part_sorted l r.0 x a r.1 wa sa d.left) (part_sorted l r.0 y b r.1 wb sb d.right) d.within p ds k in
-              (z.fronts, z.reached);
+              let sx = part_sorted l r.0 x a r.1.0 wa sa left in
+              let sy = part_sorted l r.0 y b r.1.0 wb sb right in
+              let z = next n m l r.0 bs cs a b x y r.1.0 wa wb h.plain wx wy tx ty cx cy sx sy d.within p ds k in
+              let i : z.fronts ≡ fronts_after r.0 m p x y cs ds k = next_fronts n m l r.0 bs cs a b x y r.1.0 wa wb h.plain wx wy tx ty cx cy sx sy d.within p ds k in
+              let o = alone x y m p cs ds k in
+              let t : Follow n l bs a b p (fronts_after r.0 m p x y cs ds k) ds =
+              followed l r.0 p ds x y r.1.1 d.beside o (fronts_after r.0 m p x y cs ds k) (made_alone m p r.0 x y cs ds k wx wy sx sy d.unlike.common) in
+              let P : Fronts → Type 0 = λ v. Follow n l bs a b p v ds in
+              (z.fronts, (z.reached, subst P (sym i) t));
         },
         f.fewer,
       )
@@ -97,24 +120,25 @@ module _ (n m : ℕ) (bs cs : List Binding) (a b : Term) (h : Searching n m bs c
       let r = h.follows l q sa sb in
       record {
         fronts = r.0;
-        same = r.1.fronts;
-        sorted = r.1.sorted;
-        unified = unified n m l r.0 bs cs a b r.1 c wa wb e;
+        same = r.1.0.fronts;
+        sorted = r.1.0.sorted;
+        unified = unified n m l r.0 bs cs a b r.1.0 c wa wb e;
       }
 
   pub unmade : Chain bs → (x y : Term) → Differ (solved cs a) (solved cs b) x y → Stuck x y m → (l : Fronts) → AllSorted l bs → Sorted l a → Sorted l b → Unmade n l bs a b x y
   unmade c x y d k l q sa sb =
       let r = h.follows l q sa sb in
+      let left = beside_left x y (solved cs a) (solved cs b) d.beside in
+      let right = beside_right x y (solved cs a) (solved cs b) d.beside in
       let no_one : (s : Sub) → Fits m r.0 s → apply s x ≡ apply s y → ⊥ =
-      stuck_never m r.0 x y (part_sorted l r.0 x a r.1 wa sa d.left) (part_sorted l r.0 y b r.1 wb sb d.right) (part_within x a wa d.left) (part_within y b wb d.right) k in
+      stuck_never m r.0 x y (part_sorted l r.0 x a r.1.0 wa sa left) (part_sorted l r.0 y b r.1.0 wb sb right) (part_within x a wa left) (part_within y b wb right) k in
       record {
-        apart = apart n m l r.0 bs cs a b r.1 c wa wb x y (λ s fs e. d.within s e) no_one;
-        reached = cs;
-        left = d.left;
-        right = d.right;
+        apart = apart n m l r.0 bs cs a b r.1.0 c wa wb x y (λ s fs e. d.within s e) no_one;
         issued = m;
         fronts = r.0;
-        same = r.1.fronts;
+        reached = cs;
+        follow = r.1.1;
+        beside = d.beside;
         never = no_one;
       }
 

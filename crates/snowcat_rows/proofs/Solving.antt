@@ -1,7 +1,8 @@
 -- What stands in a type once bindings are put in place.
 use Rattle.std.proofs.Common.{◌≡◌, ℕ, Bool, if◌then◌else◌, ◌⊎◌, inl, inr, List, [], ◌∷◌, refl, sym, ◌∙◌, subst, Option, Some, None}
 use Rattle.std.proofs.lemmas.Bool.Decides.{eqb_tells}
-use Rattle.snowcat_rows.specs.Types.{Term, Slot, var, con, app, fields, none, some, Part, PartSlot, IsPart}
+use Rattle.snowcat_rows.specs.Types.{Term, Slot, var, con, app, fields, none, some}
+use Rattle.snowcat_rows.specs.inner.Parts.{Part, PartSlot, IsPart}
 use Rattle.snowcat_rows.specs.Substitutions.{apply, apply_slot, or_else, tail_row, same_sub}
 use Rattle.snowcat_rows.specs.Sorting.{Within, BindingWithin, AllWithin}
 use Rattle.snowcat_rows.specs.Chains.{Variable, type_var, row_var, Stands, Ends, Binding, to_type, to_row, single, solved, Occurs, OccursSlot, OccursIn, key, Absent, Chain}

@@ -2,7 +2,8 @@
 use Rattle.std.proofs.Common.{◌≡◌, ℕ, Bool, true, false, inl, inr, List, [], ◌∷◌, ◌++◌, refl, ap, sym, ◌∙◌, subst, Option}
 use Rattle.std.specs.Bool.{MatchBool}
 use Rattle.snowcat_rows.specs.declared.types.Ty.{Ty, Rec}
-use Rattle.snowcat_rows.specs.Types.{Term, Slot, var, con, app, fields, none, some, mean, Part, PartSlot, IsPart}
+use Rattle.snowcat_rows.specs.Types.{Term, Slot, var, con, app, fields, none, some, mean}
+use Rattle.snowcat_rows.specs.inner.Parts.{Part, PartSlot, IsPart}
 use Rattle.snowcat_rows.specs.Substitutions.{Sub, apply, apply_slot, or_else, tail_row}
 use Rattle.snowcat_rows.specs.Chains.{type_var, Binding, to_type, Occurs, OccursSlot}
 use Rattle.snowcat_rows.specs.inner.Rounds.{Advances, left_type, right_type, Stuck, never}

@@ -1,5 +1,5 @@
 -- What a type is: a variable, a mark, two parts, or a record.
-use Rattle.std.specs.Prelude.{ℕ, List, [], ◌∷◌, ◌≡◌, ◌⊎◌, Option, bytes_eq, if◌then◌else◌}
+use Rattle.std.specs.Prelude.{ℕ, List, [], ◌∷◌, ◌≡◌, Option, bytes_eq, if◌then◌else◌}
 use Rattle.snowcat_rows.specs.declared.types.Ty.{Ty}
 use Rattle.snowcat_rows.specs.declared.types.Ty.TheOpen as layer
 use Rattle.snowcat_rows.specs.declared.types.Ty.TheFolds.{fold-Ty}
@@ -56,18 +56,11 @@ mean_layer (layer.Oper ts b) = app (con OperHead) (app (row ts) b.value)
 unfoldable pub mean : Ty → Term
 mean = fold-Ty Term mean_layer
 
--- a part of a type, other than itself
-abbrev mutual
-  pub Part : Term → Term → Type 0
-  Part x (var v) = ⊥
-  Part x (con h) = ⊥
-  Part x (app a b) = ((x ≡ a) ⊎ Part x a) ⊎ ((x ≡ b) ⊎ Part x b)
-  Part x (fields f k) = (n : List ℕ) × PartSlot x (f n)
-
-  pub PartSlot : Term → Slot → Type 0
-  PartSlot x none = ⊥
-  PartSlot x (some t) = (x ≡ t) ⊎ Part x t
-
--- a part of a type, or itself
-abbrev pub IsPart : Term → Term → Type 0
-IsPart x a = (x ≡ a) ⊎ Part x a
+-- x and y stand at one place of two types, where what stands to their left is the same
+pub data Beside (x y : Term) : Term → Term → Type 0 where
+  here : Beside x y x y
+  first : (a b c d : Term) → Beside x y a b → Beside x y (app a c) (app b d)
+  second : (a c d : Term) → Beside x y c d → Beside x y (app a c) (app a d)
+  -- a field that both have
+  field : (f g : List ℕ → Slot) (k j : Option ℕ) (n : List ℕ) (t u : Term) → f n ≡ some t → g n ≡ some u → Beside x y t u
+      → Beside x y (fields f k) (fields g j)

@@ -1,8 +1,8 @@
 -- What the calls of unification say.
-use Rattle.std.specs.Prelude.{ℕ, ◌≡◌, ◌<◌, List}
+use Rattle.std.specs.Prelude.{ℕ, ◌+◌, ◌≡◌, ◌<◌, ◌≤◌, ◌++◌, [], List}
 use Rattle.snowcat_rows.specs.declared.substitution.UnifyFault.{UnifyFault}
 use Rattle.snowcat_rows.specs.declared.substitution.UnifyFault.TheVariants.{Clash, Memory}
-use Rattle.snowcat_rows.specs.Types.{Term, mean, IsPart}
+use Rattle.snowcat_rows.specs.Types.{Term, mean, Beside}
 use Rattle.snowcat_rows.specs.Substitutions.{Sub, apply, Fronts, Fits, Sorted, Unified, Apart}
 use Rattle.snowcat_rows.specs.Chains.{Binding, solved, sub_of}
 use Rattle.snowcat_rows.specs.Sorting.{AllSorted}
@@ -22,16 +22,23 @@ pub record Made (n p : ℕ) (l : Fronts) (bs ds : List Binding) (a b : Term) : T
 abbrev pub IsMade : ℕ → ℕ → List Binding → List Binding → Term → Term → Type 0
 IsMade n p bs ds a b = (l : Fronts) → AllSorted l bs → Sorted l a → Sorted l b → Made n p l bs ds a b
 
--- no extension makes a and b equal; x and y are parts of what they are under some bindings that every such extension
--- would keep, and no substitution makes x and y equal that gives no row variable a name which stands before it
+-- where a and b are equal, the bindings cs follow from bs: two parts that stand at one place are made equal in the most
+-- general way, with at most one new variable, and so on
+pub data Follow (n : ℕ) (l : Fronts) (bs : List Binding) (a b : Term) : ℕ → Fronts → List Binding → Type 0 where
+  given : Follow n l bs a b n l bs
+  and_then : (m p : ℕ) (k : Fronts) (cs ds : List Binding) (x y : Term) → Follow n l bs a b m k cs
+      → Beside x y (solved cs a) (solved cs b) → p ≤ m + 1 → (h : Made m p k [] ds x y)
+      → Follow n l bs a b p h.fronts (cs ++ ds)
+
+-- no extension makes a and b equal; x and y stand at one place of what a and b are under bindings that follow, and no
+-- substitution makes x and y equal that gives no row variable a name which stands before it
 pub record Unmade (n : ℕ) (l : Fronts) (bs : List Binding) (a b x y : Term) : Type 0 where
   pub apart : Apart n l (sub_of bs) a b
-  pub reached : List Binding
-  pub left : IsPart x (solved reached a)
-  pub right : IsPart y (solved reached b)
   pub issued : ℕ
   pub fronts : Fronts
-  pub same : Same n l fronts
+  pub reached : List Binding
+  pub follow : Follow n l bs a b issued fronts reached
+  pub beside : Beside x y (solved reached a) (solved reached b)
   pub never : (s : Sub) → Fits issued fronts s → apply s x ≡ apply s y → ⊥
 
 abbrev pub IsRefused : UnifyFault → ℕ → List Binding → Term → Term → Type 0

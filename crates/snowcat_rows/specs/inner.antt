@@ -6,6 +6,7 @@ pub mod Lookups
 pub mod Machine
 pub mod Marks
 pub mod Measures
+pub mod Parts
 pub mod Places
 pub mod Readers
 pub mod Rounds

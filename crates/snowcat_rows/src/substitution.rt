@@ -19,7 +19,8 @@ use std::alloc::{AllocError, Global};
 /// Why two types are not made equal.
 #[derive(Drop)]
 pub enum UnifyFault {
-    /// Two parts of the types that cannot be made equal, the part of the first type first.
+    /// Two parts that stand at one place of the types and cannot be made equal, that of the first type first. What must
+    /// be equal before it is put in place in both.
     Clash(Ty, Ty),
     Memory(AllocError),
 }

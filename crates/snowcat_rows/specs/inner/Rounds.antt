@@ -2,7 +2,7 @@
 use Rattle.std.specs.Prelude.{ℕ, ◌≡◌, ◌⊎◌, ◌+◌, List, [], ◌∷◌, ◌++◌, Option, Some}
 use Rattle.snowcat_rows.specs.declared.substitution.Round.{Round}
 use Rattle.snowcat_rows.specs.declared.substitution.Round.TheVariants.{Equal, Differs, More}
-use Rattle.snowcat_rows.specs.Types.{Term, Slot, var, fields, none, some, mean, IsPart}
+use Rattle.snowcat_rows.specs.Types.{Term, Slot, var, fields, none, some, mean, Beside}
 use Rattle.snowcat_rows.specs.Substitutions.{Row, Sub, apply, apply_slot}
 use Rattle.snowcat_rows.specs.Chains.{type_var, row_var, Binding, to_type, to_row, single, solved, Occurs, OccursSlot, OccursRow}
 
@@ -43,8 +43,7 @@ pub record Unlike (x y : Term) : Type 0 where
 -- x in a and y in b are to be equal where a and b are, and differ at once
 pub record Differ (a b x y : Term) : Type 0 where
   pub within : (s : Sub) → apply s a ≡ apply s b → apply s x ≡ apply s y
-  pub left : IsPart x a
-  pub right : IsPart y b
+  pub beside : Beside x y a b
   pub unlike : Unlike x y
 
 abbrev pub SameNames : (List ℕ → Slot) → (List ℕ → Slot) → Type 0
