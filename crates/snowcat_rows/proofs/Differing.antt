@@ -1,5 +1,5 @@
 -- How the first difference of parts is that of the whole.
-use Rattle.std.proofs.Common.{◌≡◌, ℕ, zero, suc, ◌<◌, ◌≤◌, List, [], ◌∷◌, map, length, drop, get_or, drop-cons, refl, ap, ◌∙◌, sym, subst, Option, Some, None, MatchOption, inl, inr, arith}
+use Rattle.std.proofs.Common.{◌≡◌, ℕ, zero, suc, ◌<◌, ◌≤◌, List, [], ◌∷◌, map, length, drop, get_or, drop-cons, ap, ◌∙◌, sym, subst, Option, Some, None, MatchOption, inl, inr, arith}
 use Rattle.std.proofs.lemmas.List.{drop_all}
 use Rattle.snowcat_rows.specs.declared.types.Ty.{Ty}
 use Rattle.snowcat_rows.specs.Types.{Term, Slot, var, con, app, fields, none, some, row, mean, Beside, here, first, second, field}

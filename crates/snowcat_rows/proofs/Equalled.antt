@@ -1,17 +1,15 @@
 -- The bindings of a round make its two types equal.
 use Rattle.std.proofs.Common.{◌≡◌, ℕ, ◌+◌, ◌<◌, ◌≤◌, inl, inr, List, [], ◌∷◌, ◌++◌, refl, ap, sym, ◌∙◌, subst, arith, Option, Some, None}
-use Rattle.snowcat_rows.specs.Types.{Term, Slot, var, app, fields, none, some, Beside, here, first, second, field}
-use Rattle.snowcat_rows.specs.inner.Parts.{Part, PartSlot, IsPart}
+use Rattle.snowcat_rows.specs.Types.{Term, Slot, app, fields, none, some, Beside, here, first, second, field}
+use Rattle.snowcat_rows.specs.inner.Parts.{PartSlot, IsPart}
 use Rattle.snowcat_rows.specs.Substitutions.{Row, Sub, apply, apply_slot, or_else, tail_row, same_sub, Fronts, Sorted}
-use Rattle.snowcat_rows.specs.Sorting.{Within, AllSorted}
-use Rattle.snowcat_rows.specs.Chains.{Variable, type_var, row_var, Binding, to_type, to_row, key, single, solved, Occurs, OccursSlot, OccursRow, Ends}
+use Rattle.snowcat_rows.specs.Sorting.{Within}
+use Rattle.snowcat_rows.specs.Chains.{type_var, row_var, Binding, to_type, to_row, key, single, solved, Occurs, OccursSlot, OccursRow}
 use Rattle.snowcat_rows.specs.inner.Rounds.{only, others, extra, extra_after, Is, Common, Covers, Advances, left_type, right_type, left_row, right_row, both_rows}
 use Rattle.snowcat_rows.specs.inner.Measures.{TypesBelow}
 use Rattle.snowcat_rows.specs.Unifying.{Made}
 use Rattle.snowcat_rows.proofs.RowTheory.{single_free, single_at_type, single_at_row, tail_off}
-use Rattle.snowcat_rows.proofs.Sorts.{more_fronts}
 use Rattle.snowcat_rows.proofs.General.{Reached, unified}
-use Rattle.snowcat_rows.proofs.Solving.{Clear}
 use Rattle.snowcat_rows.proofs.Advancing.{Plain}
 use Rattle.snowcat_rows.proofs.Rounding.{joined, changed, left_after, right_after, extra_is, joined_covers, next, fronts_after, next_fronts}
 
