@@ -1,7 +1,11 @@
 -- Examples of values of types, and of the types of text literals.
-use Rattle.std.proofs.Common.{◌≡◌, true, [], ◌∷◌, refl, pos, codes, false, Some, None}
+use Rattle.std.proofs.Common.{◌≡◌, ℕ, true, List, [], ◌∷◌, refl, ap, sym, ◌∙◌, subst, pos, codes, false, Some, None}
 use Rattle.tla_values.specs.declared.value.Value.TheVariants as value
-use Rattle.snowcat_rows.specs.Types.{con, app, BoolHead, IntHead, StrHead, NamedHead, TupHead, EndHead}
+use Rattle.snowcat_rows.specs.Types.{Term, var, con, app, BoolHead, IntHead, StrHead, NamedHead, SetHead, TupHead, EndHead, Beside, here}
+use Rattle.snowcat_rows.specs.Substitutions.{Fronts, apply}
+use Rattle.snowcat_rows.specs.Chains.{Binding, solved, sub_of}
+use Rattle.snowcat_rows.specs.Unifying.{Follow, given, and_then, Unmade}
+use Rattle.snowcat_rows.specs.Readings.{unknown_within}
 use Rattle.snowcat_rows.specs.LiteralTypes.{literal_type}
 use Rattle.snowcat_rows.specs.TypeTexts.{bool, int, str, variable, set, function, record_of, parens, last, also, pieces, is_formed, is_among, Written, IsTypeText}
 use Rattle.snowcat_rows.specs.Values.{HasType, InBounds}
@@ -48,3 +52,37 @@ left_of_arrow = refl
 
 left_in_parentheses : is_formed (function (parens (function int str)) bool) ≡ true
 left_in_parentheses = refl
+
+-- ---- unknown aliases before a bad byte
+
+unknown_one : unknown_within [] (codes "<<$foo") ≡ Some (codes "foo")
+unknown_one = refl
+
+unknown_second : unknown_within ((codes "foo", con IntHead, 0) ∷ []) (codes "<<$foo, $bar1 ") ≡ Some (codes "bar1")
+unknown_second = refl
+
+no_name : unknown_within [] (codes "Set($1") ≡ None
+no_name = refl
+
+-- ---- Int and Set(a) clash as these two alone
+
+abbrev a_set : Term
+a_set = app (con SetHead) (var 0)
+
+one_place : (x y : Term) → Beside x y (con IntHead) a_set → (x ≡ con IntHead) × (y ≡ a_set)
+one_place x y here = (refl, refl)
+
+nothing_follows : (n : ℕ) (l : Fronts) (m : ℕ) (k : Fronts) (cs : List Binding) → Follow n l [] (con IntHead) a_set m k cs → cs ≡ []
+nothing_follows n l _ _ _ given = refl
+nothing_follows n l _ _ _ (and_then m p k cs ds x y f b le h) =
+    let P : List Binding → Type 0 = λ z. Beside x y (solved z (con IntHead)) (solved z a_set) in
+    let e = one_place x y (subst P (nothing_follows n l m k cs f) b) in
+    absurd (unequal (ap (apply (sub_of ds)) (sym e.0) ∙ h.unified.equal ∙ ap (apply (sub_of ds)) e.1))
+  where
+    unequal : con IntHead ≡ app (con SetHead) ((sub_of ds).type_of 0) → ⊥
+    unequal q = cc
+
+these_two : (n : ℕ) (l : Fronts) (x y : Term) → Unmade n l [] (con IntHead) a_set x y → (x ≡ con IntHead) × (y ≡ a_set)
+these_two n l x y u =
+    let P : List Binding → Type 0 = λ z. Beside x y (solved z (con IntHead)) (solved z a_set) in
+    one_place x y (subst P (nothing_follows n l u.issued u.fronts u.reached u.follow) u.beside)
