@@ -24,7 +24,7 @@ use Rattle.snowcat_rows.proofs.Words.{to_yes, both_true}
 abbrev Opened : layer.Ty-F Ty → Bool
 Opened o = differ_layer (map-Ty Ty Bool names_differ o)
 
-differ_out : (t : Ty) → names_differ t ≡ Opened (out-Ty t)
+pub differ_out : (t : Ty) → names_differ t ≡ Opened (out-Ty t)
 unfolding names_differ
 differ_out t = fold_out-Ty Bool differ_layer t
 

@@ -11,7 +11,7 @@ use Rattle.snowcat_rows.specs.declared.types.Ty.{Ty, out-Ty, roll-Ty, out-roll-T
 use Rattle.snowcat_rows.specs.declared.types.Ty.TheOpen as layer
 use Rattle.snowcat_rows.specs.declared.types.Ty.TheFolds.{ind-Ty, map-Ty}
 use Rattle.snowcat_rows.specs.Types.{Term, var, con, app, fields, row, lookup, mean, mean_layer, SetHead, SeqHead, FunHead, TupHead, OperHead}
-use Rattle.snowcat_rows.specs.TypeTexts.{Syntax, Syntaxes, Fields, bool, int, str, named, variable, alias, set, seq, function, tuple, record_of, constant, operator, parens, end, more, last, also, names_of, is_formed, Fronts, KeepsFronts}
+use Rattle.snowcat_rows.specs.TypeTexts.{Syntax, Syntaxes, Fields, bool, int, str, named, variable, alias, set, seq, function, tuple, record_of, constant, operator, parens, end, more, last, also, names_of, IsTypeText}
 use Rattle.snowcat_rows.specs.Texts.{type_text}
 use Rattle.snowcat_rows.specs.Spellings.{Spelt, spelt, spelling, syntax_layer, left_of_arrow, right_of_arrow, others, other_fields, row_name}
 use Rattle.snowcat_rows.specs.Readings.{Known, find, number, noted, same_seen, own, zipped, read, read_all, read_fields, read_alias, read_row, unknown, unknown_all, unknown_fields, or_first, IsReadAs}
@@ -313,15 +313,16 @@ all_claims = ind-Ty Claim (λ x y is.
       plainly = λ s e. plainly_at y s (sym (ap (λ z. z.syntax_of) here) ∙ e);
     })
 
--- the text of a type says the type, each variable with its number in the text
-pub read_back : (t : Ty) (s : Syntax) → spelling t ≡ Some s → IsTrue (is_formed s) → (l : Fronts) → KeepsFronts l s → IsReadAs [] (type_text t) (by_numbers (read [] s []).1 (mean t))
-read_back t s e f l k =
-    let c = all_claims t in
-    record { known = []; syntax_of = s; knows = refl; is_text = spelled t s e f l k; all_known = c.plainly s e []; says = sym (c.terms s e [] [] (read [] s []).1 (same (read [] s []).1)) }
+-- what a spelling of the type says is the type, each variable with its number in the text
+pub read_terms : (t : Ty) (s : Syntax) → spelling t ≡ Some s → (read [] s []).0 ≡ by_numbers (read [] s []).1 (mean t)
+read_terms t s e = (all_claims t).terms s e [] [] (read [] s []).1 (same (read [] s []).1)
+
+pub read_back : (t : Ty) (s : Syntax) → spelling t ≡ Some s → IsTypeText (type_text t) s → IsReadAs [] (type_text t) (by_numbers (read [] s []).1 (mean t))
+read_back t s e h = record { known = []; syntax_of = s; knows = refl; is_text = h; all_known = (all_claims t).plainly s e []; says = sym (read_terms t s e) }
 
 -- ---- different variables have different numbers
 
-same_is : (v w : Seen) → same_seen v w ≡ true → v ≡ w
+pub same_is : (v w : Seen) → same_seen v w ≡ true → v ≡ w
 same_is (seen.Type x) (seen.Type y) h = ap (λ z. seen.Type z) (same_bytes x y h)
 same_is (seen.Row x) (seen.Row y) h = ap (λ z. seen.Row z) (same_bytes x y h)
 same_is (seen.Type x) (seen.Row y) h = absurd (cc)

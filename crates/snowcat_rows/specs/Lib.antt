@@ -4,6 +4,7 @@ pub mod FieldNames
 pub mod LiteralTypes
 pub mod Readings
 pub mod Renamings
+pub mod Said
 pub mod Sorting
 pub mod Spellings
 pub mod Substitutions

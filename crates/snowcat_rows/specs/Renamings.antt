@@ -1,5 +1,5 @@
 -- A type with other numbers for its variables.
-use Rattle.std.specs.Prelude.{ℕ, List, ◌++◌, option_map, codes, decimal}
+use Rattle.std.specs.Prelude.{ℕ, ◌≡◌, List, ◌++◌, option_map, codes, decimal}
 use Rattle.snowcat_rows.specs.declared.marks.Seen.{Seen}
 use Rattle.snowcat_rows.specs.declared.marks.Seen.TheVariants as seen
 use Rattle.snowcat_rows.specs.Types.{Term, Slot, var, con, app, fields, none, some}
@@ -27,3 +27,11 @@ shown_row n = seen.Row (codes "r" ++ decimal n)
 -- each variable has its number among those that were seen
 abbrev pub by_numbers : List Seen → Term → Term
 by_numbers ns t = renamed (λ n. number (shown_type n) ns) (λ n. number (shown_row n) ns) t
+
+-- the type with its variables renamed
+abbrev pub IsRenamed : Term → Term → Type 0
+IsRenamed t u = (types rows : ℕ → ℕ) × (u ≡ renamed types rows t)
+
+-- two types that differ in the numbers of their variables alone: each is the other with its variables renamed
+abbrev pub Variants : Term → Term → Type 0
+Variants t u = IsRenamed t u × IsRenamed u t

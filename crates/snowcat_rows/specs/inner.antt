@@ -11,3 +11,5 @@ pub mod Places
 pub mod Readers
 pub mod Rounds
 pub mod Naming
+pub mod Spellable
+pub mod Fronted

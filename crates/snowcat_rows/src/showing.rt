@@ -1,15 +1,13 @@
 // The text of a type.
-ghost use Rattle.std.specs.Prelude.{List as Items, [], ◌<◌, ◌==◌, ◌≡◌, ◌++◌, OnOk, codes, decimal, if◌then◌else◌, IsTrue, length, map};
+ghost use Rattle.std.specs.Prelude.{List as Items, [], ◌<◌, ◌==◌, ◌≡◌, ◌++◌, OnOk, codes, decimal, if◌then◌else◌, length, map};
 ghost use Rattle.std.specs.List.{join_by};
 ghost use Rattle.snowcat_rows.specs.Texts.{fields_text, form_of, items_text, operand_text, result_text, tail_text, type_text, typed_field};
 ghost use Rattle.snowcat_rows.specs.declared.types.Ty.{Ty as AnyType};
-ghost use Rattle.snowcat_rows.specs.Readings.{IsReadAs, number, read};
+ghost use Rattle.snowcat_rows.specs.Readings.{number};
 ghost use Rattle.snowcat_rows.specs.declared.marks.Seen.{Seen};
-ghost use Rattle.snowcat_rows.specs.Renamings.{by_numbers};
-ghost use Rattle.snowcat_rows.specs.Spellings.{spelling};
+ghost use Rattle.snowcat_rows.specs.Said.{IsReadBack, IsRegular, IsSaid, IsSpelled};
 ghost use Rattle.snowcat_rows.specs.Types.{mean};
 ghost use Rattle.tla_values.specs.Show.{Begins};
-ghost use Rattle.snowcat_rows.specs.TypeTexts.{Fronts, IsTypeText, KeepsFronts, Syntax, is_formed};
 
 use crate::types::Ty;
 use itoa::Buffer;
@@ -68,18 +66,16 @@ fn show_part(t: &Ty, out: &mut Vec<u8>) -> Result<(), AllocError>
     }
 }
 
-/// The text of a type is one of the texts that spell it, where it has one: every tuple and record has a part, names are
-/// in form, and each row variable stands after the same field names wherever it stands.
+/// The text of a type is one of the texts that spell it, where some text says the type, with any aliases and whatever
+/// numbers the variables have: as for each type that [`read_type`](crate::read_type) answers.
 pub fn shown_types_are_spelled()
-    ensures { (t : AnyType) (s : Syntax) → spelling t ≡ Some s → IsTrue (is_formed s)
-        → (l : Fronts) → KeepsFronts l s → IsTypeText (type_text t) s }
+    ensures { (t : AnyType) → IsRegular t → IsSaid (mean t) → IsSpelled t }
 {}
 
-/// What is shown of a type is read back as the type, each variable with its number among those of the text, where the
-/// type has a text as for `shown_types_are_spelled`.
+/// What is shown of such a type is read back as the type, without aliases: variables have other numbers, equal where
+/// they were equal and different where they were different.
 pub fn shown_types_are_read_back()
-    ensures { (t : AnyType) (s : Syntax) → spelling t ≡ Some s → IsTrue (is_formed s)
-        → (l : Fronts) → KeepsFronts l s → IsReadAs [] (type_text t) (by_numbers (read [] s []).1 (mean t)) }
+    ensures { (t : AnyType) → IsRegular t → IsSaid (mean t) → IsReadBack t }
 {}
 
 /// Different variables have different numbers.
