@@ -6,16 +6,19 @@ use Rattle.snowcat_rows.specs.declared.marks.Seen.{Seen}
 use Rattle.snowcat_rows.specs.declared.marks.Seen.TheVariants as seen
 use Rattle.snowcat_rows.specs.declared.types.Ty.{Ty}
 use Rattle.snowcat_rows.specs.Types.{Term, Slot, var, con, app, fields, none, some, mean}
-use Rattle.snowcat_rows.specs.Readings.{number, same_seen, read, IsReadAs}
+use Rattle.snowcat_rows.specs.Readings.{Known, Knows, number, same_seen, read, IsReadAs}
 use Rattle.snowcat_rows.specs.Renamings.{renamed, renamed_slot, shown_type, shown_row, by_numbers}
 use Rattle.snowcat_rows.specs.Said.{IsRegular, IsSaid, IsSpelled, IsReadBack}
+use Rattle.snowcat_rows.specs.Sorting.{Within}
+use Rattle.snowcat_rows.specs.Spellable.{Spellable}
 use Rattle.snowcat_rows.specs.Texts.{type_text}
 use Rattle.snowcat_rows.specs.inner.Below.{Below, BelowSlot}
 use Rattle.snowcat_rows.specs.inner.Fronted.{Front, Fronted, FrontedSlot}
-use Rattle.snowcat_rows.proofs.Belows.{within_below}
+use Rattle.snowcat_rows.specs.inner.Readers.{IsWhole}
+use Rattle.snowcat_rows.proofs.Belows.{below_within, within_below}
 use Rattle.snowcat_rows.proofs.SpellingLaw.{spelled}
 use Rattle.snowcat_rows.proofs.ReadBack.{read_back, read_terms, same_is}
-use Rattle.snowcat_rows.proofs.Sayings.{said_text, said_sorted, said_fronted}
+use Rattle.snowcat_rows.proofs.Sayings.{said_text, said_sorted, said_fronted, known_said}
 use Rattle.snowcat_rows.proofs.Spellable.{has_spelling, number_in, shown_number}
 
 -- ---- from its number to the variable
@@ -69,22 +72,63 @@ mutual
 
 -- ---- the laws
 
-pub spelled_again : (t : Ty) → IsRegular t → IsSaid (mean t) → IsSpelled t
-spelled_again t r s =
+spelled_is : (t : Ty) → IsRegular t → Spellable (mean t) → IsSpelled t
+spelled_is t r p =
+    let h = has_spelling t p.text (within_below (2 ^ 32) (mean t) r.numbers) r.names p.fronts.0 p.fronts.1 in
+    (h.0, h.1, spelled t h.0 h.1 h.2 h.3.0 h.3.1)
+
+pub said_spellable : (t : Term) → IsSaid t → Spellable t
+said_spellable t s =
     let f = s.is_renamed.0 in
     let g = s.is_renamed.1 in
-    let o = said_sorted s.aliases s.text s.read_as (mean t) f g s.is_read s.is_renamed.2 in
-    let h = has_spelling t (said_text s.aliases s.text s.read_as (mean t) f g s.is_read s.is_renamed.2) (within_below (2 ^ 32) (mean t) r.numbers) r.names o.0 o.1 in
-    (h.0, h.1, spelled t h.0 h.1 h.2 h.3.0 h.3.1)
+    record {
+      text = said_text s.aliases s.text s.read_as t f g s.is_read s.is_renamed.2;
+      fronts = said_sorted s.aliases s.text s.read_as t f g s.is_read s.is_renamed.2;
+    }
+
+pub spellable_said : (t : Ty) → IsRegular t → Spellable (mean t) → IsSaid (mean t)
+spellable_said t r p =
+    let h = spelled_is t r p in
+    let ns = (read [] h.0 []).1 in
+    record {
+      aliases = [];
+      text = type_text t;
+      read_as = by_numbers ns (mean t);
+      is_read = read_back t h.0 h.1 h.2;
+      is_renamed = ((λ n. number (shown_type n) ns), (λ n. number (shown_row n) ns), refl);
+    }
+
+pub spelled_again : (t : Ty) → IsRegular t → IsSaid (mean t) → IsSpelled t
+spelled_again t r s = spelled_is t r (said_spellable (mean t) s)
 
 pub read_again : (t : Ty) → IsRegular t → IsSaid (mean t) → IsReadBack t
 read_again t r s =
     let h = spelled_again t r s in
     let ns = (read [] h.0 []).1 in
-    let b = read_back t h.0 h.1 h.2 in
     let p = said_fronted (type_text t) h.0 h.2 in
     let P : Term → Type 0 = λ z. Fronted p.0 z in
     let k : Fronted p.0 (by_numbers ns (mean t)) = subst P (read_terms t h.0 h.1) p.2 in
-    (by_numbers ns (mean t), b,
+    (by_numbers ns (mean t), read_back t h.0 h.1 h.2,
     (((λ n. number (shown_type n) ns), (λ n. number (shown_row n) ns), refl),
     (back ns, back ns, and_back ns p.0 p.1 (mean t) k (within_below (2 ^ 32) (mean t) r.numbers))))
+
+-- ---- the numbers of a type that was read
+
+mutual
+  fronted_below : (ps : List Front) (t : Term) → Fronted ps t → Below (length ps) t
+  fronted_below ps (var v) h = h
+  fronted_below ps (con c) h = tt
+  fronted_below ps (app a b) h = (fronted_below ps a h.0, fronted_below ps b h.1)
+  fronted_below ps (fields f None) h = (λ n. slot_below ps (f n) (h.0 n), tt)
+  fronted_below ps (fields f (Some r)) h = (λ n. slot_below ps (f n) (h.0 n), (h.1 r refl).0)
+
+  slot_below : (ps : List Front) (s : Slot) → FrontedSlot ps s → BelowSlot (length ps) s
+  slot_below ps none h = tt
+  slot_below ps (some t) h = fronted_below ps t h
+
+-- as many variables as the text has, at most
+pub whole_within : (aliases : List (List ℕ × List ℕ)) (text : List ℕ) (k : Known) (t : Term) (n : ℕ) → Knows [] aliases k → IsWhole k text t n → n < 2 ^ 32 → Within (2 ^ 32) t
+whole_within aliases text k t n h w small =
+    let g = known_said aliases k h text w.0 w.1 in
+    let P : Term → Type 0 = λ z. Within (2 ^ 32) z in
+    subst P (sym w.3) (λ v o. let b = below_within (length g.0) (read k w.0 []).0 (fronted_below g.0 (read k w.0 []).0 g.2) v o in omega (arith, b, g.1, w.4, small))

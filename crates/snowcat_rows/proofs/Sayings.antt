@@ -10,7 +10,7 @@ use Rattle.snowcat_rows.specs.Substitutions.{Present, Sorted, SortedSlot, Fronts
 use Rattle.snowcat_rows.specs.TypeTexts.{Syntax, Syntaxes, Fields, bool, int, str, named, variable, alias, set, seq, function, tuple, record_of, constant, operator, parens, end, more, last, also, names_of, is_among, are_distinct, is_formed, are_formed, fields_formed, is_name, is_operand, is_row, Fronts, KeepsFronts, AllKeep, FieldsKeep, RowAfter, IsTypeText}
 use Rattle.snowcat_rows.specs.Readings.{Known, find, number, noted, same_seen, own, moved, moved_slot, zipped, read, read_all, read_fields, read_alias, read_row, unknown, Counts, Knows, IsReadAs}
 use Rattle.snowcat_rows.specs.Renamings.{renamed, renamed_slot}
-use Rattle.snowcat_rows.specs.inner.Spellable.{HasText, HaveTexts, FieldHasText}
+use Rattle.snowcat_rows.specs.Spellable.{HasText, HaveTexts, FieldHasText}
 use Rattle.snowcat_rows.specs.inner.Fronted.{Front, at, Fronted, FrontedSlot, AllFronted, IsFrontOf, AreFronts}
 use Rattle.snowcat_rows.proofs.Words.{split, same_bytes, itself}
 use Rattle.snowcat_rows.proofs.ReadBack.{same_is}
@@ -447,6 +447,11 @@ counts_good k a j (inr c) g = let P : Known → Type 0 = λ z. AllGood z in subs
 knows_good : (rest : List (List ℕ × List ℕ)) (k j : Known) → Knows k rest j → AllGood k → AllGood j
 knows_good [] k j h g = let P : Known → Type 0 = λ z. AllGood z in subst P (sym h) g
 knows_good (a ∷ rest) k j h g = knows_good rest h.0 j h.2 (counts_good k a h.0 h.1 g)
+
+-- by the aliases that are known
+pub known_said : (aliases : List (List ℕ × List ℕ)) (k : Known) → Knows [] aliases k → (text : List ℕ) (s : Syntax) → IsTypeText text s →
+    (ps : List Front) × (length ps ≡ length (read k s []).1) × Fronted ps (read k s []).0
+known_said aliases k h text s e = let g = said_good k (knows_good aliases [] k h tt) text s e in (g.fronts, g.count, g.fronted)
 
 pub said_fronted : (text : List ℕ) (s : Syntax) → IsTypeText text s → (ps : List Front) × (length ps ≡ length (read [] s []).1) × Fronted ps (read [] s []).0
 said_fronted text s h = let g = said_good [] tt text s h in (g.fronts, g.count, g.fronted)

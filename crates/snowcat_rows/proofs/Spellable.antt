@@ -19,7 +19,7 @@ use Rattle.snowcat_rows.specs.TypeTexts.{Syntax, Syntaxes, Fields, bool, int, st
 use Rattle.snowcat_rows.specs.Texts.{form_layer}
 use Rattle.snowcat_rows.specs.Spellings.{Spelt, spelt, spelling, syntax_layer, left_of_arrow, right_of_arrow, both, others, other_fields, row_name, operator_of}
 use Rattle.snowcat_rows.specs.inner.Below.{Below, BelowSlot, EndBelow}
-use Rattle.snowcat_rows.specs.inner.Spellable.{HasText, HaveTexts, FieldHasText}
+use Rattle.snowcat_rows.specs.Spellable.{HasText, HaveTexts, FieldHasText}
 use Rattle.snowcat_rows.proofs.Means.{mean_out}
 use Rattle.snowcat_rows.proofs.Naming.{differ_out}
 use Rattle.snowcat_rows.proofs.Words.{itself, same_bytes, split, join, to_yes, is_yes}

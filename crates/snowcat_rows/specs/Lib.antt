@@ -6,6 +6,7 @@ pub mod Readings
 pub mod Renamings
 pub mod Said
 pub mod Sorting
+pub mod Spellable
 pub mod Spellings
 pub mod Substitutions
 pub mod Types

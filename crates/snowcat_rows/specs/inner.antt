@@ -11,5 +11,4 @@ pub mod Places
 pub mod Readers
 pub mod Rounds
 pub mod Naming
-pub mod Spellable
 pub mod Fronted

@@ -1,8 +1,9 @@
 // The type that a text says.
-ghost use Rattle.std.specs.Prelude.{◌≡◌, [], IfErr, IfOk, MatchResult, drop, true};
+ghost use Rattle.std.specs.Prelude.{◌≡◌, ◌<◌, ◌^◌, [], IfErr, IfOk, MatchResult, drop, true};
 ghost use Rattle.snowcat_rows.specs.Types.{mean};
 ghost use Rattle.snowcat_rows.specs.FieldNames.{names_differ};
 ghost use Rattle.snowcat_rows.specs.inner.Naming.{aliases_named};
+ghost use Rattle.snowcat_rows.specs.Said.{IsRegular};
 ghost use Rattle.snowcat_rows.specs.Readings.{Counts, IsFaultOf, IsOnly, IsReadAs, IsTextFault, Knows, WantsMemory, begins_unknown, first_word, is_unknown, unknown_within};
 ghost use Rattle.snowcat_rows.specs.TypeTexts.{IsBadAt};
 ghost use Rattle.snowcat_rows.specs.inner.Readers.{IsWhole, known_of};
@@ -120,7 +121,8 @@ fn alias_of(name: Text, whole: Whole) -> Alias
 }
 
 fn type_of(whole: Whole) -> Ty
-    ensures { result ≡ whole.of }
+    ensures of { result ≡ whole.of }
+    ensures small { whole.count < 2 ^ 32 }
 {
     whole.of
 }
@@ -173,7 +175,7 @@ pub fn read_type(
     aliases: &List<(Text, Text)>,
 ) -> Result<Ty, TypeTextFault>
     ensures ok { IfOk result (λ t. IsReadAs aliases.now text.now (mean t)) }
-    ensures names { IfOk result (λ t. names_differ t ≡ true) }
+    ensures regular { IfOk result IsRegular }
     ensures only { IsOnly aliases.now text.now result }
     ensures fault { IfErr result (IsTextFault aliases.now text.now) }
 {

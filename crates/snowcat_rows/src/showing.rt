@@ -6,7 +6,8 @@ ghost use Rattle.snowcat_rows.specs.declared.types.Ty.{Ty as AnyType};
 ghost use Rattle.snowcat_rows.specs.Readings.{number};
 ghost use Rattle.snowcat_rows.specs.declared.marks.Seen.{Seen};
 ghost use Rattle.snowcat_rows.specs.Said.{IsReadBack, IsRegular, IsSaid, IsSpelled};
-ghost use Rattle.snowcat_rows.specs.Types.{mean};
+ghost use Rattle.snowcat_rows.specs.Spellable.{Spellable};
+ghost use Rattle.snowcat_rows.specs.Types.{Term as AnyTerm, mean};
 ghost use Rattle.tla_values.specs.Show.{Begins};
 
 use crate::types::Ty;
@@ -76,6 +77,13 @@ pub fn shown_types_are_spelled()
 /// they were equal and different where they were different.
 pub fn shown_types_are_read_back()
     ensures { (t : AnyType) → IsRegular t → IsSaid (mean t) → IsReadBack t }
+{}
+
+/// Some text says a type just where its names are in form, every tuple and record has a part and each row variable
+/// stands after the same field names wherever it stands.
+pub fn said_types_are_spellable()
+    ensures said { (t : AnyTerm) → IsSaid t → Spellable t }
+    ensures spellable { (t : AnyType) → IsRegular t → Spellable (mean t) → IsSaid (mean t) }
 {}
 
 /// Different variables have different numbers.

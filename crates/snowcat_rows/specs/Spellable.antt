@@ -1,9 +1,11 @@
--- Types that can be written: their names are names as the grammar wants, and every tuple and record has a part.
+-- Which types can be written. Source: the Apalache manual, "Type System 1.2".
 use Rattle.std.specs.Prelude.{ℕ, ◌≡◌, IsTrue, List}
 use Rattle.snowcat_rows.specs.LiteralTypes.{is_type_name}
 use Rattle.snowcat_rows.specs.Types.{Term, Slot, var, con, app, fields, none, some, BoolHead, IntHead, StrHead, NamedHead, SetHead, SeqHead, FunHead, TupHead, OperHead, EndHead}
+use Rattle.snowcat_rows.specs.Substitutions.{Fronts, Sorted}
 use Rattle.snowcat_rows.specs.TypeTexts.{is_name}
 
+-- the names of uninterpreted types and of fields are such names, and every tuple and every record has a part
 abbrev mutual
   pub HasText : Term → Type 0
   HasText (var v) = Unit {0}
@@ -27,3 +29,8 @@ abbrev mutual
   pub FieldHasText : List ℕ → Slot → Type 0
   FieldHasText n none = Unit {0}
   FieldHasText n (some t) = IsTrue (is_name n) × HasText t
+
+-- and each row variable stands after one list of names
+pub record Spellable (t : Term) : Type 0 where
+  pub text : HasText t
+  pub fronts : (l : Fronts) × Sorted l t
