@@ -1,5 +1,5 @@
 -- What is shown of a type is read back.
-use Rattle.std.proofs.Common.{◌≡◌, ◌<◌, length, arith, ℕ, suc, true, inl, inr, List, [], ◌∷◌, ◌++◌, map, refl, ap, sym, ◌∙◌, subst, codes, Option, Some, None, append_assoc, IsTrue}
+use Rattle.std.proofs.Common.{◌≡◌, ◌<◌, length, arith, ℕ, suc, true, inl, inr, List, [], ◌∷◌, ◌++◌, map, refl, ap, sym, ◌∙◌, subst, codes, Option, Some, None, append_assoc}
 use Rattle.std.specs.Prelude.{decimal, option_map, bytes_eq}
 use Rattle.std.proofs.lemmas.Bool.{cases_Bool}
 use Rattle.std.proofs.lemmas.List.{append-nil}
@@ -18,7 +18,7 @@ use Rattle.snowcat_rows.specs.Readings.{Known, find, number, noted, same_seen, o
 use Rattle.snowcat_rows.specs.Renamings.{renamed_slot, shown_type, shown_row, by_numbers}
 use Rattle.snowcat_rows.proofs.Means.{mean_out}
 use Rattle.snowcat_rows.proofs.Words.{itself, same_bytes}
-use Rattle.snowcat_rows.proofs.SpellingLaw.{spelt_opened, spelt_out, got, got_one, got_operator, some_is, spelled}
+use Rattle.snowcat_rows.proofs.SpellingLaw.{spelt_opened, spelt_out, got, got_one, got_operator, some_is}
 
 -- ---- numbers stay
 

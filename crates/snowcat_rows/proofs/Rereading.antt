@@ -1,12 +1,11 @@
 -- What is shown of a type that some text says is read back, but for the numbers of its variables.
-use Rattle.std.proofs.Common.{◌≡◌, ◌<◌, ◌^◌, length, arith, ℕ, zero, suc, true, false, inl, inr, List, [], ◌∷◌, ◌++◌, refl, ap, sym, ◌∙◌, subst, codes, Option, Some, None, IsTrue}
-use Rattle.std.specs.Prelude.{decimal, option_map}
+use Rattle.std.proofs.Common.{◌≡◌, ◌<◌, ◌^◌, length, arith, ℕ, zero, suc, inl, inr, List, [], ◌∷◌, refl, ap, sym, ◌∙◌, subst, Some, None}
 use Rattle.std.proofs.lemmas.Bool.{cases_Bool}
 use Rattle.snowcat_rows.specs.declared.marks.Seen.{Seen}
 use Rattle.snowcat_rows.specs.declared.marks.Seen.TheVariants as seen
 use Rattle.snowcat_rows.specs.declared.types.Ty.{Ty}
 use Rattle.snowcat_rows.specs.Types.{Term, Slot, var, con, app, fields, none, some, mean}
-use Rattle.snowcat_rows.specs.Readings.{Known, Knows, number, same_seen, read, IsReadAs}
+use Rattle.snowcat_rows.specs.Readings.{Known, Knows, number, same_seen, read}
 use Rattle.snowcat_rows.specs.Renamings.{renamed, renamed_slot, shown_type, shown_row, by_numbers}
 use Rattle.snowcat_rows.specs.Said.{IsRegular, IsSaid, IsSpelled, IsReadBack}
 use Rattle.snowcat_rows.specs.Sorting.{Within}
@@ -107,10 +106,14 @@ read_again t r s =
     let ns = (read [] h.0 []).1 in
     let p = said_fronted (type_text t) h.0 h.2 in
     let P : Term → Type 0 = λ z. Fronted p.0 z in
-    let k : Fronted p.0 (by_numbers ns (mean t)) = subst P (read_terms t h.0 h.1) p.2 in
-    (by_numbers ns (mean t), read_back t h.0 h.1 h.2,
-    (((λ n. number (shown_type n) ns), (λ n. number (shown_row n) ns), refl),
-    (back ns, back ns, and_back ns p.0 p.1 (mean t) k (within_below (2 ^ 32) (mean t) r.numbers))))
+    let k : Fronted p.0 (by_numbers ns (mean t)) = subst P (read_terms t h.0 h.1) p.2 in (
+      by_numbers ns (mean t),
+      read_back t h.0 h.1 h.2,
+      (
+        ((λ n. number (shown_type n) ns), (λ n. number (shown_row n) ns), refl),
+        (back ns, back ns, and_back ns p.0 p.1 (mean t) k (within_below (2 ^ 32) (mean t) r.numbers)),
+      ),
+    )
 
 -- ---- the numbers of a type that was read
 

@@ -1,5 +1,5 @@
 -- What a text says can be written, and each row variable of it stands after one list of names.
-use Rattle.std.proofs.Common.{◌≡◌, ◌+◌, ◌<◌, ◌≤◌, length, arith, ℕ, zero, suc, Bool, true, false, ◌&&◌, inl, inr, List, [], ◌∷◌, ◌++◌, refl, ap, sym, ◌∙◌, subst, Option, Some, None, append_assoc, IsTrue}
+use Rattle.std.proofs.Common.{◌≡◌, ◌+◌, ◌<◌, length, arith, ℕ, zero, suc, Bool, true, false, ◌&&◌, inl, inr, List, [], ◌∷◌, ◌++◌, refl, ap, sym, ◌∙◌, subst, Option, Some, None, append_assoc, IsTrue}
 use Rattle.std.specs.Prelude.{option_map, bytes_eq, ◌||◌, if◌then◌else◌}
 use Rattle.std.proofs.lemmas.Bool.{cases_Bool}
 use Rattle.std.proofs.lemmas.List.{append-nil, length-append}
@@ -8,7 +8,7 @@ use Rattle.snowcat_rows.specs.declared.marks.Seen.TheVariants as seen
 use Rattle.snowcat_rows.specs.Types.{Term, Slot, var, con, app, fields, none, some, row, lookup, BoolHead, IntHead, StrHead, NamedHead, SetHead, SeqHead, FunHead, TupHead, OperHead, EndHead}
 use Rattle.snowcat_rows.specs.Substitutions.{Present, Sorted, SortedSlot, Fronts as Sides}
 use Rattle.snowcat_rows.specs.TypeTexts.{Syntax, Syntaxes, Fields, bool, int, str, named, variable, alias, set, seq, function, tuple, record_of, constant, operator, parens, end, more, last, also, names_of, is_among, are_distinct, is_formed, are_formed, fields_formed, is_name, is_operand, is_row, Fronts, KeepsFronts, AllKeep, FieldsKeep, RowAfter, IsTypeText}
-use Rattle.snowcat_rows.specs.Readings.{Known, find, number, noted, same_seen, own, moved, moved_slot, zipped, read, read_all, read_fields, read_alias, read_row, unknown, Counts, Knows, IsReadAs}
+use Rattle.snowcat_rows.specs.Readings.{Known, find, number, noted, same_seen, own, moved, moved_slot, zipped, read, read_all, read_fields, read_alias, read_row, Counts, Knows, IsReadAs}
 use Rattle.snowcat_rows.specs.Renamings.{renamed, renamed_slot}
 use Rattle.snowcat_rows.specs.Spellable.{HasText, HaveTexts, FieldHasText}
 use Rattle.snowcat_rows.specs.inner.Fronted.{Front, at, Fronted, FrontedSlot, AllFronted, IsFrontOf, AreFronts}
@@ -42,11 +42,13 @@ mutual
   more_fronts ps qs (var v) h = omega (arith, h, length-append ps qs)
   more_fronts ps qs (con c) h = tt
   more_fronts ps qs (app a b) h = (more_fronts ps qs a h.0, more_fronts ps qs b h.1)
-  more_fronts ps qs (fields f k) h =
-      (λ n. more_slot ps qs (f n) (h.0 n),
-      λ r e. let q = h.1 r e in
-        (omega (arith, q.0, length-append ps qs),
-        λ n. let P : Front → Type 0 = λ z. Present (f n) (z n) in subst P (sym (at_front ps qs r q.0)) (q.1 n)))
+  more_fronts ps qs (fields f k) h = (
+    λ n. more_slot ps qs (f n) (h.0 n),
+    λ r e. let q = h.1 r e in (
+      omega (arith, q.0, length-append ps qs),
+      λ n. let P : Front → Type 0 = λ z. Present (f n) (z n) in subst P (sym (at_front ps qs r q.0)) (q.1 n),
+    ),
+  )
 
   more_slot : (ps qs : List Front) (x : Slot) → FrontedSlot ps x → FrontedSlot (ps ++ qs) x
   more_slot ps qs none h = tt
@@ -73,19 +75,22 @@ mutual
   fronts_moved ps qs (app a b) h = (fronts_moved ps qs a h.0, fronts_moved ps qs b h.1)
   fronts_moved ps qs (fields f None) h = (λ n. slot_moved ps qs (f n) (h.0 n), λ r e. absurd (cc))
   fronts_moved ps qs (fields f (Some q)) h =
-      let k = h.1 q refl in
-      (λ n. slot_moved ps qs (f n) (h.0 n),
-      λ r e.
-        let i : length ps + q ≡ r = some_is (length ps + q) r e in
-        (omega (arith, k.0, length-append ps qs, i),
-        λ n.
-          let P : ℕ → Type 0 = λ z. Present (moved_slot (length ps) (f n)) (at (ps ++ qs) z n) in
-          let Q : Front → Type 0 = λ z. Present (moved_slot (length ps) (f n)) (z n) in
-          subst P i (subst Q (sym (at_behind ps qs q)) (present_moved (length ps) (f n) (at qs q n) (k.1 n)))))
+      let k = h.1 q refl in (
+        λ n. slot_moved ps qs (f n) (h.0 n),
+        λ r e.
+            let i : length ps + q ≡ r = some_is (length ps + q) r e in (
+              omega (arith, k.0, length-append ps qs, i),
+              λ n.
+                  let P : ℕ → Type 0 = λ z. Present (moved_slot (length ps) (f n)) (at (ps ++ qs) z n) in
+                  let Q : Front → Type 0 = λ z. Present (moved_slot (length ps) (f n)) (z n) in
+                  subst P i (subst Q (sym (at_behind ps qs q)) (present_moved (length ps) (f n) (at qs q n) (k.1 n))),
+            ),
+      )
 
   slot_moved : (ps qs : List Front) (x : Slot) → FrontedSlot qs x → FrontedSlot (ps ++ qs) (moved_slot (length ps) x)
   slot_moved ps qs none h = tt
   slot_moved ps qs (some t) h = fronts_moved ps qs t h
+
 rows_fronted : (ps : List Front) (ts : List Term) → AllFronted ps ts → Fronted ps (row ts)
 rows_fronted ps [] h = tt
 rows_fronted ps (t ∷ ts) h = (h.0, rows_fronted ps ts h.1)
@@ -265,9 +270,10 @@ mutual
       let c = split (is_name n && is_formed s) (fields_formed fs) b.0 in
       let d = split (is_name n) (is_formed s) c.0 in
       let r = read k s ns in
-      let q = (read_fields k fs r.1).0 in
-      (zipped_text (n ∷ names_of fs) (r.0 ∷ q) (d.0, names_formed fs c.1) (text_said k g s d.1 ns, fields_said k g fs c.1 r.1),
-      (n, r.0, first_field n (names_of fs) r.0 q))
+      let q = (read_fields k fs r.1).0 in (
+        zipped_text (n ∷ names_of fs) (r.0 ∷ q) (d.0, names_formed fs c.1) (text_said k g s d.1 ns, fields_said k g fs c.1 r.1),
+        (n, r.0, first_field n (names_of fs) r.0 q),
+      )
   text_said k g (constant t) h ns = (tt, text_said k g t h ns)
   text_said k g (operator s ss t) h ns =
       let a = split (is_formed s && are_formed ss) (is_formed t) h in
@@ -332,12 +338,13 @@ row_fronts l f xs (Some x) ns ps h p a b =
       fronts = g.fronts;
       begins = g.begins;
       beside = g.beside;
-      holds =
-        (λ n. slot_grown ps g.fronts (f n) g.begins (h n),
+      holds = (
+        λ n. slot_grown ps g.fronts (f n) g.begins (h n),
         λ r e.
-          let i : number (seen.Row x) ns ≡ r = some_is (number (seen.Row x) ns) r e in
-          let P : ℕ → Type 0 = λ z. (z < length g.fronts) × ((n : List ℕ) → Present (f n) (at g.fronts z n)) in
-          subst P i (g.holds.0, λ n. let Q : Bool → Type 0 = λ z. Present (f n) z in subst Q (sym (g.holds.1 n ∙ a n)) (p n)));
+            let i : number (seen.Row x) ns ≡ r = some_is (number (seen.Row x) ns) r e in
+            let P : ℕ → Type 0 = λ z. (z < length g.fronts) × ((n : List ℕ) → Present (f n) (at g.fronts z n)) in
+            subst P i (g.holds.0, λ n. let Q : Bool → Type 0 = λ z. Present (f n) z in subst Q (sym (g.holds.1 n ∙ a n)) (p n)),
+      );
     }
   where
     slot_grown : (ps qs : List Front) (x : Slot) → Begins ps qs → FrontedSlot ps x → FrontedSlot qs x
@@ -390,7 +397,7 @@ mutual
       let ts = m.0 ∷ f.0 in
       let all : AllFronted q.fronts ts = (grown r.fronts q.fronts m.0 q.begins r.holds, q.holds) in
       let j = row_fronts l (lookup (zipped xs ts)) xs t f.1 q.fronts (slots_fronted q.fronts xs ts all)
-              (λ n. present_at x n m.0 (lookup (zipped (names_of fs) f.0) n) (is_among n (names_of fs)) (fields_present k fs m.1 n)) h.2 q.beside in
+      (λ n. present_at x n m.0 (lookup (zipped (names_of fs) f.0) n) (is_among n (names_of fs)) (fields_present k fs m.1 n)) h.2 q.beside in
       record { fronts = j.fronts; begins = further ps q.fronts j.fronts (further ps r.fronts q.fronts r.begins q.begins) j.begins; beside = j.beside; holds = j.holds }
   fronts_said l k g (constant t) h ns ps b =
       let r = fronts_said l k g t h ns ps b in
@@ -496,11 +503,12 @@ mutual
   sorted_back f g ps (var v) h = tt
   sorted_back f g ps (con c) h = tt
   sorted_back f g ps (app a b) h = (sorted_back f g ps a h.0, sorted_back f g ps b h.1)
-  sorted_back f g ps (fields p k) h =
-      (λ n. slot_back f g ps (p n) (h.0 n),
-      λ r e n.
+  sorted_back f g ps (fields p k) h = (
+    λ n. slot_back f g ps (p n) (h.0 n),
+    λ r e n.
         let i : option_map g k ≡ Some (g r) = ap (λ z. option_map g z) e in
-        present_back f g (p n) (at ps (g r) n) ((h.1 (g r) i).1 n))
+        present_back f g (p n) (at ps (g r) n) ((h.1 (g r) i).1 n),
+  )
 
   slot_back : (f g : ℕ → ℕ) (ps : List Front) (s : Slot) → FrontedSlot ps (renamed_slot f g s) → SortedSlot (λ r. at ps (g r)) s
   slot_back f g ps none h = tt

@@ -1,6 +1,6 @@
 -- A type that can be written has a spelling that is formed and keeps fronts.
 use Rattle.std.proofs.Common.{◌≡◌, ◌<◌, ◌^◌, arith, ℕ, Bool, true, false, ◌&&◌, inl, inr, List, [], ◌∷◌, ◌++◌, map, refl, ap, sym, ◌∙◌, subst, codes, Option, Some, None, IsTrue}
-use Rattle.std.specs.Prelude.{decimal, option_map, bytes_eq, not, ◌||◌, if◌then◌else◌}
+use Rattle.std.specs.Prelude.{decimal, option_map, bytes_eq, not, ◌||◌}
 use Rattle.std.specs.List.{list_all}
 use Rattle.std.specs.Str.Parse.{AllDigits, digits_value}
 use Rattle.std.proofs.lemmas.Bool.{cases_Bool}
@@ -12,17 +12,17 @@ use Rattle.snowcat_rows.specs.declared.types.Ty.{Ty, out-Ty, roll-Ty, out-roll-T
 use Rattle.snowcat_rows.specs.declared.types.Ty.TheOpen as layer
 use Rattle.snowcat_rows.specs.declared.types.Ty.TheFolds.{ind-Ty, map-Ty}
 use Rattle.snowcat_rows.specs.LiteralTypes.{is_digit}
-use Rattle.snowcat_rows.specs.Types.{Term, Slot, var, con, app, fields, none, some, row, lookup, mean, mean_layer}
+use Rattle.snowcat_rows.specs.Types.{Term, Slot, none, some, row, lookup, mean, mean_layer}
 use Rattle.snowcat_rows.specs.Substitutions.{Present, Sorted, SortedSlot, Fronts as Sides}
 use Rattle.snowcat_rows.specs.FieldNames.{names, names_differ, differ_layer}
-use Rattle.snowcat_rows.specs.TypeTexts.{Syntax, Syntaxes, Fields, bool, int, str, named, variable, set, seq, function, tuple, record_of, constant, operator, parens, end, more, last, also, names_of, is_among, are_distinct, is_formed, are_formed, fields_formed, is_name, is_operand, is_row, is_variable, Fronts, KeepsFronts, AllKeep, FieldsKeep, RowAfter, IsTypeText}
+use Rattle.snowcat_rows.specs.TypeTexts.{Syntax, Syntaxes, Fields, bool, int, str, named, variable, set, seq, function, tuple, record_of, constant, operator, end, more, last, also, names_of, is_among, are_distinct, is_formed, are_formed, fields_formed, is_name, is_operand, is_row, Fronts, KeepsFronts, AllKeep, FieldsKeep, RowAfter}
 use Rattle.snowcat_rows.specs.Texts.{form_layer}
 use Rattle.snowcat_rows.specs.Spellings.{Spelt, spelt, spelling, syntax_layer, left_of_arrow, right_of_arrow, both, others, other_fields, row_name, operator_of}
 use Rattle.snowcat_rows.specs.inner.Below.{Below, BelowSlot, EndBelow}
 use Rattle.snowcat_rows.specs.Spellable.{HasText, HaveTexts, FieldHasText}
 use Rattle.snowcat_rows.proofs.Means.{mean_out}
 use Rattle.snowcat_rows.proofs.Naming.{differ_out}
-use Rattle.snowcat_rows.proofs.Words.{itself, same_bytes, split, join, to_yes, is_yes}
+use Rattle.snowcat_rows.proofs.Words.{itself, same_bytes, join, to_yes}
 use Rattle.snowcat_rows.proofs.Sayings.{turned, turned_not}
 use Rattle.snowcat_rows.proofs.SpellingLaw.{spelt_opened, spelt_out, some_is, got, got_one}
 
@@ -381,7 +381,7 @@ spells_at (layer.Rec (f ∷ fs) j) h b d =
       syntax_of = record_of f.0 r.syntax_of r.rest (row_name j);
       is = both_are (λ u us. record_of f.0 u us (row_name j)) (spelling f.1.0) (other_fields (spelt_fields fs)) r.syntax_of r.rest r.is r.are;
       formed = join (n && s && fields_of && are_distinct xs) (is_row (row_name j))
-        (join (n && s && fields_of) (are_distinct xs) (join (n && s) fields_of (join n s r.name r.formed) r.all_formed) (to_yes (are_distinct xs) distinct)) (row_formed j small);
+          (join (n && s && fields_of) (are_distinct xs) (join (n && s) fields_of (join n s r.name r.formed) r.all_formed) (to_yes (are_distinct xs) distinct)) (row_formed j small);
       keeps = λ l k. (let g = r.keeps l k.0 in (g.0, g.1, row_kept l ms xs j called small k.1));
     }
 spells_at (layer.Oper [] c) h b d =
