@@ -5,7 +5,7 @@ use Rattle.snowcat_rows.specs.declared.marks.Seen.{Seen}
 use Rattle.snowcat_rows.specs.declared.marks.Seen.TheVariants as seen
 use Rattle.snowcat_rows.specs.declared.types.Ty.{Ty}
 use Rattle.snowcat_rows.specs.Types.{Term, Slot, var, con, app, fields, none, some, mean}
-use Rattle.snowcat_rows.specs.Readings.{Known, Knows, number, same_seen, read}
+use Rattle.snowcat_rows.specs.Readings.{Known, Knows, number, same_seen, read, IsReadAs}
 use Rattle.snowcat_rows.specs.Renamings.{renamed, renamed_slot, shown_type, shown_row, by_numbers}
 use Rattle.snowcat_rows.specs.Said.{IsRegular, IsSaid, IsSpelled, IsReadBack}
 use Rattle.snowcat_rows.specs.Sorting.{Within}
@@ -69,7 +69,25 @@ mutual
   slot_back ns ps e none h b = refl
   slot_back ns ps e (some t) h b = ap (λ z. some z) (and_back ns ps e t h b)
 
+-- ---- the same numbers
+
+mutual
+  unrenamed : (t : Term) → t ≡ renamed (λ n. n) (λ n. n) t
+  unrenamed (var v) = refl
+  unrenamed (con c) = refl
+  unrenamed (app a b) = λ i. app (unrenamed a i) (unrenamed b i)
+  unrenamed (fields f None) = λ i. fields (λ n. unrenamed_slot (f n) i) None
+  unrenamed (fields f (Some r)) = λ i. fields (λ n. unrenamed_slot (f n) i) (Some r)
+
+  unrenamed_slot : (s : Slot) → s ≡ renamed_slot (λ n. n) (λ n. n) s
+  unrenamed_slot none = refl
+  unrenamed_slot (some t) = ap (λ z. some z) (unrenamed t)
+
 -- ---- the laws
+
+pub read_said : (aliases : List (List ℕ × List ℕ)) (text : List ℕ) (t : Term) → IsReadAs aliases text t → IsSaid t
+read_said aliases text t h =
+    record { aliases = aliases; text = text; read_as = t; is_read = h; is_renamed = ((λ n. n), (λ n. n), unrenamed t) }
 
 spelled_is : (t : Ty) → IsRegular t → Spellable (mean t) → IsSpelled t
 spelled_is t r p =

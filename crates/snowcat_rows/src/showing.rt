@@ -1,9 +1,9 @@
 // The text of a type.
-ghost use Rattle.std.specs.Prelude.{List as Items, [], ◌<◌, ◌==◌, ◌≡◌, ◌++◌, OnOk, codes, decimal, if◌then◌else◌, length, map};
+ghost use Rattle.std.specs.Prelude.{ℕ, List as Items, [], ◌<◌, ◌==◌, ◌≡◌, ◌++◌, OnOk, codes, decimal, if◌then◌else◌, length, map};
 ghost use Rattle.std.specs.List.{join_by};
 ghost use Rattle.snowcat_rows.specs.Texts.{fields_text, form_of, items_text, operand_text, result_text, tail_text, type_text, typed_field};
 ghost use Rattle.snowcat_rows.specs.declared.types.Ty.{Ty as AnyType};
-ghost use Rattle.snowcat_rows.specs.Readings.{number};
+ghost use Rattle.snowcat_rows.specs.Readings.{IsReadAs, number};
 ghost use Rattle.snowcat_rows.specs.declared.marks.Seen.{Seen};
 ghost use Rattle.snowcat_rows.specs.Said.{IsReadBack, IsRegular, IsSaid, IsSpelled};
 ghost use Rattle.snowcat_rows.specs.Spellable.{Spellable};
@@ -80,8 +80,10 @@ pub fn shown_types_are_read_back()
 {}
 
 /// Some text says a type just where its names are in form, every tuple and record has a part and each row variable
-/// stands after the same field names wherever it stands.
+/// stands after the same field names wherever it stands; so of what a text is read as.
 pub fn said_types_are_spellable()
+    ensures read { (aliases : Items (Items ℕ × Items ℕ)) (text : Items ℕ) (t : AnyTerm)
+        → IsReadAs aliases text t → IsSaid t }
     ensures said { (t : AnyTerm) → IsSaid t → Spellable t }
     ensures spellable { (t : AnyType) → IsRegular t → Spellable (mean t) → IsSaid (mean t) }
 {}

@@ -1,7 +1,14 @@
 //! The types that texts say.
 
+ghost use Rattle.std.specs.Prelude.{IfOk};
+ghost use Rattle.snowcat_rows.specs.Types.{Term, mean};
+ghost use Rattle.snowcat_rows.specs.Readings.{IsReadAs};
+ghost use Rattle.snowcat_rows.specs.Renamings.{Variants};
+
 use crate::cases::READINGS;
-use snowcat_rows::{Ty, TypeTextFault, read_type, show_type};
+use snowcat_rows::{
+    Ty, TypeTextFault, read_type, said_types_are_spellable, show_type, shown_types_are_read_back,
+};
 use std::alloc::{AllocError, Global};
 use std::test::Fail;
 use tla_values::{List, Text};
@@ -61,6 +68,24 @@ fn is_read(alloc: Global, line: &str) -> Result<bool, AllocError> {
     Ok(out.as_slice() == want.as_bytes())
 }
 
+// The type of a text, read again from what is shown of it: the same but for the numbers of its variables.
+fn read_again(
+    alloc: Global,
+    text: &[u8],
+    aliases: &List<(Text, Text)>,
+) -> Result<Ty, TypeTextFault>
+    ensures { IfOk result (λ u. (t : Term) × IsReadAs aliases.now text.now t × Variants t (mean u)) }
+{
+    let first = read_type(alloc, text, aliases)?;
+    let mut out = Vec::new(alloc);
+    show_type(alloc, &first, &mut out)?;
+    said_types_are_spellable();
+    shown_types_are_read_back();
+    let none = List::from_vec(Vec::new(alloc));
+    let again = read_type(alloc, out.as_slice(), &none)?;
+    Ok(again)
+}
+
 // What is shown of a type is read back as the same type.
 fn is_read_back(alloc: Global, line: &str) -> Result<bool, AllocError> {
     let (_, want) = line.split_once(" ;; ").unwrap_or(("", ""));
@@ -76,6 +101,17 @@ fn texts_say_these_types(rt: HostRuntime) -> Result<(), Fail> {
     for line in READINGS.lines() {
         assert!(rt; is_read(rt.alloc(), line)?, "{line}");
     }
+    Ok(())
+}
+
+#[test]
+fn a_text_with_aliases_is_shown_and_read_again(rt: HostRuntime) -> Result<(), Fail> {
+    let aliases = aliases_of(rt.alloc(), "pair=<<a, b>>;open={f: a, r}")?;
+    let text = "<<b, $pair, {f: b, r}, $open>>";
+    let answer = read_again(rt.alloc(), text.as_bytes(), &aliases);
+    let out = show_answer(rt.alloc(), &answer)?;
+    let want = "<<a0, <<a1, a2>>, {f: a0, r3}, {f: a4, r5}>>";
+    assert!(rt; out.as_slice() == want.as_bytes());
     Ok(())
 }
 
