@@ -222,7 +222,7 @@ next_plain n m p cs ds x y h wx wy tx ty cx cy (left_row f g r k e i c own) =
 next_plain n m p cs ds x y h wx wy tx ty cx cy (right_row f g k q e i c own) =
     (add_one n m cs x y (to_row q (extra f g k)) h wx wy tx ty cx cy (inr (occurs_at (row_var q) y (fields g (Some q)) i (inr refl)))
     (λ w o. inl (occurs_at w x (fields f k) e (occurs_extra w f g k o))) own).1.1
-next_plain n m p cs ds x y h wx wy tx ty cx cy (both_rows f g r q e i a fr fq) =
+next_plain n m p cs ds x y h wx wy tx ty cx cy (both_rows f g r q e i a lf lg fr fq) =
     let P : List Binding → Type 0 = λ z. Fewer n m (m + 1) cs z in
     subst P (append_assoc cs (to_row r (others f g m) ∷ []) (to_row q (extra_after f g r m) ∷ []))
     (both_fewer n m cs x y h wx wy tx ty cx cy f g r q e i a fr fq)

@@ -1,5 +1,6 @@
 -- The bindings of a round make its two types equal.
 use Rattle.std.proofs.Common.{◌≡◌, ℕ, ◌+◌, ◌<◌, ◌≤◌, inl, inr, List, [], ◌∷◌, ◌++◌, refl, ap, sym, ◌∙◌, subst, arith, Option, Some, None}
+use Rattle.std.proofs.lemmas.Bool.Decides.{eqb_tells}
 use Rattle.snowcat_rows.specs.Types.{Term, Slot, app, fields, none, some, Beside, here, first, second, field}
 use Rattle.snowcat_rows.specs.inner.Parts.{PartSlot, IsPart}
 use Rattle.snowcat_rows.specs.Substitutions.{Row, Sub, apply, apply_slot, or_else, tail_row, same_sub, Fronts, Sorted}
@@ -7,7 +8,7 @@ use Rattle.snowcat_rows.specs.Sorting.{Within}
 use Rattle.snowcat_rows.specs.Chains.{type_var, row_var, Binding, to_type, to_row, key, single, solved, Occurs, OccursSlot, OccursRow}
 use Rattle.snowcat_rows.specs.inner.Rounds.{only, others, extra, extra_after, Is, Common, Covers, Advances, left_type, right_type, left_row, right_row, both_rows}
 use Rattle.snowcat_rows.specs.inner.Measures.{TypesBelow}
-use Rattle.snowcat_rows.specs.Unifying.{Made}
+use Rattle.snowcat_rows.specs.Unifying.{StandsFor, IsNeeded, Made}
 use Rattle.snowcat_rows.proofs.RowTheory.{single_free, single_at_type, single_at_row, tail_off}
 use Rattle.snowcat_rows.proofs.General.{Reached, unified}
 use Rattle.snowcat_rows.proofs.Advancing.{Plain}
@@ -112,7 +113,7 @@ alone x y m p cs ds (left_type v e f) = record { news = to_type v y ∷ []; adde
 alone x y m p cs ds (right_type v e f) = record { news = to_type v x ∷ []; added = refl; advances = right_type v e f; few = omega arith }
 alone x y m p cs ds (left_row f g r k e i c o) = record { news = to_row r (extra g f k) ∷ []; added = refl; advances = left_row f g r k e i c o; few = omega arith }
 alone x y m p cs ds (right_row f g k q e i c o) = record { news = to_row q (extra f g k) ∷ []; added = refl; advances = right_row f g k q e i c o; few = omega arith }
-alone x y m p cs ds (both_rows f g r q e i a fr fq) = record { news = to_row r (others f g m) ∷ to_row q (extra_after f g r m) ∷ []; added = refl; advances = both_rows f g r q e i a fr fq; few = omega arith }
+alone x y m p cs ds (both_rows f g r q e i a lf lg fr fq) = record { news = to_row r (others f g m) ∷ to_row q (extra_after f g r m) ∷ []; added = refl; advances = both_rows f g r q e i a lf lg fr fq; few = omega arith }
 
 at_terms : (ds : List Binding) (x y u w : Term) → x ≡ u → y ≡ w → solved ds u ≡ solved ds w → solved ds x ≡ solved ds y
 at_terms ds x y u w e h q = ap (solved ds) e ∙ q ∙ sym (ap (solved ds) h)
@@ -123,7 +124,7 @@ equalled x y m p ds c wy (left_type v e f) = ap (apply (single (to_type v y))) e
 equalled x y m p ds c wy (right_type v e f) = single_free (to_type v x) x f ∙ sym (single_at_type v x) ∙ sym (ap (apply (single (to_type v x))) e)
 equalled x y m p ds c wy (left_row f g r k e i v o) = at_terms ds x y (fields f (Some r)) (fields g k) e i (one_row f g r k (c f g (Some r) k e i) v o)
 equalled x y m p ds c wy (right_row f g k q e i v o) = at_terms ds x y (fields f k) (fields g (Some q)) e i (sym (one_row g f q k (turned f g (c f g k (Some q) e i)) v o))
-equalled x y m p ds c wy (both_rows f g r q e i a fr fq) =
+equalled x y m p ds c wy (both_rows f g r q e i a lf lg fr fq) =
     at_terms ds x y (fields f (Some r)) (fields g (Some q)) e i (both m r q f g (c f g (Some r) (Some q) e i) a (λ h. later (wy (row_var q) (ends (sym i))) h) fr fq)
   where
     later : q < m → m ≡ q → ⊥
@@ -139,7 +140,50 @@ alone_fronts k m p x y cs ds (left_type v e f) = refl
 alone_fronts k m p x y cs ds (right_type v e f) = refl
 alone_fronts k m p x y cs ds (left_row f g r j e i c o) = refl
 alone_fronts k m p x y cs ds (right_row f g j q e i c o) = refl
-alone_fronts k m p x y cs ds (both_rows f g r q e i a fr fq) = refl
+alone_fronts k m p x y cs ds (both_rows f g r q e i a lf lg fr fq) = refl
+
+-- ---- the variables that a round issues
+
+stands_before : (r v : ℕ) (cs ds : List Binding) → StandsFor r v cs → StandsFor r v (cs ++ ds)
+stands_before r v [] ds h = absurd (h)
+stands_before r v (to_type w t ∷ cs) ds h = stands_before r v cs ds h
+stands_before r v (to_row q w ∷ cs) ds (inl h) = inl h
+stands_before r v (to_row q w ∷ cs) ds (inr h) = inr (stands_before r v cs ds h)
+
+stands_behind : (r v : ℕ) (cs ds : List Binding) → StandsFor r v ds → StandsFor r v (cs ++ ds)
+stands_behind r v [] ds h = h
+stands_behind r v (to_type w t ∷ cs) ds h = stands_behind r v cs ds h
+stands_behind r v (to_row q w ∷ cs) ds h = inr (stands_behind r v cs ds h)
+
+needed_before : (cs ds : List Binding) (v : ℕ) → IsNeeded cs v → IsNeeded (cs ++ ds) v
+needed_before cs ds v (r, q, a, h, k) = (r, q, a, stands_before r v cs ds h, stands_before q v cs ds k)
+
+only_some : (x y : Slot) → Is x → y ≡ none → (t : Term) × (only x y ≡ some t)
+only_some (some t) none i e = (t, refl)
+only_some none y i e = absurd (i)
+only_some (some t) (some u) i e = absurd (cc)
+
+after_some : (s : Sub) (x y : Slot) → Is x → y ≡ none → (t : Term) × (apply_slot s (only x y) ≡ some t)
+after_some s (some t) none i e = (apply s t, refl)
+after_some s none y i e = absurd (i)
+after_some s (some t) (some u) i e = absurd (cc)
+
+pub needed_next : (n m p : ℕ) (x y : Term) (cs ds : List Binding) → Advances x y m cs ds p → ((v : ℕ) → n ≤ v → v < m → IsNeeded cs v) →
+    (v : ℕ) → n ≤ v → v < p → IsNeeded ds v
+needed_next n m p x y cs ds (left_type w e f) h v le lt = needed_before cs (to_type w y ∷ []) v (h v le lt)
+needed_next n m p x y cs ds (right_type w e f) h v le lt = needed_before cs (to_type w x ∷ []) v (h v le lt)
+needed_next n m p x y cs ds (left_row f g r k e i c o) h v le lt = needed_before cs (to_row r (extra g f k) ∷ []) v (h v le lt)
+needed_next n m p x y cs ds (right_row f g k q e i c o) h v le lt = needed_before cs (to_row q (extra f g k) ∷ []) v (h v le lt)
+needed_next n m p x y cs ds (both_rows f g r q e i a lf lg fr fq) h v le lt =
+    elim (eqb_tells v m) [
+      | inl k ↦
+          let ns = to_row r (others f g m) ∷ to_row q (extra_after f g r m) ∷ [] in
+          let left : StandsFor r m ns = (let o = only_some (g lf.0) (f lf.0) lf.1 lf.2 in inl (refl, (lf.0, o.0, o.1), refl)) in
+          let right : StandsFor q m ns = (let o = after_some (single (to_row r (others f g m))) (f lg.0) (g lg.0) lg.1 lg.2 in inr (inl (refl, (lg.0, o.0, o.1), refl))) in
+          let P : ℕ → Type 0 = λ z. IsNeeded (cs ++ ns) z in
+          subst P (sym k.1) (r, q, a, stands_behind r m cs ns left, stands_behind q m cs ns right)
+      | inr k ↦ needed_before cs (to_row r (others f g m) ∷ to_row q (extra_after f g r m) ∷ []) v (h v le (omega (arith, lt, k.1)))
+    ]
 
 -- ---- a round is the most general way to make its two types equal
 
@@ -168,6 +212,7 @@ made_alone m p k x y cs ds v wx wy sx sy c =
         same = z.reached.fronts;
         sorted = z.reached.sorted;
         unified = unified m p k z.fronts [] o.news x y z.reached tt wx wy (equalled x y m p o.news c wy o.advances);
+        needed = needed_next m m p x y [] o.news o.advances (λ v le lt. absurd (omega (arith, le, lt)));
       },
       next_fronts m m k k [] [] x y x y (at_start m k x y) wx wy none wx wy tx ty tt tt sx sy (λ s e. e) p o.news o.advances ∙ alone_fronts k m p x y cs ds v,
     )

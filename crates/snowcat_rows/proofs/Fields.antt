@@ -10,7 +10,7 @@ use Rattle.snowcat_rows.specs.declared.types.Ty.TheVariants.{Int}
 use Rattle.snowcat_rows.specs.Types.{Term, Slot, none, some, lookup, mean}
 use Rattle.snowcat_rows.specs.Substitutions.{or_else}
 use Rattle.snowcat_rows.specs.Chains.{Variable, OccursSlot}
-use Rattle.snowcat_rows.specs.inner.Rounds.{only, Is, Covers, Common}
+use Rattle.snowcat_rows.specs.inner.Rounds.{only, Is, Covers, Lacks, Common}
 use Rattle.snowcat_rows.specs.Codes.{named, has}
 use Rattle.snowcat_rows.proofs.Means.{lookup-append}
 
@@ -127,8 +127,8 @@ missing_end fs gs items i le m n =
     or_only (some t) y = refl
 
 -- ---- a name that is not found
-pub uncovered : (fs gs : List (List ℕ × Ty)) (i : ℕ) (g : List ℕ × Ty) → i < length gs → g ≡ get_or gs i g → has fs g.0 ≡ none → Covers (has fs) (has gs) → ⊥
-uncovered fs gs i g lt e h c = is_at (has fs g.0) none h (c g.0 (there gs i lt e))
+pub uncovered : (fs gs : List (List ℕ × Ty)) (i : ℕ) (g : List ℕ × Ty) → i < length gs → g ≡ get_or gs i g → has fs g.0 ≡ none → Lacks (has fs) (has gs)
+uncovered fs gs i g lt e h = (g.0, there gs i lt e, h)
   where
     there : (l : List (List ℕ × Ty)) (i : ℕ) → i < length l → g ≡ get_or l i g → Is (has l g.0)
     there [] i lt e = absurd (omega (arith, lt))
@@ -137,6 +137,13 @@ uncovered fs gs i g lt e h c = is_at (has fs g.0) none h (c g.0 (there gs i lt e
       | inl k ↦ is_at (some (mean x.1)) (has (x ∷ xs) g.0) (sym (has_first x xs g.0 k)) tt
       | inr k ↦ is_at (has xs g.0) (has (x ∷ xs) g.0) (sym (has_later x xs g.0 k)) (there xs i (omega (arith, lt)) e)
     ]
+
+pub not_covered : (f g : List ℕ → Slot) → Lacks f g → Covers f g → ⊥
+not_covered f g (n, i, e) c = clash (f n) e (c n i)
+  where
+    clash : (x : Slot) → x ≡ none → Is x → ⊥
+    clash none e i = i
+    clash (some t) e i = absurd (cc)
 
 pub none_is : (fs : List (List ℕ × Ty)) (n : List ℕ) (r : Option ℕ) → MatchOption r (has fs n ≡ none) (λ i. (i < length fs) × ((d : List ℕ × Ty) → has fs n ≡ some (mean (get_or fs i d).1))) → is_some r ≡ false → has fs n ≡ none
 none_is fs n None h e = h

@@ -261,7 +261,7 @@ module _ (n m : ℕ) (l k : Fronts) (bs cs : List Binding) (a b x y : Term) (h :
       (λ w o. inl (stands w x (fields f z) e (occurs_extra w f g z o))) own (extra_sorted k f g z r sf sg c)
       (λ s fs q. keeps_one s f g z r (equal_at s x y (fields f z) (fields g (Some r)) e i q)
       (tail_lacks m k s f z fs (within_at m x (fields f z) e wx) sf) (tail_lacks m k s g (Some r) fs (within_at m y (fields g (Some r)) i wy) sg) c)
-  next p ds (both_rows f g r q e i apart fr fq) =
+  next p ds (both_rows f g r q e i apart lf lg fr fq) =
       let sf = sorted_at k x (fields f (Some r)) e sx in
       let sg = sorted_at k y (fields g (Some q)) i sy in
       let wf = within_at m x (fields f (Some r)) e wx in
@@ -297,7 +297,7 @@ fronts_after k m p x y cs ds (left_type v e f) = k
 fronts_after k m p x y cs ds (right_type v e f) = k
 fronts_after k m p x y cs ds (left_row f g r j e i c o) = k
 fronts_after k m p x y cs ds (right_row f g j q e i c o) = k
-fronts_after k m p x y cs ds (both_rows f g r q e i a fr fq) = more_fronts k m r g
+fronts_after k m p x y cs ds (both_rows f g r q e i a lf lg fr fq) = more_fronts k m r g
 
 module _ (n m : ℕ) (l k : Fronts) (bs cs : List Binding) (a b x y : Term) (h : Reached n m l k bs cs a b) (wa : Within n a) (wb : Within n b)
     (pl : Plain n m cs) (wx : Within m x) (wy : Within m y) (tx : TypesBelow n x) (ty : TypesBelow n y) (cx : Clear cs x) (cy : Clear cs y)
@@ -309,7 +309,7 @@ module _ (n m : ℕ) (l k : Fronts) (bs cs : List Binding) (a b x y : Term) (h :
   next_fronts p ds (right_type v e f) = refl
   next_fronts p ds (left_row f g r j e i c o) = refl
   next_fronts p ds (right_row f g j q e i c o) = refl
-  next_fronts p ds (both_rows f g r q e i apart fr fq) = refl
+  next_fronts p ds (both_rows f g r q e i apart lf lg fr fq) = refl
 
 -- ---- what is stuck
 

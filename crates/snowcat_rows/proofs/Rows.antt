@@ -8,11 +8,12 @@ use Rattle.snowcat_rows.specs.declared.types.Ty.{Ty}
 use Rattle.snowcat_rows.specs.Types.{Term, Slot, var, con, app, fields, none, some, lookup}
 use Rattle.snowcat_rows.specs.Substitutions.{Sub, apply, apply_slot, or_else, tail_row}
 use Rattle.snowcat_rows.specs.Chains.{Variable, row_var, Binding, to_row, single, Occurs, OccursSlot, OccursRow}
-use Rattle.snowcat_rows.specs.inner.Rounds.{only, others, Is, Covers, Advances, left_row, right_row, both_rows, Stuck, never, row_left, row_right, row_after, row_of, BothBound, NoneBound}
+use Rattle.snowcat_rows.specs.inner.Rounds.{only, others, Is, Covers, Lacks, Advances, left_row, right_row, both_rows, Stuck, never, row_left, row_right, row_after, row_of, BothBound, NoneBound}
 use Rattle.snowcat_rows.specs.Codes.{has, named, changed, binding, bindings_of}
 use Rattle.snowcat_rows.specs.inner.Lookups.{looked}
 use Rattle.snowcat_rows.proofs.Lookups.{looked_one}
 use Rattle.snowcat_rows.proofs.Means.{lookup-changed}
+use Rattle.snowcat_rows.proofs.Fields.{not_covered}
 
 occurs_only : (v : Variable) (x y : Slot) → OccursSlot v (only x y) → (u : Term) × (x ≡ some u) × (y ≡ none) × Occurs v u
 occurs_only v none none o = absurd o
@@ -50,7 +51,8 @@ module _ (f g r : List ℕ → Slot) (k j : Option ℕ) (q m : ℕ) (cs ds : Lis
 
 -- ---- both
 module _ (f g l r : List ℕ → Slot) (k j : Option ℕ) (i q m : ℕ) (cs ds : List Binding) (apart : k ≡ j → ⊥) (ek : k ≡ Some i) (ej : j ≡ Some q)
-    (at_left : (n : List ℕ) → l n ≡ only (g n) (f n)) (at_right : (n : List ℕ) → r n ≡ only (f n) (g n)) where
+    (at_left : (n : List ℕ) → l n ≡ only (g n) (f n)) (at_right : (n : List ℕ) → r n ≡ only (f n) (g n))
+    (first_lacks : Lacks f g) (second_lacks : Lacks g f) where
   abbrev here : List ℕ → Slot
   here n = only (g n) (f n)
 
@@ -75,7 +77,7 @@ module _ (f g l r : List ℕ → Slot) (k j : Option ℕ) (i q m : ℕ) (cs ds :
   both_moved : BothBound i here q there m cs ds → Advances (fields f k) (fields g j) m cs ds (m + 1)
   both_moved h =
       let P : List Binding → Type 0 = λ z. Advances (fields f k) (fields g j) m cs z (m + 1) in
-      subst P (sym h.added) (both_rows f g i q (ap (fields f) ek) (ap (fields g) ej) rows h.free_first h.free_second)
+      subst P (sym h.added) (both_rows f g i q (ap (fields f) ek) (ap (fields g) ej) rows first_lacks second_lacks h.free_first h.free_second)
 
   slot_after : (s : Sub) (v : Variable) (x y : Slot) → OccursSlot v (apply_slot s (only x y)) → (u : Term) × (x ≡ some u) × (y ≡ none) × Occurs v (apply s u)
   slot_after s v none none o = absurd o
@@ -108,14 +110,14 @@ closed_has s (some u) none z k i = absurd (cc)
 closed_has s (some u) (some w) z k i = tt
 
 -- the second is closed
-pub closed_right : (f g : List ℕ → Slot) (k j : Option ℕ) (m : ℕ) → j ≡ None → (Covers g f → ⊥) → Stuck (fields f k) (fields g j) m
+pub closed_right : (f g : List ℕ → Slot) (k j : Option ℕ) (m : ℕ) → j ≡ None → Lacks g f → Stuck (fields f k) (fields g j) m
 unfolding at_name
-closed_right f g k j m e c = never (λ s h. c (λ n i.
+closed_right f g k j m e c = never (λ s h. not_covered g f c (λ n i.
     closed_has s (f n) (g n) ((tail_row s k).at n) (ap (λ z. at_name z n) (h ∙ ap (λ z. apply s (fields g z)) e)) i))
 
-pub closed_left : (f g : List ℕ → Slot) (k j : Option ℕ) (m : ℕ) → k ≡ None → (Covers f g → ⊥) → Stuck (fields f k) (fields g j) m
+pub closed_left : (f g : List ℕ → Slot) (k j : Option ℕ) (m : ℕ) → k ≡ None → Lacks f g → Stuck (fields f k) (fields g j) m
 unfolding at_name
-closed_left f g k j m e c = never (λ s h. c (λ n i.
+closed_left f g k j m e c = never (λ s h. not_covered f g c (λ n i.
     closed_has s (g n) (f n) ((tail_row s j).at n) (ap (λ z. at_name z n) (sym h ∙ ap (λ z. apply s (fields f z)) e)) i))
 
 -- ---- what is pushed

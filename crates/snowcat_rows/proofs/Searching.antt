@@ -8,7 +8,7 @@ use Rattle.snowcat_rows.specs.Sorting.{Within, BindingWithin, AllWithin, AllSort
 use Rattle.snowcat_rows.specs.inner.Rounds.{Differ, Advances, PutIn, Stuck}
 use Rattle.snowcat_rows.specs.inner.Measures.{open_count, TypesBelow, BindingTypes, AllTypes}
 use Rattle.snowcat_rows.specs.Codes.{Begins}
-use Rattle.snowcat_rows.specs.Unifying.{Same, Made, IsMade, Follow, given, and_then, Unmade}
+use Rattle.snowcat_rows.specs.Unifying.{Same, IsNeeded, Made, IsMade, Follow, given, and_then, Unmade}
 use Rattle.snowcat_rows.proofs.Lookups.{solved_append}
 use Rattle.snowcat_rows.proofs.Sorts.{Sorted-solved}
 use Rattle.snowcat_rows.proofs.General.{Reached, sorted_agree, unified, apart}
@@ -16,12 +16,13 @@ use Rattle.snowcat_rows.proofs.Solving.{Clear, solved_clear, clear_sub, within_s
 use Rattle.snowcat_rows.proofs.Counting.{types_solved}
 use Rattle.snowcat_rows.proofs.Advancing.{Plain, Fewer, next_plain}
 use Rattle.snowcat_rows.proofs.Rounding.{sorted_is_part, next, fronts_after, next_fronts, stuck_never}
-use Rattle.snowcat_rows.proofs.Equalled.{beside_left, beside_right, Alone, alone, made_alone}
+use Rattle.snowcat_rows.proofs.Equalled.{beside_left, beside_right, Alone, alone, made_alone, needed_next}
 
 -- n variables were issued with the bindings bs, and m are now with cs
 pub record Searching (n m : ℕ) (bs cs : List Binding) (a b : Term) : Type 0 where
   pub plain : Plain n m cs
   pub more : n ≤ m
+  pub needed : (v : ℕ) → n ≤ v → v < m → IsNeeded cs v
   pub follows : (l : Fronts) → AllSorted l bs → Sorted l a → Sorted l b → (k : Fronts) × (Reached n m l k bs cs a b × Follow n l bs a b m k cs)
 
 binding_types : (n : ℕ) (b : Binding) → BindingWithin n b → BindingTypes n b
@@ -39,6 +40,7 @@ pub at_first : (n : ℕ) (bs : List Binding) (a b : Term) → Chain bs → AllWi
 at_first n bs a b c w = record {
   plain = record { chain = c; within = w; types = all_types n bs w };
   more = omega arith;
+  needed = λ v le lt. absurd (omega (arith, le, lt));
   follows = λ l h sa sb. (
     l,
     (
@@ -100,6 +102,7 @@ module _ (n m : ℕ) (bs cs : List Binding) (a b : Term) (h : Searching n m bs c
         record {
           plain = f.plain;
           more = omega (arith, h.more, f.more);
+          needed = needed_next n m p x y cs ds k h.needed;
           follows = λ l q sa sb.
               let r = h.follows l q sa sb in
               let sx = part_sorted l r.0 x a r.1.0 wa sa left in
@@ -123,6 +126,7 @@ module _ (n m : ℕ) (bs cs : List Binding) (a b : Term) (h : Searching n m bs c
         same = r.1.0.fronts;
         sorted = r.1.0.sorted;
         unified = unified n m l r.0 bs cs a b r.1.0 c wa wb e;
+        needed = h.needed;
       }
 
   pub unmade : Chain bs → (x y : Term) → Differ (solved cs a) (solved cs b) x y → Stuck x y m → (l : Fronts) → AllSorted l bs → Sorted l a → Sorted l b → Unmade n l bs a b x y

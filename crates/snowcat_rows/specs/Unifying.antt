@@ -1,14 +1,25 @@
 -- What the calls of unification say.
-use Rattle.std.specs.Prelude.{ℕ, ◌+◌, ◌≡◌, ◌<◌, ◌≤◌, ◌++◌, [], List}
+use Rattle.std.specs.Prelude.{ℕ, ◌+◌, ◌≡◌, ◌<◌, ◌≤◌, ◌⊎◌, ◌++◌, [], ◌∷◌, List, Some}
 use Rattle.snowcat_rows.specs.declared.substitution.UnifyFault.{UnifyFault}
 use Rattle.snowcat_rows.specs.declared.substitution.UnifyFault.TheVariants.{Clash, Memory}
-use Rattle.snowcat_rows.specs.Types.{Term, mean, Beside}
+use Rattle.snowcat_rows.specs.Types.{Term, Slot, some, mean, Beside}
 use Rattle.snowcat_rows.specs.Substitutions.{Sub, apply, Fronts, Fits, Sorted, Unified, Apart}
-use Rattle.snowcat_rows.specs.Chains.{Binding, solved, sub_of}
+use Rattle.snowcat_rows.specs.Chains.{Binding, to_type, to_row, solved, sub_of}
 use Rattle.snowcat_rows.specs.Sorting.{AllSorted}
 
 abbrev pub Same : ℕ → Fronts → Fronts → Type 0
 Same n l k = (v : ℕ) → v < n → (x : List ℕ) → k v x ≡ l v x
+
+-- the row variable r stands for some names and then for what v stands for
+abbrev pub StandsFor : ℕ → ℕ → List Binding → Type 0
+StandsFor r v [] = ⊥
+StandsFor r v (to_type w t ∷ bs) = StandsFor r v bs
+StandsFor r v (to_row q w ∷ bs) =
+    ((r ≡ q) × ((n : List ℕ) × (t : Term) × (w.at n ≡ some t)) × (w.tail ≡ Some v)) ⊎ StandsFor r v bs
+
+-- v follows names in two rows, so that neither of their variables could stand for the other
+abbrev pub IsNeeded : List Binding → ℕ → Type 0
+IsNeeded bs v = (r q : ℕ) × (r ≡ q → ⊥) × StandsFor r v bs × StandsFor q v bs
 
 -- the new bindings are the most general substitution that extends the old one and makes a and b equal, where n variables
 -- were issued and p are now
@@ -18,6 +29,8 @@ pub record Made (n p : ℕ) (l : Fronts) (bs ds : List Binding) (a b : Term) : T
   pub same : Same n l fronts
   pub sorted : AllSorted fronts ds
   pub unified : Unified n p l fronts (sub_of bs) a b (sub_of ds)
+  -- no variable is issued without need
+  pub needed : (v : ℕ) → n ≤ v → v < p → IsNeeded ds v
 
 abbrev pub IsMade : ℕ → ℕ → List Binding → List Binding → Term → Term → Type 0
 IsMade n p bs ds a b = (l : Fronts) → AllSorted l bs → Sorted l a → Sorted l b → Made n p l bs ds a b

@@ -4,7 +4,7 @@ ghost use Rattle.std.specs.Bool.{MatchBool};
 ghost use Rattle.snowcat_rows.specs.Types.{fields, mean, var};
 ghost use Rattle.snowcat_rows.specs.Chains.{Occurs, OccursRow, key, row_var, to_row, to_type, type_var};
 ghost use Rattle.snowcat_rows.specs.Codes.{Begins, binding, bindings_of, has, variable};
-ghost use Rattle.snowcat_rows.specs.inner.Rounds.{Advances, BothBound, Common, NoneBound, Stuck, Unlike, row_of};
+ghost use Rattle.snowcat_rows.specs.inner.Rounds.{Advances, BothBound, Common, Lacks, NoneBound, Stuck, Unlike, row_of};
 
 use crate::occurrences::{Unknown, is_end, occurs, occurs_fields};
 use crate::places::Places;
@@ -136,7 +136,9 @@ fn advance_both(
     gs: &[(Text, Ty)],
     q: u32,
 ) -> Result<bool, AllocError>
-    requires { r ≡ q → ⊥ }
+    requires apart { r ≡ q → ⊥ }
+    requires left { Lacks (has fs.now) (has gs.now) }
+    requires right { Lacks (has gs.now) (has fs.now) }
     ensures prefix { Begins bindings.old.items bindings.new.items }
     ensures ok { IfOk result (λ b. MatchBool b
         (Advances (fields (has fs.now) (Some r)) (fields (has gs.now) (Some q)) issued.old

@@ -3,7 +3,7 @@ ghost use Rattle.std.specs.Prelude.{ℕ, ◌≡◌, ◌<◌, List as Items, IfOk
 ghost use Rattle.std.specs.Bool.{MatchBool};
 ghost use Rattle.snowcat_rows.specs.Types.{mean, none, some};
 ghost use Rattle.snowcat_rows.specs.Codes.{has};
-ghost use Rattle.snowcat_rows.specs.inner.Rounds.{Covers, SameNames, only};
+ghost use Rattle.snowcat_rows.specs.inner.Rounds.{Covers, Lacks, SameNames, only};
 
 use crate::types::{Ty, copy_type};
 use std::alloc::{AllocError, Global};
@@ -26,7 +26,7 @@ pub(crate) fn find(fs: &[(Text, Ty)], name: &Text) -> Option<usize>
 // Whether the first record has each name of the second.
 pub(crate) fn covers(fs: &[(Text, Ty)], gs: &[(Text, Ty)]) -> bool
     ensures { MatchBool result (Covers (has fs.now) (has gs.now))
-        (Covers (has fs.now) (has gs.now) → ⊥) }
+        (Lacks (has fs.now) (has gs.now)) }
 {
     for g in gs {
         if find(fs, &g.0).is_none() {
@@ -56,6 +56,7 @@ pub(crate) fn missing(
 }
 
 // Whether the records have the same names and end alike.
+#[tactic(auto, using(crate::proofs::Fields::not_covered))]
 pub(crate) fn is_alike(fs: &[(Text, Ty)], k: Option<u32>, gs: &[(Text, Ty)], j: Option<u32>) -> bool
     ensures { MatchBool result (SameNames (has fs.now) (has gs.now) × (k ≡ j))
         (SameNames (has fs.now) (has gs.now) × (k ≡ j) → ⊥) }

@@ -250,7 +250,7 @@ impl Subst {
     /// each row variable stands after the same field names wherever it stands.
     ///
     /// A field that one record lacks goes into the row of that record's variable; where both lack
-    /// one, a new row variable follows in both. The fault `Clash` comes exactly where no extension
+    /// one, a new row variable follows in both, and no other variable is issued. The fault `Clash` comes exactly where no extension
     /// makes the types equal, `Memory` also where a new row variable is wanted and none is left.
     /// After a fault the substitution is as it was.
     pub fn unify(&mut self, a: &Ty, b: &Ty) -> Result<(), UnifyFault>

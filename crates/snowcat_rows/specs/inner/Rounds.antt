@@ -72,6 +72,10 @@ extra_after f g r m = record { at = λ n. apply_slot (single (to_row r (others f
 abbrev pub Covers : (List ℕ → Slot) → (List ℕ → Slot) → Type 0
 Covers f g = (n : List ℕ) → Is (g n) → Is (f n)
 
+-- g has a name that f lacks
+abbrev pub Lacks : (List ℕ → Slot) → (List ℕ → Slot) → Type 0
+Lacks f g = (n : List ℕ) × Is (g n) × (f n ≡ none)
+
 -- where m variables are issued, the bindings that make x and y more alike, and how many variables are issued then
 pub data Advances (x y : Term) (m : ℕ) (cs : List Binding) : List Binding → ℕ → Type 0 where
   left_type : (v : ℕ) → x ≡ var v → (Occurs (type_var v) y → ⊥) → Advances x y m cs (cs ++ to_type v y ∷ []) m
@@ -81,9 +85,9 @@ pub data Advances (x y : Term) (m : ℕ) (cs : List Binding) : List Binding → 
       → (OccursRow (row_var r) (extra g f k) → ⊥) → Advances x y m cs (cs ++ to_row r (extra g f k) ∷ []) m
   right_row : (f g : List ℕ → Slot) (k : Option ℕ) (q : ℕ) → x ≡ fields f k → y ≡ fields g (Some q) → Covers f g
       → (OccursRow (row_var q) (extra f g k) → ⊥) → Advances x y m cs (cs ++ to_row q (extra f g k) ∷ []) m
-  -- each may lack names of the other
+  -- each lacks names of the other
   both_rows : (f g : List ℕ → Slot) (r q : ℕ) → x ≡ fields f (Some r) → y ≡ fields g (Some q) → (r ≡ q → ⊥)
-      → ((n : List ℕ) → OccursSlot (row_var r) (only (g n) (f n)) → ⊥) → ((n : List ℕ) → OccursSlot (row_var q) ((extra_after f g r m).at n) → ⊥)
+      → Lacks f g → Lacks g f → ((n : List ℕ) → OccursSlot (row_var r) (only (g n) (f n)) → ⊥) → ((n : List ℕ) → OccursSlot (row_var q) ((extra_after f g r m).at n) → ⊥)
       → Advances x y m cs (cs ++ to_row r (others f g m) ∷ to_row q (extra_after f g r m) ∷ []) (m + 1)
 
 -- why nothing makes them equal
