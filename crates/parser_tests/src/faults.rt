@@ -43,6 +43,9 @@ pub(crate) const NOT_READ: &str =
 ---- MODULE M ----;A == 1 MODULE N;====  => grammar 2:1
 ---- MODULE M ----;A == LET F(a) == 1 g \cup h == 2 IN 3;====  => operator definition by symbol 2:22
 ---- MODULE M ----;F(a, g(_)) == 1;====  => operator parameter 2:8
+---- MODULE M ----;F(a, (_)) == 1;====  => grammar 2:1
+---- MODULE M ----;F((_)) == 1;====  => grammar 2:1
+---- MODULE M ----;CONSTANT (_);====  => grammar 2:1
 ---- MODULE M ----;A == LET F(a, g(_)) == 1 IN 2;====  => operator parameter 2:17
 ---- MODULE M ----;CONSTANT B, C(_, _);====  => operator parameter 2:15
 ---- MODULE M ----;A == 1;VARIABLE x(_);====  => grammar 3:1

@@ -596,10 +596,11 @@ impl Places {
         ensures { (ts : List Tok) (t : Tok) → next ≡ (standing_of (advances module_start ts)).next → HasRead ts self.now
             → sign_of t ≡ LeftParen → result ≡ true → (u : Tok) → HasParameter (ts ++ (t ∷ [])) u }
     {
-        match self.head {
+        let was_named = match self.head {
             Head::Parameters | Head::Constants => true,
-            _ => is_behind_parameter(next) && self.previous.is(Sign::Word),
-        }
+            _ => is_behind_parameter(next),
+        };
+        was_named && self.previous.is(Sign::Word)
     }
 
     /// Why the tokens are refused.
