@@ -10,7 +10,7 @@ use Rattle.tla_parser.proofs.ModuleRows.{through}
 use Rattle.tla_parser.proofs.TableLaw.{along}
 use Rattle.tla_parser.proofs.Templates.{can_end}
 use Rattle.tla_parser.specs.Forms.{FormPart, a_token, an_operand, module_form, templates}
-use Rattle.tla_parser.specs.declared.moves.Class.TheVariants.{Member, Other}
+use Rattle.tla_parser.specs.declared.moves.Class.TheVariants.{Member, Other, TupleMember}
 use Rattle.tla_parser.specs.Operators.{after, hi, is_associative, is_bullet, is_prefix, lo, number_of, prefix_hi, prefix_lo, same}
 use Rattle.tla_parser.specs.Signs.{fold_name, sign, symbol_signs, word_signs}
 use Rattle.tla_parser.specs.declared.moves.Construct.{Construct}
@@ -138,6 +138,11 @@ unset = refl
 only_filters : forms_of (a_token LeftBrace ∷ an_operand Member ∷ a_token Colon ∷ an_operand Other ∷ a_token RightBrace ∷ []) ≡ Filter ∷ []
 unfolding forms_of templates_open
 only_filters = refl
+
+-- {<<x>> \in S : x \in T} is none
+tuple_pattern : forms_of (a_token LeftBrace ∷ an_operand TupleMember ∷ a_token Colon ∷ a_token Word ∷ a_token Element ∷ an_operand Other ∷ a_token RightBrace ∷ []) ≡ []
+unfolding forms_of templates_open
+tuple_pattern = refl
 
 -- bullets of two kinds are no list
 mixed_bullets : forms_of (a_token Wedge ∷ an_operand Other ∷ a_token Vee ∷ an_operand Other ∷ []) ≡ []

@@ -6,7 +6,7 @@ use Rattle.tla_parser.proofs.Basics.{and_both, either, not_true}
 use Rattle.tla_parser.specs.Operators.{after, hi, is_associative, is_bullet, is_prefix, lo, number_of, prefix_hi, prefix_lo, same, same_sign}
 use Rattle.tla_parser.specs.Signs.{column, sign}
 use Rattle.tla_parser.specs.declared.moves.Class.{Class}
-use Rattle.tla_parser.specs.declared.moves.Class.TheVariants.{BareName, FoldName, Joined, Member, Other, PathName}
+use Rattle.tla_parser.specs.declared.moves.Class.TheVariants.{BareName, FoldName, Joined, Member, Other, PathName, Tuple, TupleMember}
 use Rattle.tla_parser.specs.declared.moves.Mark.{Mark}
 use Rattle.tla_parser.specs.declared.moves.Mark.TheVariants.{Bullets, InAssumption, InBracket, InFold, InItems, InStatement}
 use Rattle.tla_parser.specs.declared.moves.Next.{Next}
@@ -257,6 +257,8 @@ kept_of_name FoldName m b h k = k
 kept_of_name Other m b h k = k
 kept_of_name Member m b h k = k
 kept_of_name (Joined s) m b h k = k
+kept_of_name Tuple m b h k = k
+kept_of_name TupleMember m b h k = k
 
 kept_items : (c : Class) → kept false (in_braces c) ≡ true
 unfolding in_braces in_units

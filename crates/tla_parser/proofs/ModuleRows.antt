@@ -5,7 +5,7 @@ use Rattle.tla_parser.proofs.Templates.{behind_part, can_end}
 use Rattle.tla_parser.specs.Forms.{Form, FormPart, a_token, an_operand, module_form, never}
 use Rattle.tla_parser.specs.Operators.{number_of}
 use Rattle.tla_parser.specs.declared.moves.Class.{Class}
-use Rattle.tla_parser.specs.declared.moves.Class.TheVariants.{BareName, FoldName, Joined, Member, Other, PathName}
+use Rattle.tla_parser.specs.declared.moves.Class.TheVariants.{BareName, FoldName, Joined, Member, Other, PathName, Tuple, TupleMember}
 use Rattle.tla_parser.specs.declared.moves.Mark.{Mark}
 use Rattle.tla_parser.specs.declared.moves.Mark.TheVariants.{AtTop, BehindArity, BehindBlank, BehindDeclared, BehindExtended, BehindHeader, BehindInstance, BehindRecursive, BehindSubstituted, BehindUnitArgument, BehindUnitParameter, BetweenUnits, DeclaredName, ExtendedName, Finished, InAssumption, InBody, InNamedAssumption, InNamedStatement, InPlainBody, InReplacement, InStatement, InUnitSet, InstanceName, LocalUnit, ModuleHead, ModuleName, ModuleNamed, RecursiveBlank, RecursiveName, Substituted, UnitArgument, UnitDefines, UnitHead, UnitParameter}
 use Rattle.tla_parser.specs.declared.moves.Next.{Next}
@@ -236,6 +236,16 @@ unfolding all_open
 rows_InAssumption_Member Number = refl
 rows_InAssumption_Member _ = refl
 
+rows_InAssumption_Tuple : (s : Sign) → behind_part (a_token s) (behind_part (an_operand Tuple) (wanting_left InAssumption)) ≡ module_left (found s (rows InAssumption Tuple))
+unfolding all_open
+rows_InAssumption_Tuple Number = refl
+rows_InAssumption_Tuple _ = refl
+
+rows_InAssumption_TupleMember : (s : Sign) → behind_part (a_token s) (behind_part (an_operand TupleMember) (wanting_left InAssumption)) ≡ module_left (found s (rows InAssumption TupleMember))
+unfolding all_open
+rows_InAssumption_TupleMember Number = refl
+rows_InAssumption_TupleMember _ = refl
+
 rows_InAssumption_Joined : (s j : Sign) → behind_part (a_token s) (behind_part (an_operand (Joined j)) (wanting_left InAssumption)) ≡ module_left (found s (rows InAssumption (Joined j)))
 unfolding all_open
 rows_InAssumption_Joined Number j = refl
@@ -248,6 +258,8 @@ rows_InAssumption s FoldName = rows_InAssumption_FoldName s
 rows_InAssumption s Other = rows_InAssumption_Other s
 rows_InAssumption s Member = rows_InAssumption_Member s
 rows_InAssumption s (Joined j) = rows_InAssumption_Joined s j
+rows_InAssumption s Tuple = rows_InAssumption_Tuple s
+rows_InAssumption s TupleMember = rows_InAssumption_TupleMember s
 
 insteads_InNamedAssumption : (s : Sign) → behind_part (a_token s) (wanting_left InNamedAssumption) ≡ module_left (found s (insteads InNamedAssumption))
 unfolding all_open
@@ -289,6 +301,16 @@ unfolding all_open
 rows_InStatement_Member Number = refl
 rows_InStatement_Member _ = refl
 
+rows_InStatement_Tuple : (s : Sign) → behind_part (a_token s) (behind_part (an_operand Tuple) (wanting_left InStatement)) ≡ module_left (found s (rows InStatement Tuple))
+unfolding all_open
+rows_InStatement_Tuple Number = refl
+rows_InStatement_Tuple _ = refl
+
+rows_InStatement_TupleMember : (s : Sign) → behind_part (a_token s) (behind_part (an_operand TupleMember) (wanting_left InStatement)) ≡ module_left (found s (rows InStatement TupleMember))
+unfolding all_open
+rows_InStatement_TupleMember Number = refl
+rows_InStatement_TupleMember _ = refl
+
 rows_InStatement_Joined : (s j : Sign) → behind_part (a_token s) (behind_part (an_operand (Joined j)) (wanting_left InStatement)) ≡ module_left (found s (rows InStatement (Joined j)))
 unfolding all_open
 rows_InStatement_Joined Number j = refl
@@ -301,6 +323,8 @@ rows_InStatement s FoldName = rows_InStatement_FoldName s
 rows_InStatement s Other = rows_InStatement_Other s
 rows_InStatement s Member = rows_InStatement_Member s
 rows_InStatement s (Joined j) = rows_InStatement_Joined s j
+rows_InStatement s Tuple = rows_InStatement_Tuple s
+rows_InStatement s TupleMember = rows_InStatement_TupleMember s
 
 insteads_InNamedStatement : (s : Sign) → behind_part (a_token s) (wanting_left InNamedStatement) ≡ module_left (found s (insteads InNamedStatement))
 unfolding all_open

@@ -8,7 +8,7 @@ use Rattle.tla_parser.specs.declared.signs.Sign.{Sign}
 use Rattle.tla_parser.specs.declared.signs.Sign.TheVariants.{Number, Word, LeftParen, RightParen, LeftBracket, RightBracket, LeftBrace, LeftAngle, Comma, Colon, Dot, Bang, Defines, Arrow, MapsTo, BracketSub, Equals, Element, Square, ExistsSign, ChooseWord, IfWord, ThenWord, ElseWord, CaseWord, OtherWord, LetWord, InWord, LambdaWord, ExceptWord, FairWord, Wedge, Vee}
 use Rattle.tla_parser.specs.declared.moves.Construct.{Construct}
 use Rattle.tla_parser.specs.declared.moves.Class.{Class}
-use Rattle.tla_parser.specs.declared.moves.Class.TheVariants.{BareName, FoldName, Joined, Member, Other, PathName}
+use Rattle.tla_parser.specs.declared.moves.Class.TheVariants.{BareName, FoldName, Joined, Member, Other, PathName, Tuple, TupleMember}
 use Rattle.tla_parser.specs.declared.moves.Mark.{Mark}
 use Rattle.tla_parser.specs.declared.moves.Mark.TheVariants.{ArgumentName, BangName, BehindArgument, BehindBoundName, BehindChosen, BehindFoldFirst, BehindFoldSecond, BehindLocalArgument, BehindMapped, BehindOther, BehindParameter, BehindQuantified, BehindSetName, BehindStep, BehindValueName, Bullets, ChoiceBody, ChosenName, FairOpens, FairSubscript, FieldName, FoldFirst, FoldSecond, InArgumentSet, InArm, InBound, InBracket, InCall, InChoiceSet, InDefinition, InElse, InFair, InFairParen, InFairTuple, InFieldSet, InFieldValue, InFilter, InFold, InFoldBody, InFoldSequence, InFoldStart, InFunctionBody, InGuard, InIf, InIndex, InItems, InLocalSet, InMappedSet, InMoreFair, InMoreItems, InMoreSubscript, InMoreTuple, InNextGuard, InOther, InParen, InResultSet, InSubscriptParen, InSubscriptTuple, InThen, InTuple, InUpdateIndex, InUpdateValue, LocalArgument, LocalBody, LocalDefines, LocalHead, LocalName, LocalParameter, MappedName, NextBoundName, QuantifiedName, QuantifierBody, SetName, Subscript, UpdateBang, UpdateField, UpdatePath, ValueName}
 use Rattle.tla_parser.specs.declared.moves.Next.{Next}
@@ -329,6 +329,16 @@ unfolding all_open
 postfix_law_Member Number = refl
 postfix_law_Member _ = refl
 
+postfix_law_Tuple : (s : Sign) → behind_all (a_token s) (behind_all (an_operand Tuple) templates) ≡ left_of (found s (postfixes Tuple))
+unfolding all_open
+postfix_law_Tuple Number = refl
+postfix_law_Tuple _ = refl
+
+postfix_law_TupleMember : (s : Sign) → behind_all (a_token s) (behind_all (an_operand TupleMember) templates) ≡ left_of (found s (postfixes TupleMember))
+unfolding all_open
+postfix_law_TupleMember Number = refl
+postfix_law_TupleMember _ = refl
+
 postfix_law_Joined : (s j : Sign) → behind_all (a_token s) (behind_all (an_operand (Joined j)) templates) ≡ left_of (found s (postfixes (Joined j)))
 unfolding all_open
 postfix_law_Joined Number j = refl
@@ -341,6 +351,8 @@ postfix_law s FoldName = postfix_law_FoldName s
 postfix_law s Other = postfix_law_Other s
 postfix_law s Member = postfix_law_Member s
 postfix_law s (Joined j) = postfix_law_Joined s j
+postfix_law s Tuple = postfix_law_Tuple s
+postfix_law s TupleMember = postfix_law_TupleMember s
 
 pub heads_FairSubscript : (s : Sign) → behind_all (a_token s) (residue FairSubscript) ≡ left_of (found s (heads FairSubscript))
 unfolding all_open

@@ -6,7 +6,7 @@ use Rattle.tla_parser.specs.Forms.{a_token, an_operand, templates}
 use Rattle.tla_parser.specs.declared.signs.Sign.{Sign}
 use Rattle.tla_parser.specs.declared.signs.Sign.TheVariants.{Number}
 use Rattle.tla_parser.specs.declared.moves.Class.{Class}
-use Rattle.tla_parser.specs.declared.moves.Class.TheVariants.{BareName, FoldName, Joined, Member, Other, PathName}
+use Rattle.tla_parser.specs.declared.moves.Class.TheVariants.{BareName, FoldName, Joined, Member, Other, PathName, Tuple, TupleMember}
 use Rattle.tla_parser.specs.declared.moves.Mark.{Mark}
 use Rattle.tla_parser.specs.declared.moves.Mark.TheVariants.{ArgumentName, AtTop, BangName, BehindArgument, BehindArity, BehindBlank, BehindBoundName, BehindChosen, BehindDeclared, BehindExtended, BehindFoldFirst, BehindFoldSecond, BehindHeader, BehindInstance, BehindLocalArgument, BehindMapped, BehindOther, BehindParameter, BehindQuantified, BehindRecursive, BehindSetName, BehindStep, BehindSubstituted, BehindUnitArgument, BehindUnitParameter, BehindValueName, BetweenUnits, Bullets, ChoiceBody, ChosenName, DeclaredName, ExtendedName, FairOpens, FairSubscript, FieldName, Finished, FoldFirst, FoldSecond, InArgumentSet, InArm, InAssumption, InBody, InBound, InBracket, InCall, InChoiceSet, InDefinition, InElse, InFair, InFairParen, InFairTuple, InFieldSet, InFieldValue, InFilter, InFold, InFoldBody, InFoldSequence, InFoldStart, InFunctionBody, InGuard, InIf, InIndex, InItems, InLocalSet, InMappedSet, InMoreFair, InMoreItems, InMoreSubscript, InMoreTuple, InNamedAssumption, InNamedStatement, InNextGuard, InOther, InParen, InPlainBody, InReplacement, InResultSet, InStatement, InSubscriptParen, InSubscriptTuple, InThen, InTuple, InUnitSet, InUpdateIndex, InUpdateValue, InstanceName, LocalArgument, LocalBody, LocalDefines, LocalHead, LocalName, LocalParameter, LocalUnit, MappedName, ModuleHead, ModuleName, ModuleNamed, NextBoundName, QuantifiedName, QuantifierBody, RecursiveBlank, RecursiveName, SetName, Subscript, Substituted, UnitArgument, UnitDefines, UnitHead, UnitParameter, UpdateBang, UpdateField, UpdatePath, ValueName}
 use Rattle.tla_parser.specs.declared.moves.Next.TheVariants.{Reads, Wants, Last}
@@ -51,6 +51,16 @@ unfolding all_open
 rows_InItems_Member Number = refl
 rows_InItems_Member _ = refl
 
+rows_InItems_Tuple : (s : Sign) → behind_all (a_token s) (behind_all (an_operand Tuple) (residue InItems)) ≡ left_of (found s (rows InItems Tuple))
+unfolding all_open
+rows_InItems_Tuple Number = refl
+rows_InItems_Tuple _ = refl
+
+rows_InItems_TupleMember : (s : Sign) → behind_all (a_token s) (behind_all (an_operand TupleMember) (residue InItems)) ≡ left_of (found s (rows InItems TupleMember))
+unfolding all_open
+rows_InItems_TupleMember Number = refl
+rows_InItems_TupleMember _ = refl
+
 rows_InItems_Joined : (s j : Sign) → behind_all (a_token s) (behind_all (an_operand (Joined j)) (residue InItems)) ≡ left_of (found s (rows InItems (Joined j)))
 unfolding all_open
 rows_InItems_Joined Number j = refl
@@ -63,6 +73,8 @@ rows_InItems s FoldName = rows_InItems_FoldName s
 rows_InItems s Other = rows_InItems_Other s
 rows_InItems s Member = rows_InItems_Member s
 rows_InItems s (Joined j) = rows_InItems_Joined s j
+rows_InItems s Tuple = rows_InItems_Tuple s
+rows_InItems s TupleMember = rows_InItems_TupleMember s
 
 insteads_InItems : (s : Sign) → behind_all (a_token s) (residue InItems) ≡ left_of (found s (insteads InItems))
 unfolding all_open
@@ -94,6 +106,16 @@ unfolding all_open
 rows_InBracket_Member Number = refl
 rows_InBracket_Member _ = refl
 
+rows_InBracket_Tuple : (s : Sign) → behind_all (a_token s) (behind_all (an_operand Tuple) (residue InBracket)) ≡ left_of (found s (rows InBracket Tuple))
+unfolding all_open
+rows_InBracket_Tuple Number = refl
+rows_InBracket_Tuple _ = refl
+
+rows_InBracket_TupleMember : (s : Sign) → behind_all (a_token s) (behind_all (an_operand TupleMember) (residue InBracket)) ≡ left_of (found s (rows InBracket TupleMember))
+unfolding all_open
+rows_InBracket_TupleMember Number = refl
+rows_InBracket_TupleMember _ = refl
+
 rows_InBracket_Joined : (s j : Sign) → behind_all (a_token s) (behind_all (an_operand (Joined j)) (residue InBracket)) ≡ left_of (found s (rows InBracket (Joined j)))
 unfolding all_open
 rows_InBracket_Joined Number j = refl
@@ -106,6 +128,8 @@ rows_InBracket s FoldName = rows_InBracket_FoldName s
 rows_InBracket s Other = rows_InBracket_Other s
 rows_InBracket s Member = rows_InBracket_Member s
 rows_InBracket s (Joined j) = rows_InBracket_Joined s j
+rows_InBracket s Tuple = rows_InBracket_Tuple s
+rows_InBracket s TupleMember = rows_InBracket_TupleMember s
 
 insteads_InBracket : (s : Sign) → behind_all (a_token s) (residue InBracket) ≡ left_of (found s (insteads InBracket))
 unfolding all_open
@@ -187,6 +211,16 @@ unfolding all_open
 rows_InFold_Member Number = refl
 rows_InFold_Member _ = refl
 
+rows_InFold_Tuple : (s : Sign) → behind_all (a_token s) (behind_all (an_operand Tuple) (residue InFold)) ≡ left_of (found s (rows InFold Tuple))
+unfolding all_open
+rows_InFold_Tuple Number = refl
+rows_InFold_Tuple _ = refl
+
+rows_InFold_TupleMember : (s : Sign) → behind_all (a_token s) (behind_all (an_operand TupleMember) (residue InFold)) ≡ left_of (found s (rows InFold TupleMember))
+unfolding all_open
+rows_InFold_TupleMember Number = refl
+rows_InFold_TupleMember _ = refl
+
 rows_InFold_Joined : (s j : Sign) → behind_all (a_token s) (behind_all (an_operand (Joined j)) (residue InFold)) ≡ left_of (found s (rows InFold (Joined j)))
 unfolding all_open
 rows_InFold_Joined Number j = refl
@@ -199,6 +233,8 @@ rows_InFold s FoldName = rows_InFold_FoldName s
 rows_InFold s Other = rows_InFold_Other s
 rows_InFold s Member = rows_InFold_Member s
 rows_InFold s (Joined j) = rows_InFold_Joined s j
+rows_InFold s Tuple = rows_InFold_Tuple s
+rows_InFold s TupleMember = rows_InFold_TupleMember s
 
 insteads_InFold : (s : Sign) → behind_all (a_token s) (residue InFold) ≡ left_of (found s (insteads InFold))
 unfolding all_open

@@ -1,13 +1,13 @@
 -- The forms of expressions, and of a module, as templates of tokens and operands. Source: Specifying Systems, sections
 -- 15.1, 16.1 and 17.
-use Rattle.std.specs.Prelude.{Bool, true, false, not, ◌≡◌, ◌⊎◌, List, [], ◌∷◌, ◌++◌}
+use Rattle.std.specs.Prelude.{Bool, true, false, ◌≡◌, ◌⊎◌, List, [], ◌∷◌, ◌++◌}
 use Rattle.tla_parser.specs.Operators.{same_sign}
 use Rattle.tla_parser.specs.declared.signs.Sign.{Sign}
 use Rattle.tla_parser.specs.declared.signs.Sign.TheVariants.{Number, Quotation, Word, FoldWord, TrueWord, FalseWord, BooleanWord, StringWord, At, LeftParen, RightParen, LeftBracket, RightBracket, LeftBrace, RightBrace, LeftAngle, RightAngle, Comma, Colon, Dot, Bang, Tick, Defines, Arrow, MapsTo, BracketSub, AngleSub, Equals, Element, Square, Wedge, Vee, ExistsSign, ForallSign, ChooseWord, IfWord, ThenWord, ElseWord, CaseWord, OtherWord, LetWord, InWord, LambdaWord, ExceptWord, FairWord, Underscore, Replaces, Dashes, EndSign, ModuleWord, ExtendsWord, VariableWord, ConstantWord, AssumeWord, TheoremWord, InstanceWord, WithWord, RecursiveWord, LocalWord}
 use Rattle.tla_parser.specs.declared.moves.Construct.{Construct}
 use Rattle.tla_parser.specs.declared.moves.Construct.TheVariants.{NumberLiteral, TextLiteral, TrueLiteral, FalseLiteral, Booleans, Strings, OldValue, NameUse, FoldUse, Parenthesis, Enumeration, Filter, Mapping, FunctionSet, Function, RecordValue, RecordSet, Exception, SquareAction, TupleValue, Fairness, Call, FoldCall, Application, FieldAccess, Primed, Instanced, Quantifier, Choice, Conditional, Cases, CasesOther, Local, Junction}
 use Rattle.tla_parser.specs.declared.moves.Class.{Class}
-use Rattle.tla_parser.specs.declared.moves.Class.TheVariants.{Other, BareName, FoldName, PathName, Member, Joined}
+use Rattle.tla_parser.specs.declared.moves.Class.TheVariants.{Other, BareName, FoldName, PathName, Member, Joined, Tuple, TupleMember}
 
 -- a part of a form
 pub data FormPart : Type 0 where
@@ -62,6 +62,8 @@ is_bare FoldName = false
 is_bare Other = false
 is_bare Member = false
 is_bare (Joined s) = false
+is_bare Tuple = false
+is_bare TupleMember = false
 
 abbrev pub is_called : Class → Bool
 is_called BareName = true
@@ -70,6 +72,8 @@ is_called FoldName = false
 is_called Other = false
 is_called Member = false
 is_called (Joined s) = false
+is_called Tuple = false
+is_called TupleMember = false
 
 abbrev pub is_fold : Class → Bool
 is_fold BareName = false
@@ -78,6 +82,8 @@ is_fold FoldName = true
 is_fold Other = false
 is_fold Member = false
 is_fold (Joined s) = false
+is_fold Tuple = false
+is_fold TupleMember = false
 
 abbrev pub is_member : Class → Bool
 is_member BareName = false
@@ -86,13 +92,23 @@ is_member FoldName = false
 is_member Other = false
 is_member Member = true
 is_member (Joined s) = false
+is_member Tuple = false
+is_member TupleMember = false
+
+-- a mapping may apply it: `x \in S` is a filter's, and `<<x>> \in S` would be
+abbrev pub is_mapped : Class → Bool
+is_mapped BareName = true
+is_mapped PathName = true
+is_mapped FoldName = true
+is_mapped Other = true
+is_mapped Member = false
+is_mapped (Joined s) = true
+is_mapped Tuple = true
+is_mapped TupleMember = false
 
 abbrev pub of_class : (Class → Bool) → FormPart → Bool
 of_class p (a_token t) = false
 of_class p (an_operand c) = p c
-
-abbrev pub no_member : Class → Bool
-no_member c = not (is_member c)
 
 -- a token, any expression, a name, x \in S
 abbrev pub tk : Sign → Form
@@ -108,7 +124,7 @@ abbrev pub member_expr : Form
 member_expr = one (of_class is_member)
 
 abbrev pub other_expr : Form
-other_expr = one (of_class no_member)
+other_expr = one (of_class is_mapped)
 
 -- one behind another
 abbrev pub run_of : List Form → Form

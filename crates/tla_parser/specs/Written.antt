@@ -6,9 +6,9 @@ use Rattle.tla_parser.specs.Forms.{FormPart, a_token, an_operand}
 use Rattle.tla_parser.specs.Operators.{same_sign}
 use Rattle.tla_parser.specs.Signs.{column, sign}
 use Rattle.tla_parser.specs.declared.moves.Class.{Class}
-use Rattle.tla_parser.specs.declared.moves.Class.TheVariants.{BareName, FoldName, Joined, Member, Other, PathName}
+use Rattle.tla_parser.specs.declared.moves.Class.TheVariants.{BareName, FoldName, Joined, Member, Other, PathName, Tuple, TupleMember}
 use Rattle.tla_parser.specs.declared.moves.Construct.{Construct}
-use Rattle.tla_parser.specs.declared.moves.Construct.TheVariants.{FoldUse, Instanced, NameUse, Parenthesis}
+use Rattle.tla_parser.specs.declared.moves.Construct.TheVariants.{FoldUse, Instanced, NameUse, Parenthesis, TupleValue}
 use Rattle.tla_parser.specs.declared.signs.Sign.{Sign}
 use Rattle.tla_parser.specs.declared.signs.Sign.TheVariants.{Element, Times, Vee, Wedge}
 
@@ -56,6 +56,7 @@ unfoldable pub class_of : Construct → Class
 class_of NameUse = BareName
 class_of FoldUse = FoldName
 class_of Instanced = PathName
+class_of TupleValue = Tuple
 class_of _ = Other
 
 -- what an infix operator makes of a left operand
@@ -66,6 +67,8 @@ member FoldName = Other
 member Other = Other
 member Member = Other
 member (Joined s) = Other
+member Tuple = TupleMember
+member TupleMember = Other
 
 unfoldable pub class_infix : Class → Sign → Class
 class_infix c Element = member c
@@ -82,6 +85,8 @@ continues BareName t = false
 continues FoldName t = false
 continues PathName t = false
 continues Member t = false
+continues Tuple t = false
+continues TupleMember t = false
 
 abbrev pub class : Written → Class
 class (closed c ps) = class_of c

@@ -65,6 +65,9 @@ pub enum Class {
     Member,
     /// A chain of this operator, which goes on with it.
     Joined(Sign),
+    Tuple,
+    /// `<<x>> \in S`
+    TupleMember,
 }
 
 /// Where in a form one is.

@@ -78,6 +78,7 @@ pub(crate) fn braced(class: Class) -> Next
 {
     match class {
         Class::Member => Next::Wants(Mark::InFilter),
+        Class::TupleMember => Next::Fail,
         _ => Next::Reads(Mark::MappedName),
     }
 }
@@ -178,6 +179,7 @@ pub(crate) fn class_of(construct: Construct) -> Class
         Construct::NameUse => Class::BareName,
         Construct::FoldUse => Class::FoldName,
         Construct::Instanced => Class::PathName,
+        Construct::TupleValue => Class::Tuple,
         _ => Class::Other,
     }
 }
@@ -201,6 +203,7 @@ fn member(class: Class) -> Class
 {
     match class {
         Class::BareName => Class::Member,
+        Class::Tuple => Class::TupleMember,
         _ => Class::Other,
     }
 }

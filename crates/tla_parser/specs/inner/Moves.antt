@@ -3,7 +3,7 @@
 use Rattle.std.specs.Prelude.{ℕ, Bool, true, false, cond, List, ◌∷◌, ◌&&◌, ◌==◌, []}
 use Rattle.tla_parser.specs.Operators.{is_bullet, same_sign}
 use Rattle.tla_parser.specs.declared.moves.Class.{Class}
-use Rattle.tla_parser.specs.declared.moves.Class.TheVariants.{BareName, FoldName, Joined, Member, Other, PathName}
+use Rattle.tla_parser.specs.declared.moves.Class.TheVariants.{BareName, FoldName, Joined, Member, Other, PathName, Tuple, TupleMember}
 use Rattle.tla_parser.specs.declared.moves.Construct.{Construct}
 use Rattle.tla_parser.specs.declared.moves.Construct.TheVariants.{Application, Booleans, Call, Cases, CasesOther, Choice, Conditional, Enumeration, Exception, Fairness, FalseLiteral, FieldAccess, Filter, FoldCall, FoldUse, Function, FunctionSet, Instanced, Junction, Local, Mapping, NameUse, NumberLiteral, OldValue, Parenthesis, Primed, Quantifier, RecordSet, RecordValue, SquareAction, Strings, TextLiteral, TrueLiteral, TupleValue}
 use Rattle.tla_parser.specs.declared.moves.Mark.{Mark}
@@ -60,6 +60,8 @@ calls FoldName = Wants InFold
 calls Other = Fail
 calls Member = Fail
 calls (Joined s) = Fail
+calls Tuple = Fail
+calls TupleMember = Fail
 
 abbrev pub of_name : Class → Next → Next
 of_name BareName n = n
@@ -68,13 +70,15 @@ of_name FoldName n = Fail
 of_name Other n = Fail
 of_name Member n = Fail
 of_name (Joined s) n = Fail
+of_name Tuple n = Fail
+of_name TupleMember n = Fail
 
 unfoldable pub postfixes : Class → List Row
 postfixes c =
     on Tick (Shut Primed) ∷ on LeftBracket (Wants InIndex) ∷ on Dot (Reads FieldName) ∷ on LeftParen (calls c)
     ∷ on Bang (of_name c (Reads BangName)) ∷ []
 
--- `:` behind the first operand in braces
+-- `:` behind the first operand in braces; a tuple before `\in` is a pattern, as a name is
 abbrev pub braced : Class → Next
 braced Member = Wants InFilter
 braced BareName = Reads MappedName
@@ -82,6 +86,8 @@ braced PathName = Reads MappedName
 braced FoldName = Reads MappedName
 braced Other = Reads MappedName
 braced (Joined s) = Reads MappedName
+braced Tuple = Reads MappedName
+braced TupleMember = Fail
 
 -- `|->` behind the first operand in brackets
 abbrev pub mapped : Class → Next
@@ -91,6 +97,8 @@ mapped PathName = Fail
 mapped FoldName = Fail
 mapped Other = Fail
 mapped (Joined s) = Fail
+mapped Tuple = Fail
+mapped TupleMember = Fail
 
 -- `,` behind the first operand in brackets
 abbrev pub bracketed : Class → Next
@@ -100,6 +108,8 @@ bracketed PathName = Fail
 bracketed FoldName = Fail
 bracketed Other = Fail
 bracketed (Joined s) = Fail
+bracketed Tuple = Fail
+bracketed TupleMember = Fail
 
 -- behind the first operand in braces
 unfoldable pub in_braces : Class → List Row
