@@ -201,6 +201,8 @@ IF a THEN b ELSE c  => (if@1 a@4 b@11 c@18)
 \E x \in S : p  => (exists@1 [ x ] S@10 p@14)
 /\ a;/\ b  => (and@1 a@4 b@4)
 LET f[i \in S] == i IN f  => (let@1 f/0 (fun@6 [ i ] S@13 i@19) f@24)
+ApaFoldSeqLeft(Op, 0, s)  => (fold@1 Op@16 0@20 s@23)
+ApaFoldSeqLeft(LAMBDA a, b : a + b, 0, s)  => (fold@1 [ a b ] (add@32 a@30 b@34) 0@37 s@40)
 "#;
 
 pub(crate) const REFUSALS: &str = r#"  => grammar 2:1

@@ -20,6 +20,7 @@ pub(crate) const FAULTS: &str = r#"---- MODULE M ----;A == 1;B == (;C == 3;==== 
 ---- MODULE M ---- EXTENDS Naturals, 5;====  => grammar 1:36
 ---- MODULE 5 ----;A == 1;====  => grammar 1:1
 ---- MODULE M ----;A == 1;B == [a |-> 1, a |-> 2];C == 3;====  => grammar 3:1
+---- MODULE M ----;A == ApaFoldSeqLeft(1, 2;====  => grammar 2:1
 "#;
 
 /// The first unit with more than 400 levels, where all are whole.

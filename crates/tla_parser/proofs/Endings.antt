@@ -5,11 +5,11 @@ use Rattle.tla_parser.proofs.Templates.{can_end}
 use Rattle.tla_parser.specs.Forms.{FormPart, Template, a_token, an_operand, templates}
 use Rattle.tla_parser.specs.Operators.{is_bullet, number_of}
 use Rattle.tla_parser.specs.declared.moves.Class.{Class}
-use Rattle.tla_parser.specs.declared.moves.Class.TheVariants.{BareName, Joined, Other}
+use Rattle.tla_parser.specs.declared.moves.Class.TheVariants.{Joined, Other}
 use Rattle.tla_parser.specs.declared.moves.Construct.{Construct}
 use Rattle.tla_parser.specs.declared.moves.Construct.TheVariants.{Junction}
 use Rattle.tla_parser.specs.declared.moves.Mark.{Mark}
-use Rattle.tla_parser.specs.declared.moves.Mark.TheVariants.{ArgumentName, BangName, BehindArgument, BehindBoundName, BehindChosen, BehindFoldFirst, BehindFoldSecond, BehindLocalArgument, BehindMapped, BehindOther, BehindParameter, BehindQuantified, BehindSetName, BehindStep, BehindValueName, Bullets, ChoiceBody, ChosenName, FairOpens, FairSubscript, FieldName, FoldFirst, FoldSecond, InArgumentSet, InArm, InBound, InBracket, InCall, InChoiceSet, InDefinition, InElse, InFair, InFairParen, InFairTuple, InFieldSet, InFieldValue, InFilter, InFold, InFoldBody, InFoldSequence, InFoldStart, InFunctionBody, InGuard, InIf, InIndex, InItems, InLocalSet, InMappedSet, InMoreFair, InMoreItems, InMoreSubscript, InMoreTuple, InNextGuard, InOther, InParen, InResultSet, InSubscriptParen, InSubscriptTuple, InThen, InTuple, InUpdateIndex, InUpdateValue, LocalArgument, LocalBody, LocalDefines, LocalHead, LocalName, LocalParameter, MappedName, NextBoundName, QuantifiedName, QuantifierBody, SetName, Subscript, UpdateBang, UpdateField, UpdatePath, ValueName}
+use Rattle.tla_parser.specs.declared.moves.Mark.TheVariants.{ArgumentName, BangName, BehindArgument, BehindBoundName, BehindChosen, BehindFoldFirst, BehindFoldOperator, BehindFoldSecond, BehindLocalArgument, BehindMapped, BehindOther, BehindParameter, BehindQuantified, BehindSetName, BehindStep, BehindValueName, Bullets, ChoiceBody, ChosenName, FairOpens, FairSubscript, FieldName, FoldFirst, FoldOperator, FoldSecond, InArgumentSet, InArm, InBound, InBracket, InCall, InChoiceSet, InDefinition, InElse, InFair, InFairParen, InFairTuple, InFieldSet, InFieldValue, InFilter, InFoldBody, InFoldSequence, InFoldStart, InFunctionBody, InGuard, InIf, InIndex, InItems, InLocalSet, InMappedSet, InMoreFair, InMoreItems, InMoreSubscript, InMoreTuple, InNextGuard, InOther, InParen, InResultSet, InSubscriptParen, InSubscriptTuple, InThen, InTuple, InUpdateIndex, InUpdateValue, LocalArgument, LocalBody, LocalDefines, LocalHead, LocalName, LocalParameter, MappedName, NextBoundName, QuantifiedName, QuantifierBody, SetName, Subscript, UpdateBang, UpdateField, UpdatePath, ValueName}
 use Rattle.tla_parser.specs.declared.moves.Next.TheVariants.{Wants}
 use Rattle.tla_parser.specs.declared.signs.Sign.{Sign}
 use Rattle.tla_parser.specs.declared.signs.Sign.TheVariants.{Arrow, Bang, Colon, Comma, Defines, Dot, Element, ElseWord, Equals, InWord, LeftParen, MapsTo, RightAngle, RightBrace, RightBracket, RightParen, ThenWord, Vee, Wedge, Word}
@@ -66,11 +66,6 @@ unfolding all_open
 wants_InBracket (Joined s) = refl
 wants_InBracket _ = refl
 
-wants_InFold : (k : Class) → ending (behind_all (an_operand k) (residue InFold)) ≡ []
-unfolding all_open
-wants_InFold (Joined s) = refl
-wants_InFold _ = refl
-
 -- no form ends where it goes on behind an operand
 pub wants_end : (m : Mark) (k : Class) → ending (behind_all (an_operand k) (left_of (Wants m))) ≡ []
 unfolding all_open
@@ -82,7 +77,6 @@ wants_end InIf k = refl
 wants_end InGuard k = refl
 wants_end InIndex k = refl
 wants_end InCall k = refl
-wants_end InFold k = wants_InFold k
 wants_end InMoreItems k = refl
 wants_end InFilter k = refl
 wants_end InResultSet k = refl
@@ -128,6 +122,8 @@ finish FairOpens = a_token LeftParen ∷ an_operand Other ∷ a_token RightParen
 finish BehindQuantified = a_token Colon ∷ an_operand Other ∷ []
 finish BehindChosen = a_token Colon ∷ an_operand Other ∷ []
 finish LocalHead = a_token Defines ∷ an_operand Other ∷ a_token InWord ∷ an_operand Other ∷ []
+finish FoldOperator = a_token Word ∷ a_token Comma ∷ an_operand Other ∷ a_token Comma ∷ an_operand Other ∷ a_token RightParen ∷ []
+finish BehindFoldOperator = a_token Comma ∷ an_operand Other ∷ a_token Comma ∷ an_operand Other ∷ a_token RightParen ∷ []
 finish FoldFirst = a_token Word ∷ a_token Comma ∷ a_token Word ∷ a_token Colon ∷ an_operand Other ∷ a_token Comma ∷ an_operand Other ∷ a_token Comma ∷ an_operand Other ∷ a_token RightParen ∷ []
 finish BehindMapped = a_token Element ∷ an_operand Other ∷ a_token RightBrace ∷ []
 finish ValueName = a_token Word ∷ a_token MapsTo ∷ an_operand Other ∷ a_token RightBracket ∷ []
@@ -157,7 +153,6 @@ finish InIf = an_operand Other ∷ a_token ThenWord ∷ an_operand Other ∷ a_t
 finish InGuard = an_operand Other ∷ a_token Arrow ∷ an_operand Other ∷ []
 finish InIndex = an_operand Other ∷ a_token RightBracket ∷ []
 finish InCall = an_operand Other ∷ a_token RightParen ∷ []
-finish InFold = an_operand BareName ∷ a_token Comma ∷ an_operand Other ∷ a_token Comma ∷ an_operand Other ∷ a_token RightParen ∷ []
 finish InMoreItems = an_operand Other ∷ a_token RightBrace ∷ []
 finish InFilter = an_operand Other ∷ a_token RightBrace ∷ []
 finish InResultSet = an_operand Other ∷ a_token RightBracket ∷ []
@@ -213,6 +208,8 @@ reads_finish FairOpens h = refl
 reads_finish BehindQuantified h = refl
 reads_finish BehindChosen h = refl
 reads_finish LocalHead h = refl
+reads_finish FoldOperator h = refl
+reads_finish BehindFoldOperator h = refl
 reads_finish FoldFirst h = refl
 reads_finish BehindMapped h = refl
 reads_finish ValueName h = refl
@@ -246,7 +243,6 @@ wants_finish InIf h = refl
 wants_finish InGuard h = refl
 wants_finish InIndex h = refl
 wants_finish InCall h = refl
-wants_finish InFold h = refl
 wants_finish InMoreItems h = refl
 wants_finish InFilter h = refl
 wants_finish InResultSet h = refl

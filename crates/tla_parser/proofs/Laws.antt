@@ -8,7 +8,7 @@ use Rattle.tla_parser.specs.Signs.{column, sign}
 use Rattle.tla_parser.specs.declared.moves.Class.{Class}
 use Rattle.tla_parser.specs.declared.moves.Class.TheVariants.{BareName, FoldName, Joined, Member, Other, PathName, Tuple, TupleMember}
 use Rattle.tla_parser.specs.declared.moves.Mark.{Mark}
-use Rattle.tla_parser.specs.declared.moves.Mark.TheVariants.{Bullets, InAssumption, InBracket, InFold, InItems, InStatement}
+use Rattle.tla_parser.specs.declared.moves.Mark.TheVariants.{Bullets, InAssumption, InBracket, InItems, InStatement}
 use Rattle.tla_parser.specs.declared.moves.Next.{Next}
 use Rattle.tla_parser.specs.declared.moves.Next.TheVariants.{Fail, Last, Reads, Shut, Wants}
 use Rattle.tla_parser.specs.declared.moves.Seen.{Seen}
@@ -270,11 +270,6 @@ unfolding in_brackets in_units
 kept_bracket BareName = refl
 kept_bracket _ = refl
 
-kept_fold : (c : Class) → kept false (rows InFold c) ≡ true
-unfolding rows local_rows bracket_rows update_rows tuple_rows fair_rows fold_rows in_units
-kept_fold BareName = refl
-kept_fold _ = refl
-
 kept_assumption : (c : Class) → kept true (rows InAssumption c) ≡ true
 unfolding rows local_rows bracket_rows update_rows tuple_rows fair_rows fold_rows body_rows unit_rows in_units
 kept_assumption BareName = refl
@@ -290,7 +285,6 @@ unfolding rows local_rows bracket_rows update_rows tuple_rows fair_rows fold_row
 kept_rows (Bullets s n) c = refl
 kept_rows InItems c = kept_items c
 kept_rows InBracket c = kept_bracket c
-kept_rows InFold c = kept_fold c
 kept_rows InAssumption c = kept_assumption c
 kept_rows InStatement c = kept_statement c
 kept_rows _ c = refl

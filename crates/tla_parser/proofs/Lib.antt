@@ -16,6 +16,7 @@ pub mod FormLaw
 pub mod ModuleRows
 pub mod ModuleLaw
 pub mod ByTable
+pub mod Members
 pub mod Notes
 pub mod Top
 pub mod FieldLemmas

@@ -11,7 +11,7 @@ use Rattle.tla_parser.specs.Written.{Parts, exp, from, start, tok, top}
 use Rattle.tla_parser.specs.declared.moves.Class.{Class}
 use Rattle.tla_parser.specs.declared.moves.Class.TheVariants.{Joined}
 use Rattle.tla_parser.specs.declared.moves.Mark.{Mark}
-use Rattle.tla_parser.specs.declared.moves.Mark.TheVariants.{Bullets, InAssumption, InBracket, InFold, InItems, InStatement}
+use Rattle.tla_parser.specs.declared.moves.Mark.TheVariants.{Bullets, InAssumption, InBracket, InItems, InStatement}
 use Rattle.tla_parser.specs.declared.moves.Next.{Next}
 use Rattle.tla_parser.specs.declared.moves.Next.TheVariants.{Fail, Last, Reads, Shut, Wants}
 use Rattle.tla_parser.specs.declared.moves.Seen.{Seen}
@@ -76,11 +76,6 @@ unfolding all_open
 kinded_bracket (Joined s) = refl
 kinded_bracket _ = refl
 
-kinded_fold : (c : Class) → all_kinded (rows InFold c) ≡ true
-unfolding all_open
-kinded_fold (Joined s) = refl
-kinded_fold _ = refl
-
 kinded_assumption : (c : Class) → all_kinded (rows InAssumption c) ≡ true
 unfolding all_open
 kinded_assumption (Joined s) = refl
@@ -96,7 +91,6 @@ unfolding rows local_rows bracket_rows update_rows tuple_rows fair_rows fold_row
 kinded_rows (Bullets s n) c = refl
 kinded_rows InItems c = kinded_items c
 kinded_rows InBracket c = kinded_bracket c
-kinded_rows InFold c = kinded_fold c
 kinded_rows InAssumption c = kinded_assumption c
 kinded_rows InStatement c = kinded_statement c
 kinded_rows _ c = refl

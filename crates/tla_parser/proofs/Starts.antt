@@ -13,7 +13,7 @@ use Rattle.tla_parser.specs.declared.moves.Class.{Class}
 use Rattle.tla_parser.specs.declared.moves.Class.TheVariants.{BareName}
 use Rattle.tla_parser.specs.declared.moves.Construct.TheVariants.{NameUse}
 use Rattle.tla_parser.specs.declared.moves.Mark.{Mark}
-use Rattle.tla_parser.specs.declared.moves.Mark.TheVariants.{Bullets, InAssumption, InBody, InBracket, InDefinition, InFold, InItems, InNamedAssumption, InNamedStatement, InPlainBody, InReplacement, InStatement}
+use Rattle.tla_parser.specs.declared.moves.Mark.TheVariants.{Bullets, InAssumption, InBody, InBracket, InDefinition, InItems, InNamedAssumption, InNamedStatement, InPlainBody, InReplacement, InStatement}
 use Rattle.tla_parser.specs.declared.moves.Next.{Next}
 use Rattle.tla_parser.specs.declared.moves.Next.TheVariants.{Fail, Last, Reads, Shut, Wants}
 use Rattle.tla_parser.specs.declared.moves.Seen.{Seen}
@@ -103,7 +103,6 @@ unfolding all_open row_test
 row_each (Bullets s n) c h = cc
 row_each InItems c h = cc
 row_each InBracket c h = cc
-row_each InFold c h = cc
 row_each InAssumption c h = row_assumption c
 row_each InStatement c h = row_statement c
 row_each _ c h = refl
@@ -149,7 +148,6 @@ unfolding all_open last_test
 last_each (Bullets s n) c h = cc
 last_each InItems c h = cc
 last_each InBracket c h = cc
-last_each InFold c h = cc
 last_each InAssumption c h = cc
 last_each InStatement c h = cc
 last_each InDefinition c h = cc
@@ -165,7 +163,6 @@ unfolding all_open
 last_end (Bullets s n) c h = cc
 last_end InItems c h = cc
 last_end InBracket c h = cc
-last_end InFold c h = cc
 last_end InAssumption c h = cc
 last_end InStatement c h = cc
 last_end InBody c h = cc

@@ -10,7 +10,7 @@ use Rattle.tla_parser.specs.declared.moves.Construct.{Construct}
 use Rattle.tla_parser.specs.declared.moves.Class.{Class}
 use Rattle.tla_parser.specs.declared.moves.Class.TheVariants.{BareName, FoldName, Joined, Member, Other, PathName, Tuple, TupleMember}
 use Rattle.tla_parser.specs.declared.moves.Mark.{Mark}
-use Rattle.tla_parser.specs.declared.moves.Mark.TheVariants.{ArgumentName, BangName, BehindArgument, BehindBoundName, BehindChosen, BehindFoldFirst, BehindFoldSecond, BehindLocalArgument, BehindMapped, BehindOther, BehindParameter, BehindQuantified, BehindSetName, BehindStep, BehindValueName, Bullets, ChoiceBody, ChosenName, FairOpens, FairSubscript, FieldName, FoldFirst, FoldSecond, InArgumentSet, InArm, InBound, InBracket, InCall, InChoiceSet, InDefinition, InElse, InFair, InFairParen, InFairTuple, InFieldSet, InFieldValue, InFilter, InFold, InFoldBody, InFoldSequence, InFoldStart, InFunctionBody, InGuard, InIf, InIndex, InItems, InLocalSet, InMappedSet, InMoreFair, InMoreItems, InMoreSubscript, InMoreTuple, InNextGuard, InOther, InParen, InResultSet, InSubscriptParen, InSubscriptTuple, InThen, InTuple, InUpdateIndex, InUpdateValue, LocalArgument, LocalBody, LocalDefines, LocalHead, LocalName, LocalParameter, MappedName, NextBoundName, QuantifiedName, QuantifierBody, SetName, Subscript, UpdateBang, UpdateField, UpdatePath, ValueName}
+use Rattle.tla_parser.specs.declared.moves.Mark.TheVariants.{ArgumentName, BangName, BehindArgument, BehindBoundName, BehindChosen, BehindFoldFirst, BehindFoldOperator, BehindFoldSecond, BehindLocalArgument, BehindMapped, BehindOther, BehindParameter, BehindQuantified, BehindSetName, BehindStep, BehindValueName, Bullets, ChoiceBody, ChosenName, FairOpens, FairSubscript, FieldName, FoldFirst, FoldOperator, FoldSecond, InArgumentSet, InArm, InBound, InBracket, InCall, InChoiceSet, InDefinition, InElse, InFair, InFairParen, InFairTuple, InFieldSet, InFieldValue, InFilter, InFoldBody, InFoldSequence, InFoldStart, InFunctionBody, InGuard, InIf, InIndex, InItems, InLocalSet, InMappedSet, InMoreFair, InMoreItems, InMoreSubscript, InMoreTuple, InNextGuard, InOther, InParen, InResultSet, InSubscriptParen, InSubscriptTuple, InThen, InTuple, InUpdateIndex, InUpdateValue, LocalArgument, LocalBody, LocalDefines, LocalHead, LocalName, LocalParameter, MappedName, NextBoundName, QuantifiedName, QuantifierBody, SetName, Subscript, UpdateBang, UpdateField, UpdatePath, ValueName}
 use Rattle.tla_parser.specs.declared.moves.Next.{Next}
 use Rattle.tla_parser.specs.declared.moves.Next.TheVariants.{Reads, Wants, Last, Shut, Fail}
 use Rattle.tla_parser.specs.declared.moves.Seen.{Seen}
@@ -43,7 +43,8 @@ way LocalName = a_token LetWord ∷ []
 way InIndex = an_operand Other ∷ a_token LeftBracket ∷ []
 way FieldName = an_operand Other ∷ a_token Dot ∷ []
 way InCall = an_operand BareName ∷ a_token LeftParen ∷ []
-way InFold = an_operand FoldName ∷ a_token LeftParen ∷ []
+way FoldOperator = an_operand FoldName ∷ a_token LeftParen ∷ []
+way BehindFoldOperator = an_operand FoldName ∷ a_token LeftParen ∷ a_token Word ∷ []
 way BangName = an_operand BareName ∷ a_token Bang ∷ []
 way InMoreItems = a_token LeftBrace ∷ an_operand Other ∷ a_token Comma ∷ []
 way InFilter = a_token LeftBrace ∷ an_operand Member ∷ a_token Colon ∷ []
@@ -65,7 +66,7 @@ way InThen = a_token IfWord ∷ an_operand Other ∷ a_token ThenWord ∷ []
 way InArm = a_token CaseWord ∷ an_operand Other ∷ a_token Arrow ∷ []
 way LocalHead = a_token LetWord ∷ a_token Word ∷ []
 way FoldFirst = an_operand FoldName ∷ a_token LeftParen ∷ a_token LambdaWord ∷ []
-way InFoldStart = an_operand FoldName ∷ a_token LeftParen ∷ an_operand BareName ∷ a_token Comma ∷ []
+way InFoldStart = an_operand FoldName ∷ a_token LeftParen ∷ a_token Word ∷ a_token Comma ∷ []
 way BehindMapped = a_token LeftBrace ∷ an_operand Other ∷ a_token Colon ∷ a_token Word ∷ []
 way ValueName = a_token LeftBracket ∷ an_operand BareName ∷ a_token MapsTo ∷ an_operand Other ∷ a_token Comma ∷ []
 way BehindArgument = a_token LeftBracket ∷ an_operand Member ∷ a_token Comma ∷ a_token Word ∷ []
@@ -85,7 +86,7 @@ way InDefinition = a_token LetWord ∷ a_token Word ∷ a_token Defines ∷ []
 way LocalParameter = a_token LetWord ∷ a_token Word ∷ a_token LeftParen ∷ []
 way LocalArgument = a_token LetWord ∷ a_token Word ∷ a_token LeftBracket ∷ []
 way BehindFoldFirst = an_operand FoldName ∷ a_token LeftParen ∷ a_token LambdaWord ∷ a_token Word ∷ []
-way InFoldSequence = an_operand FoldName ∷ a_token LeftParen ∷ an_operand BareName ∷ a_token Comma ∷ an_operand Other ∷ a_token Comma ∷ []
+way InFoldSequence = an_operand FoldName ∷ a_token LeftParen ∷ a_token Word ∷ a_token Comma ∷ an_operand Other ∷ a_token Comma ∷ []
 way InMappedSet = a_token LeftBrace ∷ an_operand Other ∷ a_token Colon ∷ a_token Word ∷ a_token Element ∷ []
 way BehindValueName = a_token LeftBracket ∷ an_operand BareName ∷ a_token MapsTo ∷ an_operand Other ∷ a_token Comma ∷ a_token Word ∷ []
 way InArgumentSet = a_token LeftBracket ∷ an_operand Member ∷ a_token Comma ∷ a_token Word ∷ a_token Element ∷ []
@@ -123,7 +124,8 @@ residue LocalName = along (way LocalName) templates
 residue InIndex = along (way InIndex) templates
 residue FieldName = along (way FieldName) templates
 residue InCall = along (way InCall) templates
-residue InFold = along (way InFold) templates
+residue FoldOperator = along (way FoldOperator) templates
+residue BehindFoldOperator = along (way BehindFoldOperator) templates
 residue BangName = along (way BangName) templates
 residue InMoreItems = along (way InMoreItems) templates
 residue InFilter = along (way InFilter) templates
@@ -214,6 +216,8 @@ is_reading FairOpens = true
 is_reading BehindQuantified = true
 is_reading BehindChosen = true
 is_reading LocalHead = true
+is_reading FoldOperator = true
+is_reading BehindFoldOperator = true
 is_reading FoldFirst = true
 is_reading BehindMapped = true
 is_reading ValueName = true
@@ -246,7 +250,6 @@ is_wanting InIf = true
 is_wanting InGuard = true
 is_wanting InIndex = true
 is_wanting InCall = true
-is_wanting InFold = true
 is_wanting InMoreItems = true
 is_wanting InFilter = true
 is_wanting InResultSet = true
@@ -423,6 +426,16 @@ pub heads_LocalHead : (s : Sign) → behind_all (a_token s) (residue LocalHead) 
 unfolding all_open
 heads_LocalHead Number = refl
 heads_LocalHead _ = refl
+
+pub heads_FoldOperator : (s : Sign) → behind_all (a_token s) (residue FoldOperator) ≡ left_of (found s (heads FoldOperator))
+unfolding all_open
+heads_FoldOperator Number = refl
+heads_FoldOperator _ = refl
+
+pub heads_BehindFoldOperator : (s : Sign) → behind_all (a_token s) (residue BehindFoldOperator) ≡ left_of (found s (heads BehindFoldOperator))
+unfolding all_open
+heads_BehindFoldOperator Number = refl
+heads_BehindFoldOperator _ = refl
 
 pub heads_FoldFirst : (s : Sign) → behind_all (a_token s) (residue FoldFirst) ≡ left_of (found s (heads FoldFirst))
 unfolding all_open

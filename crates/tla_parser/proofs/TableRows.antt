@@ -8,9 +8,9 @@ use Rattle.tla_parser.specs.declared.signs.Sign.TheVariants.{Number}
 use Rattle.tla_parser.specs.declared.moves.Class.{Class}
 use Rattle.tla_parser.specs.declared.moves.Class.TheVariants.{BareName, FoldName, Joined, Member, Other, PathName, Tuple, TupleMember}
 use Rattle.tla_parser.specs.declared.moves.Mark.{Mark}
-use Rattle.tla_parser.specs.declared.moves.Mark.TheVariants.{ArgumentName, AtTop, BangName, BehindArgument, BehindArity, BehindBlank, BehindBoundName, BehindChosen, BehindDeclared, BehindExtended, BehindFoldFirst, BehindFoldSecond, BehindHeader, BehindInstance, BehindLocalArgument, BehindMapped, BehindOther, BehindParameter, BehindQuantified, BehindRecursive, BehindSetName, BehindStep, BehindSubstituted, BehindUnitArgument, BehindUnitParameter, BehindValueName, BetweenUnits, Bullets, ChoiceBody, ChosenName, DeclaredName, ExtendedName, FairOpens, FairSubscript, FieldName, Finished, FoldFirst, FoldSecond, InArgumentSet, InArm, InAssumption, InBody, InBound, InBracket, InCall, InChoiceSet, InDefinition, InElse, InFair, InFairParen, InFairTuple, InFieldSet, InFieldValue, InFilter, InFold, InFoldBody, InFoldSequence, InFoldStart, InFunctionBody, InGuard, InIf, InIndex, InItems, InLocalSet, InMappedSet, InMoreFair, InMoreItems, InMoreSubscript, InMoreTuple, InNamedAssumption, InNamedStatement, InNextGuard, InOther, InParen, InPlainBody, InReplacement, InResultSet, InStatement, InSubscriptParen, InSubscriptTuple, InThen, InTuple, InUnitSet, InUpdateIndex, InUpdateValue, InstanceName, LocalArgument, LocalBody, LocalDefines, LocalHead, LocalName, LocalParameter, LocalUnit, MappedName, ModuleHead, ModuleName, ModuleNamed, NextBoundName, QuantifiedName, QuantifierBody, RecursiveBlank, RecursiveName, SetName, Subscript, Substituted, UnitArgument, UnitDefines, UnitHead, UnitParameter, UpdateBang, UpdateField, UpdatePath, ValueName}
+use Rattle.tla_parser.specs.declared.moves.Mark.TheVariants.{ArgumentName, AtTop, BangName, BehindArgument, BehindArity, BehindBlank, BehindBoundName, BehindChosen, BehindDeclared, BehindExtended, BehindFoldFirst, BehindFoldOperator, BehindFoldSecond, BehindHeader, BehindInstance, BehindLocalArgument, BehindMapped, BehindOther, BehindParameter, BehindQuantified, BehindRecursive, BehindSetName, BehindStep, BehindSubstituted, BehindUnitArgument, BehindUnitParameter, BehindValueName, BetweenUnits, Bullets, ChoiceBody, ChosenName, DeclaredName, ExtendedName, FairOpens, FairSubscript, FieldName, Finished, FoldFirst, FoldOperator, FoldSecond, InArgumentSet, InArm, InAssumption, InBody, InBound, InBracket, InCall, InChoiceSet, InDefinition, InElse, InFair, InFairParen, InFairTuple, InFieldSet, InFieldValue, InFilter, InFoldBody, InFoldSequence, InFoldStart, InFunctionBody, InGuard, InIf, InIndex, InItems, InLocalSet, InMappedSet, InMoreFair, InMoreItems, InMoreSubscript, InMoreTuple, InNamedAssumption, InNamedStatement, InNextGuard, InOther, InParen, InPlainBody, InReplacement, InResultSet, InStatement, InSubscriptParen, InSubscriptTuple, InThen, InTuple, InUnitSet, InUpdateIndex, InUpdateValue, InstanceName, LocalArgument, LocalBody, LocalDefines, LocalHead, LocalName, LocalParameter, LocalUnit, MappedName, ModuleHead, ModuleName, ModuleNamed, NextBoundName, QuantifiedName, QuantifierBody, RecursiveBlank, RecursiveName, SetName, Subscript, Substituted, UnitArgument, UnitDefines, UnitHead, UnitParameter, UpdateBang, UpdateField, UpdatePath, ValueName}
 use Rattle.tla_parser.specs.declared.moves.Next.TheVariants.{Reads, Wants, Last}
-use Rattle.tla_parser.proofs.TableLaw.{behind_all, residue, is_reading, is_wanting, is_lasting, left_of, list_left, bullets_left, bullet_token, heads_FairSubscript, heads_QuantifiedName, heads_ChosenName, heads_LocalName, heads_FieldName, heads_BangName, heads_MappedName, heads_ArgumentName, heads_UpdateBang, heads_Subscript, heads_FairOpens, heads_BehindQuantified, heads_BehindChosen, heads_LocalHead, heads_FoldFirst, heads_BehindMapped, heads_ValueName, heads_BehindArgument, heads_SetName, heads_UpdatePath, heads_LocalParameter, heads_LocalArgument, heads_BehindFoldFirst, heads_BehindValueName, heads_BehindSetName, heads_UpdateField, heads_NextBoundName, heads_BehindOther, heads_BehindParameter, heads_BehindLocalArgument, heads_FoldSecond, heads_BehindStep, heads_BehindBoundName, heads_LocalDefines, heads_BehindFoldSecond}
+use Rattle.tla_parser.proofs.TableLaw.{behind_all, residue, is_reading, is_wanting, is_lasting, left_of, list_left, bullets_left, bullet_token, heads_FairSubscript, heads_QuantifiedName, heads_ChosenName, heads_LocalName, heads_FieldName, heads_BangName, heads_MappedName, heads_ArgumentName, heads_UpdateBang, heads_Subscript, heads_FairOpens, heads_BehindQuantified, heads_BehindChosen, heads_LocalHead, heads_FoldOperator, heads_BehindFoldOperator, heads_FoldFirst, heads_BehindMapped, heads_ValueName, heads_BehindArgument, heads_SetName, heads_UpdatePath, heads_LocalParameter, heads_LocalArgument, heads_BehindFoldFirst, heads_BehindValueName, heads_BehindSetName, heads_UpdateField, heads_NextBoundName, heads_BehindOther, heads_BehindParameter, heads_BehindLocalArgument, heads_FoldSecond, heads_BehindStep, heads_BehindBoundName, heads_LocalDefines, heads_BehindFoldSecond}
 
 all_open : Bool
 unfolding templates residue list_left bullets_left number_of opens postfixes rows local_rows bracket_rows update_rows tuple_rows fair_rows fold_rows body_rows in_braces in_brackets heads listed_heads update_heads subscript_heads local_heads module_heads unit_heads name_heads recursive_heads insteads is_reading is_wanting is_lasting
@@ -185,61 +185,6 @@ insteads_InCall : (s : Sign) → behind_all (a_token s) (residue InCall) ≡ lef
 unfolding all_open
 insteads_InCall Number = refl
 insteads_InCall _ = refl
-
-rows_InFold_BareName : (s : Sign) → behind_all (a_token s) (behind_all (an_operand BareName) (residue InFold)) ≡ left_of (found s (rows InFold BareName))
-unfolding all_open
-rows_InFold_BareName Number = refl
-rows_InFold_BareName _ = refl
-
-rows_InFold_PathName : (s : Sign) → behind_all (a_token s) (behind_all (an_operand PathName) (residue InFold)) ≡ left_of (found s (rows InFold PathName))
-unfolding all_open
-rows_InFold_PathName Number = refl
-rows_InFold_PathName _ = refl
-
-rows_InFold_FoldName : (s : Sign) → behind_all (a_token s) (behind_all (an_operand FoldName) (residue InFold)) ≡ left_of (found s (rows InFold FoldName))
-unfolding all_open
-rows_InFold_FoldName Number = refl
-rows_InFold_FoldName _ = refl
-
-rows_InFold_Other : (s : Sign) → behind_all (a_token s) (behind_all (an_operand Other) (residue InFold)) ≡ left_of (found s (rows InFold Other))
-unfolding all_open
-rows_InFold_Other Number = refl
-rows_InFold_Other _ = refl
-
-rows_InFold_Member : (s : Sign) → behind_all (a_token s) (behind_all (an_operand Member) (residue InFold)) ≡ left_of (found s (rows InFold Member))
-unfolding all_open
-rows_InFold_Member Number = refl
-rows_InFold_Member _ = refl
-
-rows_InFold_Tuple : (s : Sign) → behind_all (a_token s) (behind_all (an_operand Tuple) (residue InFold)) ≡ left_of (found s (rows InFold Tuple))
-unfolding all_open
-rows_InFold_Tuple Number = refl
-rows_InFold_Tuple _ = refl
-
-rows_InFold_TupleMember : (s : Sign) → behind_all (a_token s) (behind_all (an_operand TupleMember) (residue InFold)) ≡ left_of (found s (rows InFold TupleMember))
-unfolding all_open
-rows_InFold_TupleMember Number = refl
-rows_InFold_TupleMember _ = refl
-
-rows_InFold_Joined : (s j : Sign) → behind_all (a_token s) (behind_all (an_operand (Joined j)) (residue InFold)) ≡ left_of (found s (rows InFold (Joined j)))
-unfolding all_open
-rows_InFold_Joined Number j = refl
-rows_InFold_Joined _ j = refl
-
-rows_InFold : (s : Sign) (k : Class) → behind_all (a_token s) (behind_all (an_operand k) (residue InFold)) ≡ left_of (found s (rows InFold k))
-rows_InFold s BareName = rows_InFold_BareName s
-rows_InFold s PathName = rows_InFold_PathName s
-rows_InFold s FoldName = rows_InFold_FoldName s
-rows_InFold s Other = rows_InFold_Other s
-rows_InFold s Member = rows_InFold_Member s
-rows_InFold s (Joined j) = rows_InFold_Joined s j
-rows_InFold s Tuple = rows_InFold_Tuple s
-rows_InFold s TupleMember = rows_InFold_TupleMember s
-
-insteads_InFold : (s : Sign) → behind_all (a_token s) (residue InFold) ≡ left_of (found s (insteads InFold))
-unfolding all_open
-insteads_InFold Number = refl
-insteads_InFold _ = refl
 
 rows_InMoreItems : (s : Sign) (k : Class) → behind_all (a_token s) (behind_all (an_operand k) (residue InMoreItems)) ≡ left_of (found s (rows InMoreItems k))
 unfolding all_open
@@ -589,6 +534,8 @@ heads_law FairOpens s h = heads_FairOpens s
 heads_law BehindQuantified s h = heads_BehindQuantified s
 heads_law BehindChosen s h = heads_BehindChosen s
 heads_law LocalHead s h = heads_LocalHead s
+heads_law FoldOperator s h = heads_FoldOperator s
+heads_law BehindFoldOperator s h = heads_BehindFoldOperator s
 heads_law FoldFirst s h = heads_FoldFirst s
 heads_law BehindMapped s h = heads_BehindMapped s
 heads_law ValueName s h = heads_ValueName s
@@ -657,7 +604,6 @@ wants_law InIf s h = insteads_InIf s
 wants_law InGuard s h = insteads_InGuard s
 wants_law InIndex s h = insteads_InIndex s
 wants_law InCall s h = insteads_InCall s
-wants_law InFold s h = insteads_InFold s
 wants_law InMoreItems s h = insteads_InMoreItems s
 wants_law InFilter s h = insteads_InFilter s
 wants_law InResultSet s h = insteads_InResultSet s
@@ -709,7 +655,6 @@ wanted_law InIf s k h w = rows_InIf s k
 wanted_law InGuard s k h w = rows_InGuard s k
 wanted_law InIndex s k h w = rows_InIndex s k
 wanted_law InCall s k h w = rows_InCall s k
-wanted_law InFold s k h w = rows_InFold s k
 wanted_law InMoreItems s k h w = rows_InMoreItems s k
 wanted_law InFilter s k h w = rows_InFilter s k
 wanted_law InResultSet s k h w = rows_InResultSet s k

@@ -220,7 +220,7 @@ templates =
     ∷ is_written Fairness (tk FairWord ∷ subscript ∷ tk LeftParen ∷ expr ∷ tk RightParen ∷ [])
     ∷ is_written Call (one (of_class is_called) ∷ tk LeftParen ∷ listed expr ∷ tk RightParen ∷ [])
     ∷ is_written FoldCall (one (of_class is_fold) ∷ tk LeftParen ∷ tk LambdaWord ∷ tk Word ∷ tk Comma ∷ tk Word ∷ tk Colon ∷ expr ∷ tk Comma ∷ expr ∷ tk Comma ∷ expr ∷ tk RightParen ∷ [])
-    ∷ is_written FoldCall (one (of_class is_fold) ∷ tk LeftParen ∷ bare ∷ tk Comma ∷ expr ∷ tk Comma ∷ expr ∷ tk RightParen ∷ [])
+    ∷ is_written FoldCall (one (of_class is_fold) ∷ tk LeftParen ∷ tk Word ∷ tk Comma ∷ expr ∷ tk Comma ∷ expr ∷ tk RightParen ∷ [])
     ∷ is_written Application (expr ∷ tk LeftBracket ∷ listed expr ∷ tk RightBracket ∷ [])
     ∷ is_written FieldAccess (expr ∷ tk Dot ∷ tk Word ∷ [])
     ∷ is_written Primed (expr ∷ tk Tick ∷ [])

@@ -90,7 +90,7 @@ abbrev pub nowhere : Place
 nowhere = record { file = 0; line = 0; col = 0 }
 
 unfoldable pub empty_digest : Bool → Digest
-empty_digest h = record { first = Stray; place = nowhere; names = []; operands = []; pending = 0; bounded = false; subscript = Stray; subscript_place = nowhere; opens_subscript = false; heads = h }
+empty_digest h = record { first = Stray; place = nowhere; names = []; name_place = nowhere; operands = []; pending = 0; bounded = false; subscript = Stray; subscript_place = nowhere; opens_subscript = false; heads = h }
 
 unfoldable pub is_stray : Sign → Bool
 is_stray Stray = true
@@ -124,6 +124,11 @@ name_of ProofStep = None
 abbrev pub with_name : Option (List ℕ) → Digest → Digest
 with_name None d = d
 with_name (Some x) d = record d { names = d.names ++ (x ∷ []); pending = d.pending + 1 }
+
+-- the name that stands at the place
+abbrev pub with_named : Option (List ℕ) → Place → Digest → Digest
+with_named None p d = d
+with_named (Some x) p d = with_name (Some x) (record d { name_place = p })
 
 abbrev pub with_subscript : Sign → Place → Digest → Digest
 with_subscript s p d =
@@ -171,7 +176,7 @@ with_tree e d = cond d.heads (with_head (out-Expr e).op (out-Expr e).args (recor
 
 abbrev pub taken_in : Digest → Item → Digest
 taken_in d (Piece t) =
-    with_name (name_of t.kind) (with_colon (sign t) (with_bound (sign t) (with_subscript (sign t) t.place (with_first (sign t) t.place d))))
+    with_named (name_of t.kind) t.place (with_colon (sign t) (with_bound (sign t) (with_subscript (sign t) t.place (with_first (sign t) t.place d))))
 taken_in d (Tree e) = with_tree e d
 
 abbrev pub digest : Bool → List Item → Digest
@@ -303,11 +308,17 @@ abbrev pub instance_name : Op → List (List ℕ) → List ℕ
 instance_name (op.Use i) names = i ++ (codes "!" ++ first_name names)
 instance_name _ names = []
 
+-- the operator of a fold is a name, or has two parameters
+abbrev pub fold_tree : Place → Place → List (List ℕ) → List Expr → Expr
+fold_tree p q [] es = node p op.Fold [] es
+fold_tree p q (x ∷ []) es = node p op.Fold [] (leaf q (op.Use x) ∷ es)
+fold_tree p q (x ∷ y ∷ xs) es = node p op.Fold (x ∷ y ∷ xs) es
+
 -- the operands are split at the first
 unfoldable pub led_tree : Construct → Digest → Expr → List Expr → Expr
 led_tree Parenthesis d e es = e
 led_tree Call d e es = roll-Expr (record (out-Expr e) { args = es })
-led_tree FoldCall d e es = node (out-Expr e).place op.Fold d.names es
+led_tree FoldCall d e es = fold_tree (out-Expr e).place d.name_place d.names es
 led_tree Application d e es = node d.place op.Apply [] (e ∷ index_of d.place es ∷ [])
 led_tree Instanced d e es = leaf (out-Expr e).place (op.Use (instance_name (out-Expr e).op d.names))
 led_tree SquareAction d e es = node d.place (action_op d.first) [] (e ∷ subscript_tree d.subscript d.subscript_place d.names es ∷ [])

@@ -2,7 +2,7 @@
 ghost use Rattle.std.specs.Prelude.{◌≡◌, fold, reverse, IfOk};
 ghost use Rattle.tla_meaning.specs.declared.expr.Expr.{out-Expr};
 ghost use Rattle.tla_parser.specs.declared.items.Item.TheVariants.{Piece};
-ghost use Rattle.tla_parser.specs.Trees.{before_subscript, digest, empty_digest, is_colon, is_element, is_stray, taken_in, with_bound, with_colon, with_first, with_head, with_member, with_members, with_name, name_of, with_operand, with_subscript, with_tree, used_name};
+ghost use Rattle.tla_parser.specs.Trees.{before_subscript, digest, empty_digest, is_colon, is_element, is_stray, taken_in, with_bound, with_colon, with_first, with_head, with_member, with_members, with_name, with_named, name_of, with_operand, with_subscript, with_tree, used_name};
 
 use crate::binders::{Copies, repeated};
 use crate::items::{Digest, Item};
@@ -72,6 +72,7 @@ fn empty_digest(alloc: Global, heads: bool) -> Digest
         first: Sign::Stray,
         place: NOWHERE,
         names: List::new(alloc),
+        name_place: NOWHERE,
         operands: List::new(alloc),
         pending: 0,
         bounded: false,
@@ -135,6 +136,20 @@ fn with_name(digest: Digest, name: Option<Text>) -> Result<Digest, AllocError>
             digest.pending = digest.pending.checked_add(1).ok_or(AllocError)?;
             digest.names = added(digest.names, name)?;
             Ok(digest)
+        }
+    }
+}
+
+// Takes in the name of a token at the place.
+fn with_named(digest: Digest, name: Option<Text>, place: Place) -> Result<Digest, AllocError>
+    ensures { IfOk result (λ d. d ≡ with_named name place digest) }
+{
+    let mut digest = digest;
+    match name {
+        None => Ok(digest),
+        Some(name) => {
+            digest.name_place = place;
+            with_name(digest, Some(name))
         }
     }
 }
@@ -259,7 +274,7 @@ fn with_token(digest: Digest, token: Token) -> Result<Digest, AllocError>
     let digest = with_subscript(digest, sign, place);
     let digest = with_bound(digest, sign);
     let digest = with_colon(digest, sign);
-    with_name(digest, name_of(kind))
+    with_named(digest, name_of(kind), place)
 }
 
 fn taken_in(

@@ -102,7 +102,7 @@ fn update_heads(mark: Mark, sign: Sign) -> Next
     }
 }
 
-// Subscripts, the LAMBDA of a fold.
+// Subscripts, the operator of a fold.
 #[tactic(auto, unfolding(crate::specs::inner::Moves::subscript_heads))]
 fn subscript_heads(mark: Mark, sign: Sign) -> Next
     ensures { result ≡ found sign (subscript_heads mark) }
@@ -131,6 +131,13 @@ fn subscript_heads(mark: Mark, sign: Sign) -> Next
             ),
         ),
         Mark::FairOpens => only(sign, Sign::LeftParen, Next::Wants(Mark::InFair)),
+        Mark::FoldOperator => on(
+            sign,
+            Sign::Word,
+            Next::Reads(Mark::BehindFoldOperator),
+            only(sign, Sign::LambdaWord, Next::Reads(Mark::FoldFirst)),
+        ),
+        Mark::BehindFoldOperator => only(sign, Sign::Comma, Next::Wants(Mark::InFoldStart)),
         Mark::FoldFirst => only(sign, Sign::Word, Next::Reads(Mark::BehindFoldFirst)),
         Mark::BehindFoldFirst => only(sign, Sign::Comma, Next::Reads(Mark::FoldSecond)),
         Mark::FoldSecond => only(sign, Sign::Word, Next::Reads(Mark::BehindFoldSecond)),
@@ -318,7 +325,6 @@ pub(crate) fn insteads(mark: Mark, sign: Sign) -> Next
         Mark::InSubscriptTuple => only(sign, Sign::RightAngle, Next::Shut(Construct::SquareAction)),
         Mark::InFairTuple => only(sign, Sign::RightAngle, Next::Reads(Mark::FairOpens)),
         Mark::InNextGuard => only(sign, Sign::OtherWord, Next::Reads(Mark::BehindOther)),
-        Mark::InFold => only(sign, Sign::LambdaWord, Next::Reads(Mark::FoldFirst)),
         Mark::InBody => only(sign, Sign::InstanceWord, Next::Reads(Mark::InstanceName)),
         _ => Next::Fail,
     }

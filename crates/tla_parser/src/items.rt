@@ -17,6 +17,8 @@ pub struct Digest {
     pub first: Sign,
     pub place: Place,
     pub names: List<Text>,
+    /// Where the last name stands that is a token.
+    pub name_place: Place,
     pub operands: List<Expr>,
     /// How many names wait for their set.
     pub pending: usize,

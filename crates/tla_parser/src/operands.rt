@@ -222,11 +222,6 @@ fn fold_rows(mark: Mark, class: Class, sign: Sign) -> Next
     ensures { result ≡ found sign (fold_rows mark class) }
 {
     match mark {
-        Mark::InFold => only(
-            sign,
-            Sign::Comma,
-            of_name(class, Next::Wants(Mark::InFoldStart)),
-        ),
         Mark::InFoldBody => only(sign, Sign::Comma, Next::Wants(Mark::InFoldStart)),
         Mark::InFoldStart => only(sign, Sign::Comma, Next::Wants(Mark::InFoldSequence)),
         Mark::InFoldSequence => only(sign, Sign::RightParen, Next::Shut(Construct::FoldCall)),

@@ -59,7 +59,7 @@ fn calls(class: Class) -> Next
 {
     match class {
         Class::BareName | Class::PathName => Next::Wants(Mark::InCall),
-        Class::FoldName => Next::Wants(Mark::InFold),
+        Class::FoldName => Next::Reads(Mark::FoldOperator),
         _ => Next::Fail,
     }
 }

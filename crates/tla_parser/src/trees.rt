@@ -2,7 +2,7 @@
 ghost use Rattle.std.specs.Prelude.{◌≡◌, ◌∷◌, [], reverse, IfOk};
 ghost use Rattle.tla_meaning.specs.declared.expr.Expr.{out-Expr, roll-Expr};
 ghost use Rattle.tla_meaning.specs.declared.op.Op.TheVariants as op;
-ghost use Rattle.tla_parser.specs.Trees.{action_op, binder_args, binder_op, binder_tree, binds_head, build, digested, fair_tree, first_name, first_tree, instance_name, is_exception, is_fairness, is_leaf, is_local, junction_op, leaf, leaf_op, leaf_tree, led, led_tree, is_plain, node, other_tree, plain_op, quantifier_op, subscript_tree};
+ghost use Rattle.tla_parser.specs.Trees.{action_op, binder_args, binder_op, binder_tree, binds_head, build, digested, fair_tree, first_name, first_tree, fold_tree, instance_name, is_exception, is_fairness, is_leaf, is_local, junction_op, leaf, leaf_op, leaf_tree, led, led_tree, is_plain, node, other_tree, plain_op, quantifier_op, subscript_tree};
 
 use crate::binders::Copies;
 use crate::digests::digest;
@@ -311,6 +311,29 @@ fn instanced(alloc: Global, instance: Expr, names: List<Text>) -> Result<Expr, A
     Ok(leaf(alloc, place, Op::Use(name)))
 }
 
+// The operator of a fold is a name, or has two parameters.
+fn fold_tree(
+    alloc: Global,
+    place: Place,
+    digest: Digest,
+    args: List<Expr>,
+) -> Result<Expr, AllocError>
+    ensures { IfOk result (λ e. e ≡ fold_tree place digest.name_place digest.names args) }
+{
+    let mut names = digest.names.into_vec();
+    if names.len() != 1 {
+        return Ok(node(place, Op::Fold, List::from_vec(names), args));
+    }
+    match names.pop() {
+        Some(name) => {
+            let mut operands = args.into_vec();
+            operands.insert(0, leaf(alloc, digest.name_place, Op::Use(name)))?;
+            Ok(node(place, Op::Fold, List::new(alloc), List::from_vec(operands)))
+        }
+        None => Ok(node(place, Op::Fold, List::new(alloc), args)),
+    }
+}
+
 // The tree of a form whose first operand stands apart.
 #[tactic(auto, unfolding(crate::specs::Trees::led_tree))]
 fn led_tree(
@@ -324,7 +347,7 @@ fn led_tree(
 {
     match construct {
         Construct::Call => Ok(call(first, rest)),
-        Construct::FoldCall => Ok(node(first.place, Op::Fold, digest.names, rest)),
+        Construct::FoldCall => fold_tree(alloc, first.place, digest, rest),
         Construct::Application => {
             let index = index_of(alloc, digest.place, rest);
             let args = pair(alloc, first, index)?;

@@ -7,7 +7,7 @@ use Rattle.tla_parser.specs.declared.moves.Class.TheVariants.{BareName, FoldName
 use Rattle.tla_parser.specs.declared.moves.Construct.{Construct}
 use Rattle.tla_parser.specs.declared.moves.Construct.TheVariants.{Application, Booleans, Call, Cases, CasesOther, Choice, Conditional, Enumeration, Exception, Fairness, FalseLiteral, FieldAccess, Filter, FoldCall, FoldUse, Function, FunctionSet, Instanced, Junction, Local, Mapping, NameUse, NumberLiteral, OldValue, Parenthesis, Primed, Quantifier, RecordSet, RecordValue, SquareAction, Strings, TextLiteral, TrueLiteral, TupleValue}
 use Rattle.tla_parser.specs.declared.moves.Mark.{Mark}
-use Rattle.tla_parser.specs.declared.moves.Mark.TheVariants.{ArgumentName, AtTop, BangName, BehindArgument, BehindArity, BehindBlank, BehindBoundName, BehindChosen, BehindDeclared, BehindExtended, BehindFoldFirst, BehindFoldSecond, BehindHeader, BehindInstance, BehindLocalArgument, BehindMapped, BehindOther, BehindParameter, BehindQuantified, BehindRecursive, BehindSetName, BehindStep, BehindSubstituted, BehindUnitArgument, BehindUnitParameter, BehindValueName, BetweenUnits, Bullets, ChoiceBody, ChosenName, DeclaredName, ExtendedName, FairOpens, FairSubscript, FieldName, Finished, FoldFirst, FoldSecond, InArgumentSet, InArm, InAssumption, InBody, InBound, InBracket, InCall, InChoiceSet, InDefinition, InElse, InFair, InFairParen, InFairTuple, InFieldSet, InFieldValue, InFilter, InFold, InFoldBody, InFoldSequence, InFoldStart, InFunctionBody, InGuard, InIf, InIndex, InItems, InLocalSet, InMappedSet, InMoreFair, InMoreItems, InMoreSubscript, InMoreTuple, InNamedAssumption, InNamedStatement, InNextGuard, InOther, InParen, InPlainBody, InReplacement, InResultSet, InStatement, InSubscriptParen, InSubscriptTuple, InThen, InTuple, InUnitSet, InUpdateIndex, InUpdateValue, InstanceName, LocalArgument, LocalBody, LocalDefines, LocalHead, LocalName, LocalParameter, LocalUnit, MappedName, ModuleHead, ModuleName, ModuleNamed, NextBoundName, QuantifiedName, QuantifierBody, RecursiveBlank, RecursiveName, SetName, Subscript, Substituted, UnitArgument, UnitDefines, UnitHead, UnitParameter, UpdateBang, UpdateField, UpdatePath, ValueName}
+use Rattle.tla_parser.specs.declared.moves.Mark.TheVariants.{ArgumentName, AtTop, BangName, BehindArgument, BehindArity, BehindBlank, BehindBoundName, BehindChosen, BehindDeclared, BehindExtended, BehindFoldFirst, BehindFoldOperator, BehindFoldSecond, BehindHeader, BehindInstance, BehindLocalArgument, BehindMapped, BehindOther, BehindParameter, BehindQuantified, BehindRecursive, BehindSetName, BehindStep, BehindSubstituted, BehindUnitArgument, BehindUnitParameter, BehindValueName, BetweenUnits, Bullets, ChoiceBody, ChosenName, DeclaredName, ExtendedName, FairOpens, FairSubscript, FieldName, Finished, FoldFirst, FoldOperator, FoldSecond, InArgumentSet, InArm, InAssumption, InBody, InBound, InBracket, InCall, InChoiceSet, InDefinition, InElse, InFair, InFairParen, InFairTuple, InFieldSet, InFieldValue, InFilter, InFoldBody, InFoldSequence, InFoldStart, InFunctionBody, InGuard, InIf, InIndex, InItems, InLocalSet, InMappedSet, InMoreFair, InMoreItems, InMoreSubscript, InMoreTuple, InNamedAssumption, InNamedStatement, InNextGuard, InOther, InParen, InPlainBody, InReplacement, InResultSet, InStatement, InSubscriptParen, InSubscriptTuple, InThen, InTuple, InUnitSet, InUpdateIndex, InUpdateValue, InstanceName, LocalArgument, LocalBody, LocalDefines, LocalHead, LocalName, LocalParameter, LocalUnit, MappedName, ModuleHead, ModuleName, ModuleNamed, NextBoundName, QuantifiedName, QuantifierBody, RecursiveBlank, RecursiveName, SetName, Subscript, Substituted, UnitArgument, UnitDefines, UnitHead, UnitParameter, UpdateBang, UpdateField, UpdatePath, ValueName}
 use Rattle.tla_parser.specs.declared.moves.Next.{Next}
 use Rattle.tla_parser.specs.declared.moves.Next.TheVariants.{Fail, Last, Reads, Shut, Wants}
 use Rattle.tla_parser.specs.declared.moves.Seen.{Seen}
@@ -56,7 +56,7 @@ opens t _ = Fail
 abbrev pub calls : Class → Next
 calls BareName = Wants InCall
 calls PathName = Wants InCall
-calls FoldName = Wants InFold
+calls FoldName = Reads FoldOperator
 calls Other = Fail
 calls Member = Fail
 calls (Joined s) = Fail
@@ -143,7 +143,6 @@ body_rows _ c = []
 
 -- in a fold, of an assumption or a theorem
 unfoldable pub fold_rows : Mark → Class → List Row
-fold_rows InFold c = on Comma (of_name c (Wants InFoldStart)) ∷ []
 fold_rows InFoldBody c = on Comma (Wants InFoldStart) ∷ []
 fold_rows InFoldStart c = on Comma (Wants InFoldSequence) ∷ []
 fold_rows InFoldSequence c = on RightParen (Shut FoldCall) ∷ []
@@ -267,11 +266,13 @@ local_heads BehindLocalArgument = on Comma (Reads LocalArgument) ∷ on Element 
 local_heads LocalDefines = on Defines (Wants InDefinition) ∷ []
 local_heads m = module_heads m
 
--- subscripts, the LAMBDA of a fold
+-- subscripts, the operator of a fold
 unfoldable pub subscript_heads : Mark → List Row
 subscript_heads Subscript = on Word (Shut SquareAction) ∷ on LeftAngle (Wants InSubscriptTuple) ∷ on LeftParen (Wants InSubscriptParen) ∷ []
 subscript_heads FairSubscript = on Word (Reads FairOpens) ∷ on LeftAngle (Wants InFairTuple) ∷ on LeftParen (Wants InFairParen) ∷ []
 subscript_heads FairOpens = on LeftParen (Wants InFair) ∷ []
+subscript_heads FoldOperator = on Word (Reads BehindFoldOperator) ∷ on LambdaWord (Reads FoldFirst) ∷ []
+subscript_heads BehindFoldOperator = on Comma (Wants InFoldStart) ∷ []
 subscript_heads FoldFirst = on Word (Reads BehindFoldFirst) ∷ []
 subscript_heads BehindFoldFirst = on Comma (Reads FoldSecond) ∷ []
 subscript_heads FoldSecond = on Word (Reads BehindFoldSecond) ∷ []
@@ -318,7 +319,6 @@ insteads InTuple = on RightAngle (Shut TupleValue) ∷ []
 insteads InSubscriptTuple = on RightAngle (Shut SquareAction) ∷ []
 insteads InFairTuple = on RightAngle (Reads FairOpens) ∷ []
 insteads InNextGuard = on OtherWord (Reads BehindOther) ∷ []
-insteads InFold = on LambdaWord (Reads FoldFirst) ∷ []
 insteads InBody = on InstanceWord (Reads InstanceName) ∷ []
 insteads _ = []
 
