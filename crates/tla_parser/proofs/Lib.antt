@@ -25,6 +25,9 @@ pub mod Starts
 pub mod Headers
 pub mod Tracking
 pub mod Faults
+pub mod Nesting
+pub mod Finishing
+pub mod GoesOn
 pub mod Opened
 pub mod UnitHeads
 pub mod Shown

@@ -172,7 +172,7 @@ last_end InNamedAssumption c h = cc
 last_end InNamedStatement c h = cc
 last_end _ c h = refl
 
-plain_last : (b : Bool) → (b || false) ≡ true → b ≡ true
+pub plain_last : (b : Bool) → (b || false) ≡ true → b ≡ true
 plain_last true h = refl
 plain_last false h = h
 
@@ -342,7 +342,7 @@ leads_to z s st = leads s (standing_of st).next && ((standing_of st).alone && no
 abbrev pub Matched : Bool → Sign → Status → Status → Type 0
 Matched z s x y = (leads_to z s x ≡ finished y) × (leads_to z s x ≡ true → (standing_of x).levels ≡ levels_read y)
 
-left_false : (a : Bool) → (a && false) ≡ false
+pub left_false : (a : Bool) → (a && false) ≡ false
 left_false true = refl
 left_false false = refl
 
@@ -446,7 +446,7 @@ landed_pair t w (Within f ∷ s) c m b h =
     of_module [] e q = true_right (leads (sign t) (delta (given f.next w.class) t)) ∙ given_ends f.next w.class t (and_both (stays_in true f.next) (f.outer == 0) e).0 b
     of_module (g ∷ r) e q = absurd (cc)
 
-passes_any : (x b : Bool) (r : Role) → r ≡ NoRole → (x || (not (op r) || b)) ≡ true
+pub passes_any : (x b : Bool) (r : Role) → r ≡ NoRole → (x || (not (op r) || b)) ≡ true
 passes_any true b r h = refl
 passes_any false b r h = rw h refl
 
@@ -463,7 +463,7 @@ no_bullet_begins Wedge h = cc
 no_bullet_begins Vee h = cc
 no_bullet_begins _ h = refl
 
-no_next : (b : Sign) (n : ℕ) (t : Seen) → is_bullet t.sign ≡ false → is_fail (next_bullet b n t) ≡ true
+pub no_next : (b : Sign) (n : ℕ) (t : Seen) → is_bullet t.sign ≡ false → is_fail (next_bullet b n t) ≡ true
 no_next b n t h =
     elim (either (is_bullet b && (same_sign b t.sign && (n == t.column)))) [
       | inl e ↦ (let k : (is_bullet b ≡ true) × ((same_sign b t.sign && (n == t.column)) ≡ true) = and_both (is_bullet b) (same_sign b t.sign && (n == t.column)) e in

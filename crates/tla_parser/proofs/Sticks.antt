@@ -4,8 +4,10 @@ use Rattle.std.proofs.Common.{ℕ, Bool, true, false, cond, not, List, inl, inr,
 use Rattle.tla_lexer.specs.declared.token.Token.{Token}
 use Rattle.tla_parser.proofs.Basics.{and_both, or_cases}
 use Rattle.tla_parser.proofs.Faults.{begins_at, read, read_based, read_next}
+use Rattle.tla_parser.proofs.GoesOn.{read_nested}
 use Rattle.tla_parser.proofs.Headers.{never_less}
 use Rattle.tla_parser.proofs.Laws.{clash, same_sign-is, stays_in}
+use Rattle.tla_parser.proofs.Nesting.{Nested, fits, holds}
 use Rattle.tla_parser.proofs.Starts.{Based}
 use Rattle.tla_parser.specs.Beginnings.{begins_unit}
 use Rattle.tla_parser.specs.Operators.{after, number_of, same_sign}
@@ -25,10 +27,9 @@ use Rattle.tla_parser.specs.declared.signs.Sign.{Sign}
 use Rattle.tla_parser.specs.declared.signs.Sign.TheVariants.{Dashes, Defines, LeftBracket, LeftParen, LocalWord, ModuleWord, Word}
 use Rattle.tla_parser.specs.inner.Derivations.{delta}
 use Rattle.tla_parser.specs.inner.Moves.{found, heads, listed_heads, local_heads, module_heads, moved, name_heads, reading, recursive_heads, subscript_heads, unit_heads, unit_rows, update_heads}
-use Rattle.tla_parser.specs.inner.Recognition.{Status, advance, entered, lost, module_start, read_at, running}
+use Rattle.tla_parser.specs.inner.Recognition.{Status, advance, entered, lost, read_at, running}
 use Rattle.tla_parser.specs.inner.Standings.{declaring, leads, led_by, standing_of, unit_goes_on, wanted_by}
 use Rattle.tla_parser.proofs.UnitHeads.{begins_so}
-use Rattle.tla_parser.proofs.Shown.{Hungry, advances_hungry, reads}
 
 all_open : Bool
 unfolding heads listed_heads update_heads subscript_heads local_heads module_heads unit_heads name_heads recursive_heads unit_rows number_of
@@ -43,7 +44,7 @@ pub record AtHead (m : Mark) (st : Status) : Type 0 where
   pub outer_so : form.outer ≡ 0
   pub state_so : st ≡ running Read (Within form ∷ []) code margin
 
-begun_head : (s : Sign) (m : Mark) (st : Status) → Based st → Hungry st → (standing_of st).alone ≡ true → leads s (standing_of st).next ≡ true → ((k : Mark) → same_sign (declaring s) (led_by k) ≡ true → k ≡ m) → ((k : Mark) → same_sign s (wanted_by k) ≡ false) → AtHead m st
+begun_head : (s : Sign) (m : Mark) (st : Status) → Based st → Nested st → (standing_of st).alone ≡ true → leads s (standing_of st).next ≡ true → ((k : Mark) → same_sign (declaring s) (led_by k) ≡ true → k ≡ m) → ((k : Mark) → same_sign s (wanted_by k) ≡ false) → AtHead m st
 begun_head s m lost b h a l r w = absurd (cc)
 begun_head s m (running (Have o) q c n) b h a l r w = absurd (cc)
 begun_head s m (running Stuck q c n) b h a l r w = absurd (cc)
@@ -63,9 +64,9 @@ begun_head s m (running Want [] c n) b h a l r w = absurd (cc)
 begun_head s m (running Want (Before p ∷ q) c n) b h a l r w = absurd (cc)
 begun_head s m (running Want (Between x o ∷ q) c n) b h a l r w = absurd (cc)
 begun_head s m (running Want (Within f ∷ g ∷ q) c n) b h a l r w = absurd (cc)
-begun_head s m (running Want (Within f ∷ []) c n) b h a l r w = absurd (by_next f.next h l)
+begun_head s m (running Want (Within f ∷ []) c n) b h a l r w = absurd (by_next f.next (and_both (holds f.next) (fits f.next []) h).0 l)
   where
-    by_next : (x : Next) → not (reads x) ≡ true → leads s x ≡ true → ⊥
+    by_next : (x : Next) → holds x ≡ true → leads s x ≡ true → ⊥
     by_next (Reads k) e i = cc
     by_next (Wants k) e i = clash (same_sign s (wanted_by k)) i (w k)
     by_next (Last k) e i = cc
@@ -112,7 +113,7 @@ behind_begin s m ts t e q r w =
     let a : (begins_unit (sign t) ≡ true) × ((leads (sign t) (standing_of (read (ts ++ (t ∷ [])))).next && ((standing_of (read (ts ++ (t ∷ [])))).alone && not ((standing_of (read ts)).alone && unit_goes_on (standing_of (read ts)).next))) ≡ true) = and_both (begins_unit (sign t)) _ e in
     let b : (leads (sign t) (standing_of (read (ts ++ (t ∷ [])))).next ≡ true) × (((standing_of (read (ts ++ (t ∷ [])))).alone && not ((standing_of (read ts)).alone && unit_goes_on (standing_of (read ts)).next)) ≡ true) = and_both (leads (sign t) (standing_of (read (ts ++ (t ∷ [])))).next) _ a.1 in
     let c : (standing_of (read (ts ++ (t ∷ [])))).alone ≡ true = (and_both (standing_of (read (ts ++ (t ∷ [])))).alone _ b.1).0 in
-    begun_head s m (read (ts ++ (t ∷ []))) (read_based (ts ++ (t ∷ []))) (advances_hungry (ts ++ (t ∷ [])) module_start tt) c (ap (λ (k : Sign). leads k (standing_of (read (ts ++ (t ∷ [])))).next) (sym q) ∙ b.0) r w
+    begun_head s m (read (ts ++ (t ∷ []))) (read_based (ts ++ (t ∷ []))) (read_nested (ts ++ (t ∷ []))) c (ap (λ (k : Sign). leads k (standing_of (read (ts ++ (t ∷ [])))).next) (sym q) ∙ b.0) r w
 
 none_behind : (ts : List Token) → are [] (signs_of ts) ≡ true → ts ≡ []
 none_behind [] h = refl

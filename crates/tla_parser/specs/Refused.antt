@@ -14,6 +14,10 @@ use Rattle.tla_parser.specs.declared.signs.Role.TheVariants.{InfixRole}
 use Rattle.tla_parser.specs.declared.signs.Sign.{Sign}
 use Rattle.tla_parser.specs.declared.signs.Sign.TheVariants.{Comma, ChooseWord, ConstantWord, Dashes, Defines, ExistsSign, ForallSign, InstanceWord, LeftAngle, LeftBracket, LeftParen, LocalWord, ModuleWord, ProofWord, RightParen, Underscore, Word}
 
+-- some module goes on with the tokens
+abbrev pub Goes : List Token → Type 0
+Goes ts = (more : List Token) × IsWritten (ts ++ more)
+
 -- ---- the head of a unit, as far as it goes
 
 abbrev pub signs_of : List Token → List Sign
