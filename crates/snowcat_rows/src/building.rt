@@ -3,11 +3,11 @@ ghost use Rattle.std.specs.Prelude.{◌≡◌, ◌+◌, ◌++◌, ◌∷◌, [],
 ghost use Rattle.std.specs.List.{list_all};
 ghost use Rattle.snowcat_rows.specs.FieldNames.{names as names_of, names_differ};
 ghost use Rattle.snowcat_rows.specs.TypeTexts.{are_distinct};
-ghost use Rattle.snowcat_rows.specs.inner.Naming.{aliases_named, all_named, fields_named, mark_named};
+ghost use Rattle.snowcat_rows.specs.inner.Naming.{aliases_named, all_named, fields_named, is_construct, mark_named};
 ghost use Rattle.snowcat_rows.specs.declared.types.Ty.{Ty as AnyType};
 ghost use Rattle.snowcat_rows.specs.Types.{SeqHead, SetHead, con, lookup, mean, row};
 ghost use Rattle.snowcat_rows.specs.Codes.{named};
-ghost use Rattle.snowcat_rows.specs.Readings.{find, moved, noted, number, own, read_row, same_seen, zipped};
+ghost use Rattle.snowcat_rows.specs.Readings.{Known, find, moved, noted, number, own, read_row, same_seen, zipped};
 ghost use Rattle.snowcat_rows.specs.inner.Building.{arrow, built, built_all, gather_more, gather_one, one, operator_all, record_all, several, site, tuple_all, unknown_in, unknown_mark, wrap};
 ghost use Rattle.snowcat_rows.specs.declared.marks.Mark.TheVariants.{Alias as alias_mark};
 ghost use Rattle.snowcat_rows.specs.inner.Readers.{AreBuilt, IsBuilt, Leaves, IsRow, Tells, found_of, item_of, known_of, moved_fields, recorded, site_of};
@@ -504,6 +504,30 @@ pub(crate) fn find<'a>(known: &'a [Alias], name: &[u8]) -> Option<&'a Alias>
 }
 
 impl Builder {
+    // What the mark of a construct makes of its parts.
+    #[tactic(auto, using(crate::proofs::Means::means, crate::proofs::Naming::differs))]
+    fn construct(&mut self, alloc: Global, mark: &Mark) -> Result<(), AllocError>
+        requires before { all_named self.old ≡ true }
+        requires mark { mark_named mark.now ≡ true }
+        requires construct { is_construct mark.now ≡ true }
+        ensures site { IfOk result (λ _. (k : Known)
+            → IsBuilt k mark.now (site_of self.old) (site_of self.new)) }
+        ensures named { IfOk result (λ _. all_named self.new ≡ true) }
+    {
+        match mark {
+            Mark::Set => self.set(alloc),
+            Mark::Seq => self.sequence(alloc),
+            Mark::Function => self.function(alloc),
+            Mark::Nothing => self.push_all(List::new(alloc), 0),
+            Mark::One => self.gather_one(alloc),
+            Mark::Join => self.gather_more(),
+            Mark::Tuple => self.tuple(),
+            Mark::Record(names, row) => self.record(alloc, names.as_slice(), row),
+            Mark::Operator => self.operator(alloc),
+            _ => unreachable!(),
+        }
+    }
+
     // What one mark makes of it.
     #[tactic(auto, using(crate::proofs::Means::means, crate::proofs::Naming::differs))]
     fn step(&mut self, alloc: Global, known: &[Alias], mark: &Mark) -> Result<(), TypeTextFault>
@@ -540,40 +564,8 @@ impl Builder {
                 Ok(())
             }
             Mark::Alias(name) => self.alias(alloc, known, name),
-            Mark::Set => {
-                self.set(alloc)?;
-                Ok(())
-            }
-            Mark::Seq => {
-                self.sequence(alloc)?;
-                Ok(())
-            }
-            Mark::Function => {
-                self.function(alloc)?;
-                Ok(())
-            }
-            Mark::Nothing => {
-                self.push_all(List::new(alloc), 0)?;
-                Ok(())
-            }
-            Mark::One => {
-                self.gather_one(alloc)?;
-                Ok(())
-            }
-            Mark::Join => {
-                self.gather_more()?;
-                Ok(())
-            }
-            Mark::Tuple => {
-                self.tuple()?;
-                Ok(())
-            }
-            Mark::Record(names, row) => {
-                self.record(alloc, names.as_slice(), row)?;
-                Ok(())
-            }
-            Mark::Operator => {
-                self.operator(alloc)?;
+            _ => {
+                self.construct(alloc, mark)?;
                 Ok(())
             }
         }

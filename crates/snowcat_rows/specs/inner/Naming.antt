@@ -1,5 +1,5 @@
 -- What is built of types whose field names differ.
-use Rattle.std.specs.Prelude.{ℕ, Bool, true, List, reverse}
+use Rattle.std.specs.Prelude.{ℕ, Bool, true, false, List, reverse}
 use Rattle.std.specs.List.{list_all}
 use Rattle.snowcat_rows.specs.declared.marks.Mark.{Mark}
 use Rattle.snowcat_rows.specs.declared.marks.Mark.TheVariants as mark
@@ -26,6 +26,16 @@ fields_named fs = list_all (λ f. names_differ f.1) fs
 abbrev pub mark_named : Mark → Bool
 mark_named (mark.Record xs r) = are_distinct xs
 mark_named m = true
+
+-- the mark makes something of types before it, or of none
+abbrev pub is_construct : Mark → Bool
+is_construct mark.Bool = false
+is_construct mark.Int = false
+is_construct mark.Str = false
+is_construct (mark.Named x) = false
+is_construct (mark.Var x) = false
+is_construct (mark.Alias x) = false
+is_construct m = true
 
 abbrev pub aliases_named : List Alias → Bool
 aliases_named ks = list_all (λ k. names_differ k.of) ks
