@@ -2,7 +2,7 @@
 use Rattle.std.specs.Prelude.{ℕ, ◌+◌, ◌≡◌, ◌<◌, ◌≤◌, ◌⊎◌, ◌++◌, [], ◌∷◌, List, Some}
 use Rattle.snowcat_rows.specs.declared.substitution.UnifyFault.{UnifyFault}
 use Rattle.snowcat_rows.specs.declared.substitution.UnifyFault.TheVariants.{Clash, Memory}
-use Rattle.snowcat_rows.specs.Types.{Term, Slot, some, mean, Beside}
+use Rattle.snowcat_rows.specs.Types.{Term, some, mean, Beside}
 use Rattle.snowcat_rows.specs.Substitutions.{Sub, apply, Fronts, Fits, Sorted, Unified, Apart}
 use Rattle.snowcat_rows.specs.Chains.{Binding, to_type, to_row, solved, sub_of}
 use Rattle.snowcat_rows.specs.Sorting.{AllSorted}

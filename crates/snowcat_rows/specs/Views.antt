@@ -6,11 +6,11 @@ use Rattle.snowcat_rows.specs.Chains.{Binding, sub_of}
 use Rattle.snowcat_rows.specs.Codes.{bindings_of}
 
 abbrev pub issued_of : Subst → ℕ
-issued_of s = s.issued
+issued_of s = s.store.issued
 
 -- its bindings in the order in which they were made
 abbrev pub kept_by : Subst → List Binding
-kept_by s = bindings_of s.bindings.items
+kept_by s = bindings_of s.store.bindings.items
 
 -- what each variable stands for
 abbrev pub stands_for : Subst → Sub

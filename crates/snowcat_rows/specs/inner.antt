@@ -10,5 +10,6 @@ pub mod Parts
 pub mod Places
 pub mod Readers
 pub mod Rounds
+pub mod Stores
 pub mod Naming
 pub mod Fronted

@@ -3,11 +3,12 @@ ghost use Rattle.std.specs.Prelude.{ℕ, ◌≡◌, ◌+◌, ◌<◌, ◌≤◌,
 ghost use Rattle.snowcat_rows.specs.Types.{mean, var};
 ghost use Rattle.snowcat_rows.specs.Substitutions.{apply};
 ghost use Rattle.snowcat_rows.specs.Chains.{Chain, solved};
-ghost use Rattle.snowcat_rows.specs.Codes.{Begins, bindings_of};
-ghost use Rattle.snowcat_rows.specs.Sorting.{AllWithin, AllWithin-prop, Chain-prop, Within};
+ghost use Rattle.snowcat_rows.specs.Codes.{bindings_of};
+ghost use Rattle.snowcat_rows.specs.Sorting.{Within};
 ghost use Rattle.snowcat_rows.specs.Unifying.{IsMade, IsRefused};
-ghost use Rattle.snowcat_rows.specs.inner.Places.{Indexed, Indexed-prop};
+ghost use Rattle.snowcat_rows.specs.inner.Places.{Indexed};
 ghost use Rattle.snowcat_rows.specs.inner.Rounds.{After};
+ghost use Rattle.snowcat_rows.specs.inner.Stores.{HasBoth, IsFurther, IsKept, IsSolved, IsSound, IsSound-prop, bound_in};
 
 use crate::bindings::{Bound, advance, bound_by};
 use crate::differences::difference;
@@ -44,72 +45,6 @@ enum Round {
     More(Ty, Ty),
 }
 
-// One round of the search: more bindings, or its end.
-fn run_round(
-    alloc: Global,
-    issued: &mut u32,
-    bindings: &mut Vec<Bound>,
-    a: &Ty,
-    b: &Ty,
-) -> Result<Round, AllocError>
-    ensures prefix { Begins bindings.old.items bindings.new.items }
-    ensures ok { IfOk result (λ r. After r (mean a.now) (mean b.now)
-        issued.old (bindings_of bindings.old.items) (bindings_of bindings.new.items) issued.new) }
-{
-    let mark = bindings.len();
-    match difference(a, b) {
-        None => Ok(Round::Equal),
-        Some((x, y)) => {
-            if advance(alloc, issued, bindings, x, y)? {
-                let left = put_all(alloc, a, &bindings[mark..])?;
-                let right = put_all(alloc, b, &bindings[mark..])?;
-                return Ok(Round::More(left, right));
-            }
-            let first = copy_type(alloc, x)?;
-            let second = copy_type(alloc, y)?;
-            Ok(Round::Differs(first, second))
-        }
-    }
-}
-
-// Adds the bindings that make the types equal.
-fn solve(
-    alloc: Global,
-    issued: &mut u32,
-    bindings: &mut Vec<Bound>,
-    places: &Places,
-    a: &Ty,
-    b: &Ty,
-) -> Result<(), UnifyFault>
-    requires chain { Chain (bindings_of bindings.old.items) }
-    requires within { AllWithin issued.old (bindings_of bindings.old.items) }
-    requires indexed { Indexed places.now bindings.old.items }
-    requires left { Within issued.old (mean a.now) }
-    requires right { Within issued.old (mean b.now) }
-    ensures prefix { Begins bindings.old.items bindings.new.items }
-    ensures chain { OnOk result (Chain (bindings_of bindings.new.items)) }
-    ensures within { OnOk result (AllWithin issued.new (bindings_of bindings.new.items)) }
-    ensures more { OnOk result (issued.old ≤ issued.new) }
-    ensures ok { OnOk result (IsMade issued.old issued.new
-        (bindings_of bindings.old.items) (bindings_of bindings.new.items) (mean a.now) (mean b.now)) }
-    ensures err { MatchResult result (λ _. Unit {0})
-        (λ e. IsRefused e issued.old (bindings_of bindings.old.items) (mean a.now) (mean b.now)) }
-{
-    let mut left = settle(alloc, a, bindings.as_slice(), places)?;
-    let mut right = settle(alloc, b, bindings.as_slice(), places)?;
-    'search: loop {
-        match run_round(alloc, issued, bindings, &left, &right) {
-            Ok(Round::Equal) => return Ok(()),
-            Ok(Round::Differs(x, y)) => return Err(UnifyFault::Clash(x, y)),
-            Ok(Round::More(x, y)) => {
-                left = x;
-                right = y;
-            }
-            Err(_) => return Err(UnifyFault::Memory(AllocError)),
-        }
-    }
-}
-
 // Writes the places of the bindings from the mark on.
 fn note_places(places: &mut Places, bindings: &[Bound], mark: usize) -> Result<(), AllocError>
     requires chain { Chain (bindings_of bindings.now) }
@@ -123,68 +58,95 @@ fn note_places(places: &mut Places, bindings: &[Bound], mark: usize) -> Result<(
     Ok(())
 }
 
-// Adds the bindings that make the types equal, and their places.
-fn solve_and_note(
-    alloc: Global,
-    issued: &mut u32,
-    bindings: &mut Vec<Bound>,
-    places: &mut Places,
-    a: &Ty,
-    b: &Ty,
-) -> Result<(), UnifyFault>
-    requires chain { Chain (bindings_of bindings.old.items) }
-    requires within { AllWithin issued.old (bindings_of bindings.old.items) }
-    requires indexed { Indexed places.old bindings.old.items }
-    requires left { Within issued.old (mean a.now) }
-    requires right { Within issued.old (mean b.now) }
-    ensures prefix { Begins bindings.old.items bindings.new.items }
-    ensures old { Indexed places.new bindings.old.items }
-    ensures indexed { OnOk result (Indexed places.new bindings.new.items) }
-    ensures chain { OnOk result (Chain (bindings_of bindings.new.items)) }
-    ensures within { OnOk result (AllWithin issued.new (bindings_of bindings.new.items)) }
-    ensures more { OnOk result (issued.old ≤ issued.new) }
-    ensures ok { OnOk result (IsMade issued.old issued.new
-        (bindings_of bindings.old.items) (bindings_of bindings.new.items) (mean a.now) (mean b.now)) }
-    ensures err { MatchResult result (λ _. Unit {0})
-        (λ e. IsRefused e issued.old (bindings_of bindings.old.items) (mean a.now) (mean b.now)) }
-{
-    let mark = bindings.len();
-    solve(alloc, issued, bindings, places, a, b)?;
-    note_places(places, bindings.as_slice(), mark)?;
-    Ok(())
+// What is bound, in the order in which it was bound and by places, and how many variables are issued.
+#[derive(Drop)]
+struct Store {
+    issued: u32,
+    bindings: Vec<Bound>,
+    places: Places,
 }
 
-fn unify_fields(
-    alloc: Global,
-    issued: &mut u32,
-    bindings: &mut Vec<Bound>,
-    places: &mut Places,
-    a: &Ty,
-    b: &Ty,
-) -> Result<(), UnifyFault>
-    requires chain { Chain (bindings_of bindings.old.items) }
-    requires within { AllWithin issued.old (bindings_of bindings.old.items) }
-    requires indexed { Indexed places.old bindings.old.items }
-    requires left { Within issued.old (mean a.now) }
-    requires right { Within issued.old (mean b.now) }
-    ensures chain { Chain (bindings_of bindings.new.items) }
-    ensures within { AllWithin issued.new (bindings_of bindings.new.items) }
-    ensures indexed { Indexed places.new bindings.new.items }
-    ensures more { issued.old ≤ issued.new }
-    ensures ok { OnOk result (IsMade issued.old issued.new
-        (bindings_of bindings.old.items) (bindings_of bindings.new.items) (mean a.now) (mean b.now)) }
-    ensures err { MatchResult result (λ _. Unit {0})
-        (λ e. (bindings.new.items ≡ bindings.old.items) × (issued.new ≡ issued.old)
-        × IsRefused e issued.old (bindings_of bindings.old.items) (mean a.now) (mean b.now)) }
-{
-    let mark = bindings.len();
-    let count = *issued;
-    match solve_and_note(alloc, issued, bindings, places, a, b) {
-        Ok(()) => Ok(()),
-        Err(e) => {
-            bindings.truncate(mark);
-            *issued = count;
-            Err(e)
+impl Store {
+    // One round of the search: more bindings, or its end.
+    fn run_round(&mut self, alloc: Global, a: &Ty, b: &Ty) -> Result<Round, AllocError>
+        ensures further { IsFurther self.old self.new }
+        ensures ok { IfOk result (λ r. After r (mean a.now) (mean b.now)
+            self.old.issued (bound_in self.old) (bound_in self.new) self.new.issued) }
+    {
+        let mark = self.bindings.len();
+        match difference(a, b) {
+            None => Ok(Round::Equal),
+            Some((x, y)) => {
+                if advance(alloc, &mut self.issued, &mut self.bindings, x, y)? {
+                    let left = put_all(alloc, a, &self.bindings[mark..])?;
+                    let right = put_all(alloc, b, &self.bindings[mark..])?;
+                    return Ok(Round::More(left, right));
+                }
+                let first = copy_type(alloc, x)?;
+                let second = copy_type(alloc, y)?;
+                Ok(Round::Differs(first, second))
+            }
+        }
+    }
+
+    // Adds the bindings that make the types equal.
+    fn solve(&mut self, alloc: Global, a: &Ty, b: &Ty) -> Result<(), UnifyFault>
+        requires sound { IsSound self.old }
+        requires within { HasBoth self.old (mean a.now) (mean b.now) }
+        ensures further { IsFurther self.old self.new }
+        ensures solved { MatchResult result
+            (λ _. IsSolved self.old self.new (mean a.now) (mean b.now))
+            (λ e. IsRefused e self.old.issued (bound_in self.old) (mean a.now) (mean b.now)) }
+    {
+        let mut left = settle(alloc, a, self.bindings.as_slice(), &self.places)?;
+        let mut right = settle(alloc, b, self.bindings.as_slice(), &self.places)?;
+        'search: loop {
+            match self.run_round(alloc, &left, &right) {
+                Ok(Round::Equal) => return Ok(()),
+                Ok(Round::Differs(x, y)) => return Err(UnifyFault::Clash(x, y)),
+                Ok(Round::More(x, y)) => {
+                    left = x;
+                    right = y;
+                }
+                Err(_) => return Err(UnifyFault::Memory(AllocError)),
+            }
+        }
+    }
+
+    // Adds the bindings that make the types equal, and their places.
+    fn solve_and_note(&mut self, alloc: Global, a: &Ty, b: &Ty) -> Result<(), UnifyFault>
+        requires sound { IsSound self.old }
+        requires within { HasBoth self.old (mean a.now) (mean b.now) }
+        ensures kept { IsKept self.old self.new }
+        ensures solved { MatchResult result
+            (λ _. IsSound self.new × IsSolved self.old self.new (mean a.now) (mean b.now))
+            (λ e. IsRefused e self.old.issued (bound_in self.old) (mean a.now) (mean b.now)) }
+    {
+        let mark = self.bindings.len();
+        self.solve(alloc, a, b)?;
+        note_places(&mut self.places, self.bindings.as_slice(), mark)?;
+        Ok(())
+    }
+
+    // Makes the types equal, or leaves all as it was but for places that are out of date.
+    fn unify(&mut self, alloc: Global, a: &Ty, b: &Ty) -> Result<(), UnifyFault>
+        requires sound { IsSound self.old }
+        requires within { HasBoth self.old (mean a.now) (mean b.now) }
+        ensures sound { IsSound self.new }
+        ensures unified { MatchResult result
+            (λ _. IsSolved self.old self.new (mean a.now) (mean b.now))
+            (λ e. (self.new.bindings.items ≡ self.old.bindings.items) × (self.new.issued ≡ self.old.issued)
+            × IsRefused e self.old.issued (bound_in self.old) (mean a.now) (mean b.now)) }
+    {
+        let mark = self.bindings.len();
+        let count = self.issued;
+        match self.solve_and_note(alloc, a, b) {
+            Ok(()) => Ok(()),
+            Err(e) => {
+                self.bindings.truncate(mark);
+                self.issued = count;
+                Err(e)
+            }
         }
     }
 }
@@ -194,12 +156,8 @@ fn unify_fields(
 #[derive(Drop)]
 pub struct Subst {
     alloc: Global,
-    issued: u32,
-    bindings: Vec<Bound>,
-    places: Places,
-    pub ghost chain: { Chain (bindings_of bindings.items) } by { Chain-prop (bindings_of bindings.items) },
-    pub ghost within: { AllWithin issued (bindings_of bindings.items) } by { AllWithin-prop issued (bindings_of bindings.items) },
-    pub ghost indexed: { Indexed places bindings.items } by { Indexed-prop places bindings.items },
+    store: Store,
+    pub ghost sound: { IsSound store } by { IsSound-prop store },
 }
 
 impl Subst {
@@ -210,19 +168,19 @@ impl Subst {
         ensures none { issued_of result ≡ 0 }
         ensures empty { kept_by result ≡ [] }
     {
-        Subst {
-            alloc,
+        let store = Store {
             issued: 0,
             bindings: Vec::new(alloc),
             places: Places::new(alloc),
-        }
+        };
+        Subst { alloc, store }
     }
 
     /// How many variables are issued.
     pub fn issued(&self) -> u32
         ensures { result ≡ issued_of self.now }
     {
-        self.issued
+        self.store.issued
     }
 
     /// A new variable; one is to be left.
@@ -232,8 +190,8 @@ impl Subst {
         ensures issued { issued_of self.new ≡ issued_of self.old + 1 }
         ensures same { kept_by self.new ≡ kept_by self.old }
     {
-        let v = self.issued;
-        self.issued = v + 1;
+        let v = self.store.issued;
+        self.store.issued = v + 1;
         Ty::Var(v)
     }
 
@@ -241,7 +199,7 @@ impl Subst {
     pub fn resolved(&self, alloc: Global, t: &Ty) -> Result<Ty, AllocError>
         ensures { IfOk result (λ r. mean r ≡ apply (stands_for self.now) (mean t.now)) }
     {
-        let settled = settle(alloc, t, self.bindings.as_slice(), &self.places)?;
+        let settled = settle(alloc, t, self.store.bindings.as_slice(), &self.store.places)?;
         Ok(settled)
     }
 
@@ -250,8 +208,9 @@ impl Subst {
     /// each row variable stands after the same field names wherever it stands.
     ///
     /// A field that one record lacks goes into the row of that record's variable; where both lack
-    /// one, a new row variable follows in both, and no other variable is issued. The fault `Clash` comes exactly where no extension
-    /// makes the types equal, `Memory` also where a new row variable is wanted and none is left.
+    /// one, a new row variable follows in both, and no other variable is issued. The fault `Clash`
+    /// comes exactly where no extension makes the types equal, `Memory` also where a new row variable
+    /// is wanted and none is left.
     /// After a fault the substitution is as it was.
     pub fn unify(&mut self, a: &Ty, b: &Ty) -> Result<(), UnifyFault>
         requires left { Within (issued_of self.old) (mean a.now) }
@@ -263,13 +222,6 @@ impl Subst {
             (λ e. (issued_of self.new ≡ issued_of self.old) × (kept_by self.new ≡ kept_by self.old)
             × IsRefused e (issued_of self.old) (kept_by self.old) (mean a.now) (mean b.now)) }
     {
-        unify_fields(
-            self.alloc,
-            &mut self.issued,
-            &mut self.bindings,
-            &mut self.places,
-            a,
-            b,
-        )
+        self.store.unify(self.alloc, a, b)
     }
 }
