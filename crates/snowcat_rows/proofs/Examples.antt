@@ -1,13 +1,14 @@
 -- Examples of values of types, and of the types of text literals.
-use Rattle.std.proofs.Common.{◌≡◌, ℕ, true, List, [], ◌∷◌, refl, ap, sym, ◌∙◌, subst, pos, codes, false, Some, None}
+use Rattle.std.proofs.Common.{◌≡◌, ℕ, true, List, [], ◌∷◌, refl, ap, sym, ◌∙◌, subst, pos, codes, false, Some, None, arith}
 use Rattle.tla_values.specs.declared.value.Value.TheVariants as value
-use Rattle.snowcat_rows.specs.Types.{Term, var, con, app, BoolHead, IntHead, StrHead, NamedHead, SetHead, TupHead, EndHead, Beside, here}
+use Rattle.snowcat_rows.specs.Types.{Term, var, con, app, fields, row, lookup, BoolHead, IntHead, StrHead, NamedHead, SetHead, TupHead, EndHead, Beside, here}
 use Rattle.snowcat_rows.specs.Substitutions.{Fronts, apply}
 use Rattle.snowcat_rows.specs.Chains.{Binding, solved, sub_of}
-use Rattle.snowcat_rows.specs.Unifying.{Follow, given, and_then, Unmade}
+use Rattle.snowcat_rows.specs.Unifying.{Follow, given, and_then, Made, Unmade}
 use Rattle.snowcat_rows.specs.Readings.{unknown_within}
 use Rattle.snowcat_rows.specs.LiteralTypes.{literal_type}
 use Rattle.snowcat_rows.specs.TypeTexts.{bool, int, str, variable, set, function, record_of, parens, last, also, pieces, is_formed, is_among, Written, IsTypeText}
+use Rattle.snowcat_rows.specs.Spellable.{HasText, Spellable}
 use Rattle.snowcat_rows.specs.Values.{HasType, InBounds}
 
 of_node : literal_type (codes "1_OF_NODE") ≡ con (NamedHead (codes "NODE"))
@@ -86,3 +87,23 @@ these_two : (n : ℕ) (l : Fronts) (x y : Term) → Unmade n l [] (con IntHead) 
 these_two n l x y u =
     let P : List Binding → Type 0 = λ z. Beside x y (solved z (con IntHead)) (solved z a_set) in
     one_place x y (subst P (nothing_follows n l u.issued u.fronts u.reached u.follow) u.beside)
+
+-- ---- types that can be written
+
+-- << >>
+no_items : HasText (app (con TupHead) (row [])) → ⊥
+no_items h = h
+
+abbrev with_field : List ℕ → Term
+with_field x = fields (lookup ((x, con IntHead) ∷ [])) (Some 0)
+
+-- <<{f: Int, r}, {g: Int, r}>>
+two_fronts : Spellable (app (con TupHead) (row (with_field (codes "f") ∷ with_field (codes "g") ∷ []))) → ⊥
+two_fronts s =
+    let k = s.fronts.1.1 in
+    k.1.0.1 0 refl (codes "f") (k.0.1 0 refl (codes "f"))
+
+-- ---- a variable that no binding needs is not issued
+
+in_vain : (l : Fronts) (a b : Term) → Made 0 1 l [] [] a b → ⊥
+in_vain l a b h = (h.needed 0 (omega arith) (omega arith)).3
