@@ -69,11 +69,7 @@ fn is_read(alloc: Global, line: &str) -> Result<bool, AllocError> {
 }
 
 // The type of a text, read again from what is shown of it: the same but for the numbers of its variables.
-fn read_again(
-    alloc: Global,
-    text: &[u8],
-    aliases: &List<(Text, Text)>,
-) -> Result<Ty, TypeTextFault>
+fn read_again(alloc: Global, text: &[u8], aliases: &List<(Text, Text)>) -> Result<Ty, TypeTextFault>
     ensures { IfOk result (λ u. (t : Term) × IsReadAs aliases.now text.now t × Variants t (mean u)) }
 {
     let first = read_type(alloc, text, aliases)?;
