@@ -1,19 +1,18 @@
 -- A text in the fixed layout says its job.
-use Rattle.std.proofs.Common.{◌≡◌, ℕ, zero, suc, ◌+◌, ◌<◌, Bool, true, false, List, [], ◌∷◌, ◌++◌, map, length, get_or, Option, Some, None, All, refl, sym, ◌∙◌, ap, subst, arith, codes, append_assoc}
+use Rattle.std.proofs.Common.{◌≡◌, ℕ, zero, suc, ◌+◌, ◌<◌, Bool, true, false, List, [], ◌∷◌, ◌++◌, length, get_or, Option, Some, None, All, refl, sym, ◌∙◌, ap, subst, arith, codes, append_assoc}
 use Rattle.std.specs.Prelude.{◌&&◌, not, bytes_eq, IsTrue, if◌then◌else◌}
 use Rattle.std.specs.List.{list_all}
 use Rattle.std.proofs.lemmas.Bool.{and_parts}
 use Rattle.std.proofs.lemmas.List.Elements.{All-nil, All-cons, All-head, All-tail, All-weaker}
 use Rattle.tla_lexer.specs.declared.token.Token.{Token}
+use Rattle.tla_lexer.specs.declared.token.TokenKind.TheVariants.{Symbol}
 use Rattle.tla_meaning.specs.declared.boolean.BooleanModule.{BooleanModule}
 use Rattle.tla_meaning.specs.declared.boolean.Conjunct.{Conjunct}
-use Rattle.tla_meaning.specs.declared.expr.Expr.{Expr, roll-Expr}
-use Rattle.tla_meaning.specs.declared.expr.Expr.TheOpen.{Expr-F}
-use Rattle.tla_meaning.specs.declared.expr.Expr.TheFolds.{fold-roll-Expr}
+use Rattle.tla_meaning.specs.declared.expr.Expr.{Expr}
 use Rattle.tla_meaning.specs.declared.job.Job.{Job}
 use Rattle.tla_meaning.specs.declared.modules.Module.{Module}
 use Rattle.tla_meaning.specs.declared.place.Place.{Place}
-use Rattle.tla_meaning.specs.BooleanLayout.{IsBooleanLayout, IsBooleanModule, are_different, behind, conjunct_text, conjunction_tree, declarations, defined_names, init_line, is_among, job_of, module_text, name_at, next_tree, no_part, operator, operator_text, place_at, tree as tree_at}
+use Rattle.tla_meaning.specs.BooleanLayout.{IsBooleanLayout, IsBooleanModule, are_different, behind, conjunct_text, conjunction_tree, declarations, defined_names, init_line, is_among, job_of, module_text, name_at, next_tree, no_part, operator_text, place_at}
 use Rattle.plain_jobs.specs.Layout.{said_by}
 use Rattle.plain_jobs.specs.Plain.{IsWhole}
 use Rattle.plain_jobs.specs.Resolved.{SaysJob, names_of, resolved}
@@ -21,18 +20,20 @@ use Rattle.plain_jobs.proofs.JobLaws.{branches_below, guards_below, start_below}
 use Rattle.plain_jobs.proofs.Layouts.{layout_said}
 use Rattle.plain_texts.specs.Sources.{IsPlainText}
 use Rattle.tla_parser.specs.Aliases.{Alias, aliases_in, aliases_of}
-use Rattle.tla_parser.specs.Fields.{fields_differ, names_differ}
+use Rattle.tla_parser.specs.Fields.{has_fields, once, once_in}
 use Rattle.tla_parser.specs.Grammar.{Spells, module_for}
 use Rattle.tla_parser.specs.Signs.{fold_name}
 use Rattle.tla_parser.specs.Spelling.{tree}
-use Rattle.layout_texts.specs.Tokens.{branches_tokens, conjunct_tokens, conjunction_tokens, inv_line, module_tokens, prime_tokens, variables_tokens}
+use Rattle.tla_parser.specs.Written.{Parts, Written, bin, exp, start, tailed, tok}
+use Rattle.tla_parser.specs.declared.moves.Construct.TheVariants.{Junction}
+use Rattle.layout_texts.specs.Tokens.{branches_tokens, conjunct_tokens, conjunction_tokens, inv_line, module_tokens, prime_tokens, token_at, variable_token, variables_tokens}
 use Rattle.layout_texts.specs.Words.{HasNoFold}
-use Rattle.layout_texts.proofs.Conjuncts.{IsWord, conjunction_part, item_part, operand_part, subject_part}
-use Rattle.layout_texts.proofs.Modules.{IsWordy, init_body, inv_body, module_is, module_low, module_part, module_tokens_are, next_body}
+use Rattle.layout_texts.proofs.Conjuncts.{IsWord, chain_part, conjunction_part, item_part, operand_part, subject_part, wedge_at}
+use Rattle.layout_texts.proofs.Modules.{IsWordy, header_part, init_body, inv_body, module_is, module_low, module_part, module_tokens_are, next_body, variables_part}
 use Rattle.layout_texts.proofs.ModuleTrees.{defined, module_read, units_of}
-use Rattle.layout_texts.proofs.Branches.{branch_part}
-use Rattle.layout_texts.proofs.BranchTrees.{KnownSome, next_resolved, next_tree_is, trees_of}
-use Rattle.layout_texts.proofs.ConjunctTrees.{Known, conjunction_resolved, conjunction_tree_is, item_tree, item_trees, operand_tree, prime_tree, word_tree}
+use Rattle.layout_texts.proofs.Branches.{branch_part, list_part, vee_at}
+use Rattle.layout_texts.proofs.BranchTrees.{KnownSome, next_resolved}
+use Rattle.layout_texts.proofs.ConjunctTrees.{Known, conjunction_resolved}
 use Rattle.layout_texts.proofs.Texts.{IsRead, is_read, layout_read}
 
 -- ---- no aliases
@@ -114,69 +115,76 @@ wordy m is whole none =
 
 -- ---- no records
 
-node_differs : (x : Expr-F Expr) → fields_differ (roll-Expr x) ≡ (names_differ x.op && list_all (λ b. b) (map fields_differ x.args))
-node_differs x = fold-roll-Expr Bool (λ y. names_differ y.op && list_all (λ b. b) y.args) x
-
 and_one : (a b : Bool) → a ≡ true → b ≡ true → (a && b) ≡ true
 and_one a b e f = ap (λ (x : Bool). x && b) e ∙ f
 
-subject_differs : (x : List ℕ) (primed : Bool) (p : Place) → fields_differ (tree (subject_part x primed p)) ≡ true
-subject_differs x true p = ap fields_differ (prime_tree x p) ∙ node_differs _ ∙ ap (λ (v : Bool). v && true) (node_differs _)
-subject_differs x false p = ap fields_differ (word_tree x p) ∙ node_differs _
+subject_once : (x : List ℕ) (primed : Bool) (p : Place) → once (subject_part x primed p) ≡ true
+unfolding has_fields
+subject_once x true p = refl
+subject_once x false p = refl
 
-operand_differs : (o : Option Bool) (p : Place) → fields_differ (tree (operand_part o p)) ≡ true
-operand_differs None p = ap fields_differ (operand_tree None p) ∙ node_differs _
-operand_differs (Some b) p = ap fields_differ (operand_tree (Some b) p) ∙ node_differs _
+operand_once : (o : Option Bool) (p : Place) → once (operand_part o p) ≡ true
+unfolding has_fields
+operand_once None p = refl
+operand_once (Some true) p = refl
+operand_once (Some false) p = refl
 
-pair_differs : (p : Place) (o : Option Bool) (a b : Expr) → fields_differ a ≡ true → fields_differ b ≡ true → fields_differ (tree_at p (operator o) (a ∷ b ∷ [])) ≡ true
-pair_differs p None a b e f = node_differs _ ∙ and_one (fields_differ a) (fields_differ b && true) e (and_one (fields_differ b) true f refl)
-pair_differs p (Some v) a b e f = node_differs _ ∙ and_one (fields_differ a) (fields_differ b && true) e (and_one (fields_differ b) true f refl)
-
-item_differs : (x : List ℕ) (primed : Bool) (o : Option Bool) (p : Place) → fields_differ (tree (item_part x primed o p)) ≡ true
-item_differs x primed o p =
+item_once : (x : List ℕ) (primed : Bool) (o : Option Bool) (p : Place) → once (item_part x primed o p) ≡ true
+item_once x primed o p =
     let at = behind p (length (x ++ (if primed then codes "' " else codes " "))) in
-    let at_v = behind at (length (operator_text o)) in
-    ap fields_differ (item_tree x primed o p)
-    ∙ pair_differs at o (tree (subject_part x primed p)) (tree (operand_part o at_v)) (subject_differs x primed p) (operand_differs o at_v)
+    let v = operand_part o (behind at (length (operator_text o))) in
+    and_one (once (subject_part x primed p)) (once v) (subject_once x primed p) (operand_once o (behind at (length (operator_text o))))
 
-abbrev all_differ : List Expr → Bool
-all_differ es = list_all (λ b. b) (map fields_differ es)
-
-items_differ : (names : List (List ℕ)) (p : Place) (c : Conjunct) (ds : List Conjunct) → all_differ (item_trees names p c ds) ≡ true
-items_differ names p c [] = refl
-items_differ names p c (d ∷ ds) =
+chain_once : (names : List (List ℕ)) (p : Place) (c : Conjunct) (w : Written) (ds : List Conjunct) → once w ≡ true → once (chain_part names p c w ds) ≡ true
+chain_once names p c w [] e = e
+chain_once names p c w (d ∷ ds) e =
     let next = behind p (length (conjunct_text names c) + 4) in
-    and_one (fields_differ (tree (item_part (name_at names d.var) d.primed d.choice next))) (all_differ (item_trees names next d ds))
-    (item_differs (name_at names d.var) d.primed d.choice next) (items_differ names next d ds)
+    let v = item_part (name_at names d.var) d.primed d.choice next in
+    chain_once names next d (bin w (wedge_at (behind p (length (conjunct_text names c) + 1))) v) ds
+    (and_one (once w) (once v) e (item_once (name_at names d.var) d.primed d.choice next))
 
-conjunction_differs : (names : List (List ℕ)) (p : Place) (c : Conjunct) (cs : List Conjunct) → fields_differ (tree (conjunction_part names p c cs)) ≡ true
-conjunction_differs names p c [] = item_differs (name_at names c.var) c.primed c.choice p
-conjunction_differs names p c (d ∷ ds) =
-    ap fields_differ (conjunction_tree_is names p c d ds) ∙ node_differs _
-    ∙ and_one (fields_differ (tree (item_part (name_at names c.var) c.primed c.choice p))) _ (item_differs (name_at names c.var) c.primed c.choice p) (items_differ names p c (d ∷ ds))
+conjunction_once : (names : List (List ℕ)) (p : Place) (c : Conjunct) (cs : List Conjunct) → once (conjunction_part names p c cs) ≡ true
+conjunction_once names p c cs = chain_once names p c (item_part (name_at names c.var) c.primed c.choice p) cs (item_once (name_at names c.var) c.primed c.choice p)
 
-branches_differ : (names : List (List ℕ)) (line : ℕ) (bs : List (List Conjunct)) → All (λ b. 0 < length b) bs → all_differ (trees_of names line bs) ≡ true
-branches_differ names line [] some = refl
-branches_differ names line (b ∷ bs) some =
-    and_one (fields_differ (tree (branch_part names line b))) (all_differ (trees_of names (line + 1) bs)) (one b (All-head (λ x. 0 < length x) b bs some))
-    (branches_differ names (line + 1) bs (All-tail (λ x. 0 < length x) b bs some))
-  where
-    one : (x : List Conjunct) → 0 < length x → fields_differ (tree (branch_part names line x)) ≡ true
-    one [] lt = absurd (omega arith)
-    one (c ∷ cs) lt = conjunction_differs names (place_at line 12) c cs
+branch_once : (names : List (List ℕ)) (line : ℕ) (b : List Conjunct) → once (branch_part names line b) ≡ true
+branch_once names line [] = subject_once [] false (place_at line 12)
+branch_once names line (c ∷ cs) = conjunction_once names (place_at line 12) c cs
 
-init_differs : (m : BooleanModule) (cs : List Conjunct) → 0 < length cs → fields_differ (tree (init_body m cs)) ≡ true
-init_differs m [] some = absurd (omega arith)
-init_differs m (c ∷ cs) some = conjunction_differs m.vars (place_at (init_line m) 9) c cs
+junction_once : (ps : Parts) (w : Written) → once_in ps ≡ true → once w ≡ true → once (tailed Junction ps w) ≡ true
+unfolding has_fields
+junction_once ps w e f = and_one (once_in ps) (once w && true) e (and_one (once w) true f refl)
 
-inv_differs : (m : BooleanModule) (cs : List Conjunct) → 0 < length cs → fields_differ (tree (inv_body m cs)) ≡ true
-inv_differs m [] some = absurd (omega arith)
-inv_differs m (c ∷ cs) some = conjunction_differs m.vars (place_at (inv_line m) 8) c cs
+list_once : (names : List (List ℕ)) (ps : Parts) (line : ℕ) (b : List Conjunct) (bs : List (List Conjunct)) → once_in ps ≡ true → once (list_part names ps line b bs) ≡ true
+list_once names ps line b [] e = junction_once (tok ps (vee_at line)) (branch_part names line b) e (branch_once names line b)
+list_once names ps line b (c ∷ bs) e =
+    list_once names (exp (tok ps (vee_at line)) (branch_part names line b)) (line + 1) c bs
+    (and_one (once_in ps) (once (branch_part names line b)) e (branch_once names line b))
 
-next_differs : (m : BooleanModule) (bs : List (List Conjunct)) → 0 < length bs → All (λ b. 0 < length b) bs → fields_differ (tree (next_body m bs)) ≡ true
-next_differs m [] some all = absurd (omega arith)
-next_differs m (b ∷ bs) some all =
-    ap fields_differ (next_tree_is m.vars (init_line m + 1) b bs) ∙ node_differs _ ∙ branches_differ m.vars (init_line m + 1) (b ∷ bs) all
+init_once : (m : BooleanModule) (cs : List Conjunct) → once (init_body m cs) ≡ true
+init_once m [] = subject_once [] false (place_at 0 0)
+init_once m (c ∷ cs) = conjunction_once m.vars (place_at (init_line m) 9) c cs
+
+inv_once : (m : BooleanModule) (cs : List Conjunct) → once (inv_body m cs) ≡ true
+inv_once m [] = subject_once [] false (place_at 0 0)
+inv_once m (c ∷ cs) = conjunction_once m.vars (place_at (inv_line m) 8) c cs
+
+next_once : (m : BooleanModule) (bs : List (List Conjunct)) → once (next_body m bs) ≡ true
+next_once m [] = subject_once [] false (place_at 0 0)
+next_once m (b ∷ bs) = list_once m.vars start (init_line m + 1) b bs refl
+
+variables_once : (ps : Parts) (line : ℕ) (xs : List (List ℕ)) → once_in ps ≡ true → once_in (variables_part ps line xs) ≡ true
+variables_once ps line [] e = e
+variables_once ps line (x ∷ []) e = e
+variables_once ps line (x ∷ y ∷ xs) e =
+    variables_once (tok (tok ps (variable_token line x)) (token_at (Symbol (codes ",")) (place_at (line + 1) (3 + length x)))) (line + 2) (y ∷ xs) e
+
+module_once : (m : BooleanModule) → once_in (module_part m) ≡ true
+module_once m =
+    let vars = once_in (variables_part (header_part m) 3 m.vars) in
+    and_one ((vars && once (init_body m m.init)) && once (next_body m m.next)) (once (inv_body m m.inv))
+    (and_one (vars && once (init_body m m.init)) (once (next_body m m.next))
+    (and_one vars (once (init_body m m.init)) (variables_once (header_part m) 3 m.vars refl) (init_once m m.init)) (next_once m m.next))
+    (inv_once m m.inv)
 
 -- ---- the module
 
@@ -188,16 +196,13 @@ module_spelled m is =
     ap (λ (x : Module). record x { aliases = aliases_of (module_tokens m) }) (module_read m is)
     ∙ ap (λ (a : List Alias). record (module_of m) { aliases = a }) (module_quiet m)
 
-spells : (m : BooleanModule) → IsWordy m → Spells (module_of m) (module_tokens m)
+abbrev spells : (m : BooleanModule) → IsWordy m → Spells (module_of m) (module_tokens m)
 spells m is = record {
   written = module_part m;
   by_rules = module_is m is;
   tokens_so = module_tokens_are m is;
   module_so = module_spelled m is;
-  fields_so =
-      and_one (fields_differ (tree (init_body m m.init))) _ (init_differs m m.init is.init.0)
-      (and_one (fields_differ (tree (next_body m m.next))) _ (next_differs m m.next is.some_branch (λ k d lt. (is.next k d lt).0))
-      (and_one (fields_differ (tree (inv_body m m.inv))) true (inv_differs m m.inv is.inv.0) refl));
+  fields_so = module_once m;
 }
 
 -- ---- the job
@@ -274,7 +279,7 @@ layout_says file job bytes layout none =
         tokens = module_tokens m;
         run = layout_read m wf;
         spells = spells m words;
-        within = record { written = module_part m; by_rules = module_is m words; tokens_so = module_tokens_are m words; levels_so = module_low m words };
+        within = record { source = module_of m; spelled = spells m words; levels_so = module_low m words };
       };
       named = layout.named;
       says = says file m wf is whole;

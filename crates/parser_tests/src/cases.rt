@@ -99,6 +99,7 @@ STRING  => (STRING)
 [S -> T]  => (funset S T)
 [a |-> 1]  => (record a 1)
 [a |-> 1, b |-> 2]  => (record a b 1 2)
+[a |-> b, b |-> [a |-> a]]  => (record a b b (record a a))
 [a : S, b : T]  => (recset a b S T)
 [f EXCEPT ![i] = e]  => (except 1 [ @ ] f i e)
 [f EXCEPT ![i, j][k].a = e, !.b = @]  => (except 3 1 [ @ ] f (tuple i j) k "a e "b @)
@@ -230,6 +231,7 @@ LAMBDA a, b : a  => grammar 2:1
 [a |-> 1, a |-> 2]  => grammar 2:1
 [a : S, b : T, a : U]  => grammar 2:1
 {[b |-> [a |-> 1, a |-> 2]]}  => grammar 2:1
-LET ~ a == b IN a  => grammar 2:1
+LET ~ a == b IN a  => operator definition by symbol 3:5
+LET ~ a b IN a  => grammar 2:1
 LET a + b == a IN a  => operator definition by symbol 3:7
 "#;

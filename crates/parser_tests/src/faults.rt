@@ -21,6 +21,10 @@ pub(crate) const FAULTS: &str = r#"---- MODULE M ----;A == 1;B == (;C == 3;==== 
 ---- MODULE 5 ----;A == 1;====  => grammar 1:1
 ---- MODULE M ----;A == 1;B == [a |-> 1, a |-> 2];C == 3;====  => grammar 3:1
 ---- MODULE M ----;A == ApaFoldSeqLeft(1, 2;====  => grammar 2:1
+---- MODULE M ----;A == [a |-> 1, a |-> 2];B == (;====  => grammar 2:1
+---- MODULE M ----;A == 1;B == {[b |-> [a |-> 1, a |-> 2]]};----;C == (;====  => grammar 3:1
+---- MODULE M ----;A == [a |-> 1, a |-> 2];B == [b : S, c : T, b : U];====  => grammar 2:1
+---- MODULE M ----;A == (;B == [a |-> 1, a |-> 2];====  => grammar 2:1
 "#;
 
 /// The first unit with more than 400 levels, where all are whole.
@@ -32,6 +36,8 @@ pub(crate) const DEEP: &str = r#"---- MODULE M ----;A == %TRUE;====  => deep 2:1
 ---- MODULE M ----;VARIABLE x;----;A[y \in %TRUE] == 1;====  => deep 4:1
 ---- MODULE M ----;A == 1 B == (%TRUE);----;====  => deep 2:8
 ---- MODULE M ----;A == %TRUE;B == (;====  => grammar 3:1
+---- MODULE M ----;A == [a |-> 1, a |-> 2];B == %TRUE;====  => grammar 2:1
+---- MODULE M ----;A == %TRUE;B == [a |-> 1, a |-> 2];====  => grammar 3:1
 "#;
 
 /// Forms of the language that are read nowhere.
@@ -58,5 +64,34 @@ pub(crate) const NOT_READ: &str =
 ---- MODULE M ----;A == {x : y \in S, <<z, u>> \in T};====  => tuple pattern 2:20
 ---- MODULE M ----;A == \E <<x, y>> \in S : (;====  => tuple pattern 2:9
 ---- MODULE M ----;A == f(a, <<b, 2>>;====  => grammar 2:1
+---- MODULE M ----;A == );THEOREM TRUE;PROOF OBVIOUS;====  => grammar 2:1
+---- MODULE M ----;A == [a |-> 1, _ |-> 2];====  => grammar 2:1
+---- MODULE M ----;f[x \in S] == LET g(a, <<b>>) == 1 IN 2;====  => grammar 2:1
+---- MODULE M ----;A == /\ \E;<<x>> \in S : p;====  => grammar 2:1
+---- MODULE M ----;VARIABLE x, <<y>>;====  => grammar 2:1
+---- MODULE M ----;A == LET F(a) == INSTANCE N IN 1;====  => parametrized INSTANCE 2:18
+---- MODULE M ----;A == 1 F(_) == 2;====  => operator parameter 2:10
+---- MODULE M ----;CONSTANT B;VARIABLE C(_);====  => grammar 3:1
+---- MODULE M ----;CONSTANT B;F(C(_)) == 1;====  => operator parameter 3:5
+---- MODULE M ----;RECURSIVE F(a);====  => grammar 2:1
+---- MODULE M ----;LOCAL ~ a == 1;====  => operator definition by symbol 2:7
+---- MODULE M ----;A == 1;~ a == 2;====  => operator definition by symbol 3:1
+---- MODULE M ----;a + b;====  => grammar 2:1
+---- MODULE M ----;Init = x = 0;====  => grammar 2:1
+---- MODULE M ----;A == 1;~ a;====  => grammar 2:1
+---- MODULE M ----;F(~ a) == 2;====  => grammar 2:1
+---- MODULE M ---- MODULE N;====  => grammar 1:20
+---- MODULE BY ----;A == 1;====  => grammar 1:1
+---- MODULE M ----;A == 1 + BY;====  => grammar 2:1
+---- MODULE M ----;A == (1 <3> 2);====  => grammar 2:1
+---- MODULE M ----;A == TRUE;QED;====  => proof 3:1
+---- MODULE M ----;A == [a |-> 1, a |-> 2];---- MODULE N;====  => grammar 2:1
+---- MODULE M ----;A == [a |-> 1, a |-> 2];a + b == 1;====  => grammar 2:1
+---- MODULE M ----;A == <<[a |-> 1, a |-> 2], \E <<x>> \in S : p>>;====  => tuple pattern 2:31
 ---- MODULE M ----;A == [a |-> 1, <<b>> |-> 2];====  => grammar 2:1
+---- MODULE M ----;A == [a |-> 1, a |-> 2];B == \E <<x, y>> \in S : p;====  => grammar 2:1
+---- MODULE M ----;A == [a |-> 1, a |-> 2];a + b == 1;====  => grammar 2:1
+---- MODULE M ----;A == [a |-> 1, a |-> 2];---- MODULE N ----;====  => grammar 2:1
+---- MODULE M ----;f[x \in S] == [a |-> 1, a |-> 2];CONSTANT c, d(_);====  => grammar 2:1
+---- MODULE M ----;A == {[a |-> 1, a |-> 2], \E <<x, y>> \in S : p};====  => tuple pattern 2:30
 "#;

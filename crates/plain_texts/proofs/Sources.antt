@@ -11,8 +11,8 @@ use Rattle.tla_meaning.specs.declared.modules.Module.{Module}
 use Rattle.tla_meaning.specs.declared.modules.Unit.{Unit as ModuleUnit}
 use Rattle.tla_meaning.specs.declared.modules.Unit.TheVariants.{Declare, Define}
 use Rattle.tla_meaning.specs.BooleanLayout.{no_part}
-use Rattle.tla_parser.specs.Grammar.{IsRefusal, Spells}
-use Rattle.tla_parser.specs.Rules.{SpelledWithin}
+use Rattle.tla_parser.specs.Grammar.{SpelledWithin, Spells}
+use Rattle.tla_parser.specs.Refused.{IsRefusal}
 use Rattle.tla_parser.specs.declared.fault.ParseFault.{ParseFault}
 use Rattle.tla_values.specs.FileNames.{without_folder}
 use Rattle.tla_lexer.proofs.OneAnswer.{tokens_same, apart}

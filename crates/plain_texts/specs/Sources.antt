@@ -9,7 +9,7 @@ use Rattle.tla_lexer.specs.declared.token.Token.{Token}
 use Rattle.tla_meaning.specs.declared.job.Job.{Job}
 use Rattle.tla_meaning.specs.declared.modules.Module.{Module}
 use Rattle.tla_parser.specs.Grammar as grammar
-use Rattle.tla_parser.specs.Rules.{SpelledWithin}
+use Rattle.tla_parser.specs.Refused.{IsRefusal}
 use Rattle.tla_parser.specs.declared.fault.ParseFault.{ParseFault}
 use Rattle.tla_parser.specs.declared.fault.ParseFault.TheVariants as parse
 use Rattle.tla_values.specs.FileNames.{without_folder}
@@ -23,7 +23,7 @@ pub record IsSpelled (bytes : List ℕ) (m : Module) : Type 0 where
   pub tokens : List Token
   pub run : IsTokenRun 0 bytes tokens
   pub spells : grammar.Spells m tokens
-  pub within : SpelledWithin 400 tokens
+  pub within : grammar.SpelledWithin 400 tokens
 
 -- ---- jobs
 
@@ -54,7 +54,7 @@ pub record IsNotPlain (file bytes : List ℕ) : Type 0 where
 pub record IsUnspelled (bytes : List ℕ) (fault : ParseFault) : Type 0 where
   pub tokens : List Token
   pub run : IsTokenRun 0 bytes tokens
-  pub refused : grammar.IsRefusal fault tokens
+  pub refused : IsRefusal fault tokens
 
 -- why the bytes are refused: they spell no module, or one of more than 400 levels
 abbrev pub IsRefused : List ℕ → Refusal → Type 0

@@ -12,8 +12,8 @@ use Rattle.tla_parser.specs.declared.moves.Construct.{Construct}
 use Rattle.tla_parser.specs.declared.open.Code.{Code}
 use Rattle.tla_parser.specs.declared.open.Code.TheVariants.{Close, Infix, Part, Prefix}
 use Rattle.tla_parser.specs.inner.Building.{made, made_on, shut_form}
-use Rattle.tla_parser.specs.Written.{Parts, Written, bin, class, closed, continues, exp, from, pre, start, tailed, tok, top}
-use Rattle.tla_parser.specs.inner.Derivations.{parts, post, posts}
+use Rattle.tla_parser.specs.Written.{Parts, Written, bin, class, closed, continues, exp, from, parts, pre, start, tailed, tok, top}
+use Rattle.tla_parser.specs.inner.Derivations.{post, posts}
 
 made_append : (xs ys : List Code) (o : Option (List Item)) → made (xs ++ ys) o ≡ made ys (made xs o)
 made_append [] ys o = refl

@@ -2,12 +2,11 @@
 use Rattle.std.proofs.Common.{Bool, true, false, not, List, refl, ap, ◌≡◌, ◌∷◌, ◌++◌, ◌∙◌, []}
 use Rattle.tla_lexer.specs.declared.token.Token.{Token as Tok}
 use Rattle.tla_parser.proofs.Faults.{advances_append, read, written_tells}
+use Rattle.tla_parser.proofs.Growing.{never_stuck}
 use Rattle.tla_parser.proofs.Laws.{clash, negated}
 use Rattle.tla_parser.proofs.Tracking.{Tells}
 use Rattle.tla_parser.specs.Refused.{Goes}
 use Rattle.tla_parser.specs.declared.open.Mode.TheVariants.{Have, Read, Stuck, Want}
-use Rattle.tla_parser.specs.declared.open.Open.{Open}
-use Rattle.tla_parser.specs.declared.open.Open.TheVariants.{Before, Between, Within}
 use Rattle.tla_parser.specs.inner.Moves.{in_units}
 use Rattle.tla_parser.specs.inner.Recognition.{Status, advances, finished, lost, module_start, running}
 use Rattle.tla_parser.specs.inner.Standings.{innermost, standing_of}
@@ -15,13 +14,6 @@ use Rattle.tla_parser.proofs.Nesting.{Nested, advances_nested, takes_operand}
 use Rattle.tla_parser.proofs.Finishing.{CanEnd, alive_ends}
 
 -- ---- where nothing goes on
-
-never_stuck : (s : List Open) → (innermost s).stuck ≡ false
-never_stuck [] = refl
-never_stuck (Before p ∷ s) = refl
-never_stuck (Between a o ∷ s) = refl
-never_stuck (Within f ∷ []) = refl
-never_stuck (Within f ∷ g ∷ s) = refl
 
 pub stuck_ends : (st : Status) → (standing_of st).stuck ≡ true → (more : List Tok) → finished (advances st more) ≡ false
 stuck_ends lost h [] = refl

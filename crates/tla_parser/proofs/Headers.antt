@@ -3,6 +3,7 @@ use Rattle.std.proofs.Common.{nat_lt, ◌==◌}
 use Rattle.std.proofs.Common.{ℕ, Bool, true, false, not, List, inl, inr, refl, sym, ap, subst, arith, eqb-true, ltb-true, ◌≡◌, ◌⊎◌, ◌<◌, ◌+◌, ◌∷◌, ◌++◌, ◌&&◌, ◌||◌, ◌∙◌, []}
 use Rattle.tla_lexer.specs.declared.token.Token.{Token as Tok}
 use Rattle.tla_parser.proofs.Basics.{and_both, either, not_true, or_cases}
+use Rattle.tla_parser.proofs.FieldLaw.{once_part}
 use Rattle.tla_parser.proofs.Laws.{clash, same_sign-is}
 use Rattle.tla_parser.specs.Beginnings.{begins_unit, ended}
 use Rattle.tla_parser.specs.Operators.{number_of, same_sign}
@@ -21,7 +22,8 @@ use Rattle.tla_parser.specs.declared.signs.Sign.TheVariants.{EndSign}
 use Rattle.tla_parser.specs.inner.Derivations.{delta}
 use Rattle.tla_parser.specs.inner.Moves.{Row, found, heads, listed_heads, local_heads, module_heads, moved, name_heads, recursive_heads, subscript_heads, unit_heads, unit_rows, update_heads}
 use Rattle.tla_parser.specs.inner.Moves.{is_finished}
-use Rattle.tla_parser.specs.inner.Recognition.{Status, advance, ended_module, entered, finished, form, is_fail, levels_read, lost, running}
+use Rattle.tla_parser.specs.inner.Recognition.{Status, advance, code_read, ended_module, entered, finished, form, is_fail, levels_read, lost, running}
+use Rattle.tla_parser.specs.inner.Repeats.{once_codes}
 use Rattle.tla_parser.specs.inner.Standings.{behind_header, declaring, ends_header, heading, in_header, in_unit, leads, led_by, next_in_header, standing_of, starts, wanted_by}
 
 -- a header goes on, a unit begins, or neither
@@ -153,6 +155,25 @@ header_levels t k count c m = ap levels_read (advance_mark t k count c m) ∙ by
     by_next (Shut j) = refl
     by_next Fail = refl
 
+-- no form is whole there, so no field is named
+header_once : (t : Tok) (k : Mark) (count : ℕ) (c : List Code) (m : ℕ) → in_header k ≡ true → once_codes c ≡ true → once_codes (code_read (advance t (at_mark k count c m))) ≡ true
+header_once t k count c m h o = ap (λ (st : Status). once_codes (code_read st)) (advance_mark t k count c m) ∙ by_next (found (sign t) (heads k)) (header_found (sign t) (heads k) (header_heads k h))
+  where
+    part_so : once_codes (c ++ (Part t ∷ [])) ≡ true
+    part_so = once_part c t ∙ o
+
+    by_next : (x : Next) → (is_fail x ≡ true) ⊎ (leads_on (sign t) x ≡ true) → once_codes (code_read (entered x (count + 1) 0 [] (c ++ (Part t ∷ [])) 0)) ≡ true
+    by_next (Reads j) e = part_so
+    by_next (Wants j) e = part_so
+    by_next (Last j) e = part_so
+    by_next (Shut j) (inl e) = absurd (cc)
+    by_next (Shut j) (inr e) = absurd (clash (begins_unit (sign t) && false) e (never (begins_unit (sign t))))
+      where
+        never : (a : Bool) → (a && false) ≡ false
+        never true = refl
+        never false = refl
+    by_next Fail e = refl
+
 -- ---- in any state without a unit
 
 -- the state is lost, or the header's
@@ -211,4 +232,10 @@ pub heading_levels : (t : Tok) (st : Status) → heading st ≡ true → levels_
 heading_levels t st h = elim (heading_state st h) [
   | inl e ↦ rw e refl
   | inr a ↦ subst (λ (x : Status). levels_read (advance t x) ≡ 0) (sym a.state_so) (header_levels t a.mark a.count a.code a.margin)
+]
+
+pub heading_once : (t : Tok) (st : Status) → heading st ≡ true → once_codes (code_read st) ≡ true → once_codes (code_read (advance t st)) ≡ true
+heading_once t st h o = elim (heading_state st h) [
+  | inl e ↦ rw e refl
+  | inr a ↦ subst (λ (x : Status). once_codes (code_read x) ≡ true → once_codes (code_read (advance t x)) ≡ true) (sym a.state_so) (header_once t a.mark a.count a.code a.margin a.in_so) o
 ]

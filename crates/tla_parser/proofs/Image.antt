@@ -22,8 +22,8 @@ use Rattle.tla_parser.specs.declared.open.Open.TheVariants.{Before, Between}
 use Rattle.tla_parser.specs.declared.open.Operand.{Operand}
 use Rattle.tla_parser.specs.declared.signs.Role.{Role}
 use Rattle.tla_parser.specs.declared.signs.Role.TheVariants.{InfixRole, NoRole, PostfixRole}
-use Rattle.tla_parser.specs.Written.{Parts, Written, bin, class, class_infix, continues, deepest, exp, form_levels, from, levels, pre, start, tailed, tok, top}
-use Rattle.tla_parser.specs.inner.Derivations.{ahead, delta, form_of, given, idle, is_last, parts, post, posts, resumed}
+use Rattle.tla_parser.specs.Written.{Parts, Written, bin, class, class_infix, continues, deepest, exp, form_levels, from, levels, parts, pre, start, tailed, tok, top}
+use Rattle.tla_parser.specs.inner.Derivations.{ahead, delta, form_of, given, idle, is_last, post, posts, resumed}
 use Rattle.tla_parser.specs.inner.Moves.{behind_op, off}
 use Rattle.tla_parser.specs.inner.Recognition.{Status, acted, advance, advances, deeper, entered, folded, folded_code, following, form, form_deeper, freshly, is_fail, joined_levels, least, lost, operand, placing, read_at, running, wanting}
 

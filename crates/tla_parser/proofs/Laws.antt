@@ -1,5 +1,6 @@
 -- What the proof needs to know of the tables, and nothing else.
 use Rattle.std.proofs.Common.{get_or}
+use Rattle.std.proofs.lemmas.Bool.{eqb-false}
 use Rattle.tla_lexer.specs.declared.token.Token.{Token as Tok}
 use Rattle.std.proofs.Common.{ℕ, Bool, true, false, not, List, inl, inr, refl, sym, ap, subst, arith, eqb-true, ◌≡◌, ◌<◌, ◌≤◌, ◌⊎◌, ◌∷◌, ◌&&◌, ◌==◌, ◌∙◌, []}
 use Rattle.tla_parser.proofs.Basics.{and_both, either, not_true}
@@ -44,6 +45,9 @@ numbered _ = refl
 
 pub same_sign-is : (a b : Sign) → same_sign a b ≡ true → a ≡ b
 same_sign-is a b h = sym (numbered a) ∙ ap sign_at (eqb-true (number_of a) (number_of b) h) ∙ numbered b
+
+pub same_self : (s : Sign) → same_sign s s ≡ true
+same_self s = elim (either (same_sign s s)) [ inl e ↦ e | inr e ↦ absurd (eqb-false (number_of s) (number_of s) e refl) ]
 
 pub lo_hi : (k : Sign) → lo k ≤ hi k
 unfolding lo hi

@@ -3,6 +3,7 @@ use Rattle.std.proofs.Common.{nat_lt, nat_le, ◌==◌}
 use Rattle.std.proofs.Common.{ℕ, Bool, true, false, cond, not, max, List, inl, inr, refl, sym, ap, arith, ◌≡◌, ◌+◌, ◌∷◌, ◌++◌, ◌⊎◌, ◌&&◌, ◌||◌, ◌∙◌, []}
 use Rattle.tla_lexer.specs.declared.token.Token.{Token as Tok}
 use Rattle.tla_parser.proofs.Basics.{and_both, either}
+use Rattle.tla_parser.proofs.FieldLaw.{once_part}
 use Rattle.tla_parser.proofs.Laws.{clash, negated, same_sign-is, moves_stay, stays_in}
 use Rattle.tla_parser.proofs.MarkKinds.{kinded, kinded_move}
 use Rattle.tla_parser.proofs.TableLaw.{is_lasting}
@@ -30,7 +31,8 @@ use Rattle.tla_parser.specs.declared.signs.Sign.{Sign}
 use Rattle.tla_parser.specs.declared.signs.Sign.TheVariants.{AssumeWord, ConstantWord, Dashes, EndSign, InstanceWord, LocalWord, RecursiveWord, TheoremWord, VariableWord, Vee, Wedge, Word}
 use Rattle.tla_parser.specs.inner.Derivations.{delta, given, idle, is_last, look}
 use Rattle.tla_parser.specs.inner.Moves.{begin, behind_op, body_rows, bracket_rows, fair_rows, filled, fold_rows, found, goes_on, heads, hungry, in_braces, in_brackets, in_units, insteads, is_finished, listed_heads, local_heads, local_rows, module_heads, moved, name_heads, next_bullet, off, opens, reading, recursive_heads, rows, subscript_heads, tuple_rows, unit_heads, unit_rows, update_heads, update_rows}
-use Rattle.tla_parser.specs.inner.Recognition.{Status, accepting, acted, advance, advances, ended_module, entered, finished, folded, folded_code, folds, following, freshly, heads_on, is_fail, landed, least, levels_read, lost, op, passes_by, placing, read_at, running, taken, wanting}
+use Rattle.tla_parser.specs.inner.Recognition.{Status, accepting, acted, advance, advances, ended_module, code_read, entered, finished, folded, folded_code, folds, following, freshly, heads_on, is_fail, landed, least, levels_read, lost, op, passes_by, placing, read_at, running, taken, wanting}
+use Rattle.tla_parser.specs.inner.Repeats.{once_codes}
 use Rattle.tla_parser.specs.inner.Standings.{declaring, in_unit, innermost, leads, led_by, standing_of, starts, unit_goes_on, wanted_by}
 
 -- ---- tests of all signs that begin a unit
@@ -338,9 +340,12 @@ sign_ended t = refl
 abbrev pub leads_to : Bool → Sign → Status → Bool
 leads_to z s st = leads s (standing_of st).next && ((standing_of st).alone && not z)
 
--- it does so just where an end ends the module, with the same levels
+-- it does so just where an end ends the module, with the same levels and fields
 abbrev pub Matched : Bool → Sign → Status → Status → Type 0
-Matched z s x y = (leads_to z s x ≡ finished y) × (leads_to z s x ≡ true → (standing_of x).levels ≡ levels_read y)
+Matched z s x y =
+    (leads_to z s x ≡ finished y)
+    × (leads_to z s x ≡ true → (standing_of x).levels ≡ levels_read y)
+    × (leads_to z s x ≡ true → once_codes (code_read x) ≡ once_codes (code_read y))
 
 pub left_false : (a : Bool) → (a && false) ≡ false
 left_false true = refl
@@ -377,7 +382,7 @@ ended_among (Shut f) count lv g r c m = refl
 ended_among Fail count lv g r c m = refl
 
 lost_pair : (z : Bool) (s : Sign) → Matched z s lost lost
-lost_pair z s = (refl, λ q. absurd (cc))
+lost_pair z s = (refl, λ q. absurd (cc), λ q. absurd (cc))
 
 levels_led : (z : Bool) (n : Next) (s : Sign) (count lv : ℕ) (c : List Code) (m : ℕ) → leads_to z s (cond (not (is_fail n)) (entered n count lv [] c m) lost) ≡ true → (standing_of (cond (not (is_fail n)) (entered n count lv [] c m) lost)).levels ≡ lv
 levels_led z (Reads k) s count lv c m h = refl
@@ -393,15 +398,33 @@ levels_ended (Last k) count lv c m h = refl
 levels_ended (Shut f) count lv c m h = absurd (cc)
 levels_ended Fail count lv c m h = absurd (cc)
 
+code_led : (z : Bool) (n : Next) (s : Sign) (count lv : ℕ) (c : List Code) (m : ℕ) → leads_to z s (cond (not (is_fail n)) (entered n count lv [] c m) lost) ≡ true → code_read (cond (not (is_fail n)) (entered n count lv [] c m) lost) ≡ c
+code_led z (Reads k) s count lv c m h = refl
+code_led z (Wants k) s count lv c m h = refl
+code_led z (Last k) s count lv c m h = refl
+code_led z (Shut f) s count lv c m h = absurd (cc)
+code_led z Fail s count lv c m h = absurd (cc)
+
+code_ended : (n : Next) (count lv : ℕ) (c : List Code) (m : ℕ) → finished (cond (not (is_fail n)) (entered n count lv [] c m) lost) ≡ true → code_read (cond (not (is_fail n)) (entered n count lv [] c m) lost) ≡ c
+code_ended (Reads k) count lv c m h = refl
+code_ended (Wants k) count lv c m h = refl
+code_ended (Last k) count lv c m h = refl
+code_ended (Shut f) count lv c m h = absurd (cc)
+code_ended Fail count lv c m h = absurd (cc)
+
 -- a token of a form, and an end in its place
-pair : (z q : Bool) (n k : Next) (s : Sign) (count lv : ℕ) (r : List Open) (c d : List Code) (m : ℕ) → (r ≡ [] → (leads s n && not z) ≡ ended_module k) → Matched z s (cond (q && not (is_fail n)) (entered n count lv r c m) lost) (cond (q && not (is_fail k)) (entered k count lv r d m) lost)
-pair z false n k s count lv r c d m h = lost_pair z s
-pair z true n k s count lv [] c d m h =
+pair : (z q : Bool) (n k : Next) (s : Sign) (count lv : ℕ) (r : List Open) (c d : List Code) (m : ℕ) → (r ≡ [] → (leads s n && not z) ≡ ended_module k) → once_codes c ≡ once_codes d → Matched z s (cond (q && not (is_fail n)) (entered n count lv r c m) lost) (cond (q && not (is_fail k)) (entered k count lv r d m) lost)
+pair z false n k s count lv r c d m h o = lost_pair z s
+pair z true n k s count lv [] c d m h o =
     let e : leads_to z s (cond (not (is_fail n)) (entered n count lv [] c m) lost) ≡ finished (cond (not (is_fail k)) (entered k count lv [] d m) lost) = maybe_alone z n s count lv c m ∙ h refl ∙ sym (maybe_ended k count lv d m) in
-    (e, λ q. levels_led z n s count lv c m q ∙ sym (levels_ended k count lv d m (sym e ∙ q)))
-pair z true n k s count lv (g ∷ r) c d m h =
+    (e, λ q. levels_led z n s count lv c m q ∙ sym (levels_ended k count lv d m (sym e ∙ q)), λ q. ap once_codes (code_led z n s count lv c m q) ∙ o ∙ sym (ap once_codes (code_ended k count lv d m (sym e ∙ q))))
+pair z true n k s count lv (g ∷ r) c d m h o =
     let e : leads_to z s (cond (not (is_fail n)) (entered n count lv (g ∷ r) c m) lost) ≡ false = maybe_among z n s count lv g r c m in
-    (e ∙ sym (ended_among k count lv g r d m), λ q. absurd (clash (leads_to z s (cond (not (is_fail n)) (entered n count lv (g ∷ r) c m) lost)) q e))
+    (e ∙ sym (ended_among k count lv g r d m), λ q. absurd (clash (leads_to z s (cond (not (is_fail n)) (entered n count lv (g ∷ r) c m) lost)) q e), λ q. absurd (clash (leads_to z s (cond (not (is_fail n)) (entered n count lv (g ∷ r) c m) lost)) q e))
+
+-- a token in another's place changes no fields
+parts_once : (c : List Code) (t u : Tok) → once_codes (c ++ (Part t ∷ [])) ≡ once_codes (c ++ (Part u ∷ []))
+parts_once c t u = once_part c t ∙ sym (once_part c u)
 
 placing_lost : (t : Tok) (w : Operand) (s : List Open) (c : List Code) (m : ℕ) → after (sign t) ≡ NoRole → placing t w s c m ≡ lost
 placing_lost t w s c m h = by_cond (λ st. st ≡ lost) (nat_lt (column t) m) lost (acted t (after (sign t)) w s c m) refl (rw h refl)
@@ -440,7 +463,7 @@ landed_pair t w (Before p ∷ s) c m b h = rw (begun_placing t w (Before p ∷ s
 landed_pair t w (Between a o ∷ s) c m b h = rw (begun_placing t w (Between a o ∷ s) c m b, ended_placing t w (Between a o ∷ s) c m) (lost_pair false (sign t))
 landed_pair t w (Within f ∷ s) c m b h =
     rw (begun_placing t w (Within f ∷ s) c m b, ended_placing t w (Within f ∷ s) c m)
-    (pair false (nat_le f.outer (column t)) (delta (given f.next w.class) t) (delta (given f.next w.class) (ended t)) (sign t) (f.count + 2) (max f.levels w.levels) s (c ++ (Part t ∷ [])) (c ++ (Part (ended t) ∷ [])) f.outer (of_module s h))
+    (pair false (nat_le f.outer (column t)) (delta (given f.next w.class) t) (delta (given f.next w.class) (ended t)) (sign t) (f.count + 2) (max f.levels w.levels) s (c ++ (Part t ∷ [])) (c ++ (Part (ended t) ∷ [])) f.outer (of_module s h) (parts_once c t (ended t)))
   where
     of_module : (r : List Open) → based (Within f ∷ r) ≡ true → r ≡ [] → (leads (sign t) (delta (given f.next w.class) t) && not false) ≡ ended_module (delta (given f.next w.class) (ended t))
     of_module [] e q = true_right (leads (sign t) (delta (given f.next w.class) t)) ∙ given_ends f.next w.class t (and_both (stays_in true f.next) (f.outer == 0) e).0 b
@@ -620,7 +643,7 @@ wanting_led t (Within f ∷ s) c m b =
 wanting_pair : (t : Tok) (s : List Open) (c : List Code) (m : ℕ) → begins_unit (sign t) ≡ true → Matched (goes_alone s) (sign t) (wanting t s c m) (wanting (ended t) s c m)
 wanting_pair t s c m b =
     let e : leads_to (goes_alone s) (sign t) (wanting t s c m) ≡ false = wanting_led t s c m b in
-    (e ∙ sym (ap finished (ended_wanting t s c m)), λ q. absurd (clash (leads_to (goes_alone s) (sign t) (wanting t s c m)) q e))
+    (e ∙ sym (ap finished (ended_wanting t s c m)), λ q. absurd (clash (leads_to (goes_alone s) (sign t) (wanting t s c m)) q e), λ q. absurd (clash (leads_to (goes_alone s) (sign t) (wanting t s c m)) q e))
 
 -- ---- where a token of a form is to come
 
@@ -654,7 +677,7 @@ heads_pair t (Before p ∷ s) c m b = lost_pair (goes_alone (Before p ∷ s)) (s
 heads_pair t (Between a o ∷ s) c m b = lost_pair (goes_alone (Between a o ∷ s)) (sign t)
 heads_pair t (Within f ∷ s) c m b =
     rw (heads_form t f s c m, heads_form (ended t) f s c m)
-    (pair (goes_alone (Within f ∷ s)) (not (nat_lt (column t) f.outer)) (delta (read_at f.next) t) (delta (read_at f.next) (ended t)) (sign t) (f.count + 1) f.levels s (c ++ (Part t ∷ [])) (c ++ (Part (ended t) ∷ [])) f.outer (alone s))
+    (pair (goes_alone (Within f ∷ s)) (not (nat_lt (column t) f.outer)) (delta (read_at f.next) t) (delta (read_at f.next) (ended t)) (sign t) (f.count + 1) f.levels s (c ++ (Part t ∷ [])) (c ++ (Part (ended t) ∷ [])) f.outer (alone s) (parts_once c t (ended t)))
   where
     alone : (r : List Open) → r ≡ [] → (leads (sign t) (delta (read_at f.next) t) && not (goes_alone (Within f ∷ r))) ≡ ended_module (delta (read_at f.next) (ended t))
     alone [] q = read_ends f.next t b
@@ -679,3 +702,8 @@ pub started_levels : (t : Tok) (st : Status) → Based st → starts (sign t) (s
 started_levels t st h e =
     let b : (begins_unit (sign t) ≡ true) × (leads_to (goes_before st) (sign t) (advance t st) ≡ true) = and_both (begins_unit (sign t)) (leads_to (goes_before st) (sign t) (advance t st)) e in
     (advance_pair t st h b.0).1 b.1
+
+pub started_once : (t : Tok) (st : Status) → Based st → starts (sign t) (standing_of st) (standing_of (advance t st)) ≡ true → once_codes (code_read (advance t st)) ≡ once_codes (code_read (advance (ended t) st))
+started_once t st h e =
+    let b : (begins_unit (sign t) ≡ true) × (leads_to (goes_before st) (sign t) (advance t st) ≡ true) = and_both (begins_unit (sign t)) (leads_to (goes_before st) (sign t) (advance t st)) e in
+    (advance_pair t st h b.0).2 b.1

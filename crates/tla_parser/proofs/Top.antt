@@ -5,17 +5,18 @@ use Rattle.tla_parser.specs.declared.items.Item.{Item}
 use Rattle.std.proofs.lemmas.List.{reverse-reverse}
 use Rattle.tla_parser.specs.declared.fault.ParseFault.{ParseFault}
 use Rattle.tla_parser.specs.declared.fault.ParseFault.TheVariants.{BadGrammar, NotSupported, TooDeep, Memory}
-use Rattle.std.proofs.Common.{Result, Ok, Err, IfOk, IfErr}
-use Rattle.std.proofs.Common.{ℕ, Bool, true, false, List, Some, None, reverse, inl, inr, refl, sym, ap, subst, arith, append-nil, ◌≡◌, ◌<◌, ◌≤◌, ◌∷◌, ◌++◌, ◌∙◌, []}
+use Rattle.std.proofs.Common.{ℕ, Bool, true, false, List, Some, None, reverse, inl, inr, refl, sym, ap, arith, append-nil, ◌≡◌, ◌<◌, ◌≤◌, ◌∷◌, ◌++◌, ◌∙◌, []}
 use Rattle.tla_parser.proofs.Basics.{either}
 use Rattle.tla_parser.proofs.Built.{posts_made}
+use Rattle.tla_parser.proofs.FieldLaw.{codes_once}
 use Rattle.tla_parser.proofs.ByTable.{module_parsed, module_written, one_written_module}
 use Rattle.tla_parser.proofs.Image.{capped, image, image_form, image_run, images}
 use Rattle.tla_parser.proofs.Laws.{clash}
 use Rattle.tla_parser.proofs.Machine.{Frame, State, at_bin, at_form, at_pre, have, heading, module_of, parse_module, run, stuck, want}
 use Rattle.tla_parser.specs.Aliases.{Alias, aliases_of}
-use Rattle.tla_parser.specs.Fields.{units_differ}
-use Rattle.tla_parser.specs.Grammar.{IsRefusal, NothingSpells, Spells, module_for}
+use Rattle.tla_parser.specs.Fields.{once_in}
+use Rattle.tla_parser.specs.Grammar.{AreSpelled, NothingSpells, SpelledWithin, Spells, module_for}
+use Rattle.tla_parser.specs.Refused.{IsRefusal}
 use Rattle.tla_parser.specs.Modules.{module_tree}
 use Rattle.tla_parser.specs.Spelling.{items}
 use Rattle.tla_parser.specs.declared.moves.Mark.TheVariants.{AtTop}
@@ -26,12 +27,12 @@ use Rattle.tla_parser.specs.declared.open.Open.{Open}
 use Rattle.tla_parser.specs.declared.open.Open.TheVariants.{Before, Between, Within}
 use Rattle.tla_parser.specs.inner.Building.{made, some_if}
 use Rattle.tla_parser.specs.inner.Notes.{noted}
-use Rattle.tla_parser.specs.inner.Checked.{IsChecked}
 use Rattle.tla_parser.specs.Written.{Parts, deepest, tokens_of, top}
-use Rattle.tla_parser.specs.Rules.{IsModule, IsWritten, SpelledWithin}
+use Rattle.tla_parser.specs.Rules.{IsModule}
 use Rattle.tla_parser.specs.inner.Derivations.{ahead, posts}
-use Rattle.tla_parser.specs.inner.Refusals.{IsOfUnit, IsStanding}
-use Rattle.tla_parser.specs.inner.Recognition.{advances, code_read, ended_module, ended_stack, finished, is_of_grammar, levels_read, module_start, outcome_mode, status}
+use Rattle.tla_parser.specs.inner.Refusals.{IsStanding}
+use Rattle.tla_parser.specs.inner.Repeats.{once_codes}
+use Rattle.tla_parser.specs.inner.Recognition.{advances, code_read, ended_module, ended_stack, finished, levels_read, module_start, outcome_mode, status}
 
 pub record IsRead (ts : List Tok) : Type 0 where
   pub written : Parts
@@ -81,15 +82,20 @@ module_reads ts ps i e =
 pub unread : (ts : List Tok) → finished (advances module_start ts) ≡ false → NothingSpells ts
 unread ts h m s = clash (finished (advances module_start ts)) (module_reads ts s.written s.by_rules s.tokens_so) h
 
--- what is read is spelled, and by nothing else
-pub read_spells : (ts : List Tok) (m : Module) (r : IsRead ts) → m ≡ module_for ts r.written → units_differ m.units ≡ true → Spells m ts
-read_spells ts m r e d = record { written = r.written; by_rules = r.by_rules; tokens_so = r.tokens_so; module_so = sym e; fields_so = d }
+-- what is read names a field twice just where the module does
+pub once_read : (ts : List Tok) (r : IsRead ts) → once_codes (code_read (advances module_start ts)) ≡ once_in r.written
+once_read ts r = codes_once r.written (code_read (advances module_start ts)) r.code_so
 
--- where a record of what is read names a field twice, nothing is spelled
-pub read_repeats : (ts : List Tok) (m : Module) (r : IsRead ts) → m ≡ module_for ts r.written → units_differ m.units ≡ false → NothingSpells ts
-read_repeats ts m r e d n s =
-    let q : n ≡ m = sym s.module_so ∙ ap (λ (ps : Parts). module_for ts ps) (one_written_module s.written r.written s.by_rules r.by_rules (s.tokens_so ∙ sym r.tokens_so)) ∙ sym e in
-    clash (units_differ m.units) (ap (λ (x : Module). units_differ x.units) (sym q) ∙ s.fields_so) d
+-- what is read is spelled where it names no field twice
+abbrev pub read_spells : (ts : List Tok) (m : Module) (r : IsRead ts) → m ≡ module_for ts r.written → once_codes (code_read (advances module_start ts)) ≡ true → Spells m ts
+read_spells ts m r e d = record { written = r.written; by_rules = r.by_rules; tokens_so = r.tokens_so; module_so = sym e; fields_so = sym (once_read ts r) ∙ d }
+
+-- and nothing is where it does
+pub spelled_once : (ts : List Tok) (m : Module) → Spells m ts → (finished (advances module_start ts) ≡ true) × (once_codes (code_read (advances module_start ts)) ≡ true)
+spelled_once ts m s =
+    let f : finished (advances module_start ts) ≡ true = module_reads ts s.written s.by_rules s.tokens_so in
+    let r : IsRead ts = read_module ts f in
+    (f, once_read ts r ∙ ap once_in (one_written_module r.written s.written r.by_rules s.by_rules (r.tokens_so ∙ sym s.tokens_so)) ∙ s.fields_so)
 
 pub one_spelling : (ts : List Tok) (m n : Module) → Spells m ts → Spells n ts → m ≡ n
 one_spelling ts m n s r =
@@ -99,23 +105,23 @@ capped_past : (n : ℕ) → 400 < capped n → n ≤ 400 → ⊥
 capped_past n h k = omega arith
 
 -- a module with more levels is spelled within 400 by none
-pub too_deep : (ts : List Tok) → finished (advances module_start ts) ≡ true → 400 < levels_read (advances module_start ts) → IsWritten ts × (SpelledWithin 400 ts → ⊥)
-too_deep ts h k =
-    let r : IsRead ts = read_module ts h in (
-      record { written = r.written; by_rules = r.by_rules; tokens_so = r.tokens_so },
-      (λ (s : SpelledWithin 400 ts).
-          let e : s.written ≡ r.written = one_written_module s.written r.written s.by_rules r.by_rules (s.tokens_so ∙ sym r.tokens_so) in
-          let d : deepest s.written ≡ deepest r.written = ap deepest e in
-          capped_past (deepest r.written) (omega (arith, r.levels_so)) (omega (arith, d, s.levels_so))),
-    )
+pub too_deep : (ts : List Tok) → 400 < levels_read (advances module_start ts) → SpelledWithin 400 ts → ⊥
+too_deep ts k w =
+    let s : Spells w.source ts = w.spelled in
+    let r : IsRead ts = read_module ts (spelled_once ts w.source s).0 in
+    let e : s.written ≡ r.written = one_written_module s.written r.written s.by_rules r.by_rules (s.tokens_so ∙ sym r.tokens_so) in
+    let d : deepest s.written ≡ deepest r.written = ap deepest e in
+    capped_past (deepest r.written) (omega (arith, r.levels_so)) (omega (arith, d, w.levels_so))
 
 capped_within : (n : ℕ) → capped n ≤ 400 → n ≤ 400
 capped_within n h = omega arith
 
-pub within_levels : (ts : List Tok) → finished (advances module_start ts) ≡ true → levels_read (advances module_start ts) ≤ 400 → SpelledWithin 400 ts
-within_levels ts h k =
-    let r : IsRead ts = read_module ts h in
-    record { written = r.written; by_rules = r.by_rules; tokens_so = r.tokens_so; levels_so = capped_within (deepest r.written) (omega (arith, r.levels_so)) }
+pub within_levels : (ts : List Tok) (r : IsRead ts) → once_codes (code_read (advances module_start ts)) ≡ true → levels_read (advances module_start ts) ≤ 400 → SpelledWithin 400 ts
+within_levels ts r o k = record {
+  source = module_for ts r.written;
+  spelled = read_spells ts (module_for ts r.written) r refl o;
+  levels_so = capped_within (deepest r.written) (omega (arith, r.levels_so));
+}
 
 -- what was read makes the items of the module
 pub items_made : (ps : Parts) (codes : List Code) (b : Bool) (xs : List Item) → codes ≡ posts ps → made codes (Some []) ≡ some_if b (reverse xs) → xs ≡ items ps
@@ -163,39 +169,6 @@ outcome_some Read (Within f ∷ []) c k n h =
     same_level : Some f.levels ≡ Some n → f.levels ≡ n
     same_level q = cc
 
-pub refused_so : (ts : List Tok) (m : Mode) (s : List Open) (c : List Code) (k : ℕ) → status m s c k ≡ advances module_start ts → outcome_mode m s ≡ None → NothingSpells ts
-refused_so ts m s c k e h = unread ts (ap finished (sym e) ∙ outcome_finished m s c k h)
-
-pub deep_so : (ts : List Tok) (m : Mode) (s : List Open) (c : List Code) (k n : ℕ) → status m s c k ≡ advances module_start ts → outcome_mode m s ≡ Some n → 400 < n → IsWritten ts × (SpelledWithin 400 ts → ⊥)
-deep_so ts m s c k n e h l =
-    let r : (finished (status m s c k) ≡ true) × (levels_read (status m s c k) ≡ n) × (code_read (status m s c k) ≡ c) = outcome_some m s c k n h in
-    too_deep ts (ap finished (sym e) ∙ r.0) (omega (arith, ap levels_read e, r.1))
-
-pub within_so : (ts : List Tok) (m : Mode) (s : List Open) (c : List Code) (k n : ℕ) → status m s c k ≡ advances module_start ts → outcome_mode m s ≡ Some n → n ≤ 400 → SpelledWithin 400 ts
-within_so ts m s c k n e h l =
-    let r : (finished (status m s c k) ≡ true) × (levels_read (status m s c k) ≡ n) × (code_read (status m s c k) ≡ c) = outcome_some m s c k n h in
-    within_levels ts (ap finished (sym e) ∙ r.0) (omega (arith, ap levels_read e, r.1))
-
--- the module of what was read
-pub made_so : (ts : List Tok) (m : Mode) (s : List Open) (c : List Code) (k n : ℕ) (x : Module) → status m s c k ≡ advances module_start ts → outcome_mode m s ≡ Some n → ((ps : Parts) → c ≡ posts ps → x ≡ module_for ts ps) → (units_differ x.units ≡ true → Spells x ts) × (units_differ x.units ≡ false → NothingSpells ts)
-made_so ts m s c k n x e h made_of =
-    let r : (finished (status m s c k) ≡ true) × (levels_read (status m s c k) ≡ n) × (code_read (status m s c k) ≡ c) = outcome_some m s c k n h in
-    let i : IsRead ts = read_module ts (ap finished (sym e) ∙ r.0) in
-    let q : x ≡ module_for ts i.written = made_of i.written (sym r.2 ∙ ap code_read e ∙ i.code_so) in
-    (read_spells ts x i q, read_repeats ts x i q)
-
-refusal_so : (e : ParseFault) (ts : List Tok) → is_of_grammar e ≡ true → IsStanding e ts → NothingSpells ts → IsRefusal e ts
-refusal_so (BadGrammar p) ts h s n = (n, inl s)
-refusal_so (NotSupported p form) ts h s n = (n, s)
-refusal_so (TooDeep p) ts h s n = absurd (cc)
-refusal_so (Memory e) ts h s n = tt
-
-bad_so : (e : ParseFault) (ts : List Tok) → IsOfUnit ts e → IsWritten ts → NothingSpells ts → IsRefusal e ts
-bad_so (BadGrammar p) ts h w n = (n, inr (w, h))
-bad_so (NotSupported p form) ts h w n = absurd h
-bad_so (TooDeep p) ts h w n = absurd h
-bad_so (Memory e) ts h w n = absurd h
-
 -- what the answer of the code says of the recognizer
 pub record Reached (ts : List Tok) : Type 0 where
   pub mode : Mode
@@ -204,48 +177,43 @@ pub record Reached (ts : List Tok) : Type 0 where
   pub margin : ℕ
   pub so : status mode stack code margin ≡ advances module_start ts
 
-pub reached_none : (ts : List Tok) (r : Reached ts) (e : ParseFault) → is_of_grammar e ≡ true → IsStanding e ts → outcome_mode r.mode r.stack ≡ None → IsRefusal e ts
-reached_none ts r e g s h = refusal_so e ts g s (refused_so ts r.mode r.stack r.code r.margin r.so h)
+pub reached_none : (ts : List Tok) (r : Reached ts) → outcome_mode r.mode r.stack ≡ None → NothingSpells ts
+reached_none ts r h = unread ts (ap finished (sym r.so) ∙ outcome_finished r.mode r.stack r.code r.margin h)
 
-pub reached_deep : (ts : List Tok) (r : Reached ts) (n : ℕ) → outcome_mode r.mode r.stack ≡ Some n → 400 < n → IsWritten ts × (SpelledWithin 400 ts → ⊥)
-reached_deep ts r n h l = deep_so ts r.mode r.stack r.code r.margin n r.so h l
+-- a whole module was read
+pub reached_whole : (ts : List Tok) (r : Reached ts) (n : ℕ) → outcome_mode r.mode r.stack ≡ Some n → (finished (advances module_start ts) ≡ true) × (levels_read (advances module_start ts) ≡ n) × (code_read (advances module_start ts) ≡ r.code)
+reached_whole ts r n h =
+    let o : (finished (status r.mode r.stack r.code r.margin) ≡ true) × (levels_read (status r.mode r.stack r.code r.margin) ≡ n) × (code_read (status r.mode r.stack r.code r.margin) ≡ r.code) = outcome_some r.mode r.stack r.code r.margin n h in
+    (ap finished (sym r.so) ∙ o.0, ap levels_read (sym r.so) ∙ o.1, ap code_read (sym r.so) ∙ o.2)
 
-pub reached_within : (ts : List Tok) (r : Reached ts) (n : ℕ) → outcome_mode r.mode r.stack ≡ Some n → n ≤ 400 → SpelledWithin 400 ts
-reached_within ts r n h l = within_so ts r.mode r.stack r.code r.margin n r.so h l
+-- where a field is named twice, nothing is spelled
+pub reached_repeats : (ts : List Tok) (r : Reached ts) (n : ℕ) → outcome_mode r.mode r.stack ≡ Some n → once_codes r.code ≡ false → NothingSpells ts
+reached_repeats ts r n h d m s = clash (once_codes r.code) (ap once_codes (sym (reached_whole ts r n h).2) ∙ (spelled_once ts m s).1) d
 
-pub reached_module : (ts : List Tok) (r : Reached ts) (n : ℕ) (x : Module) → outcome_mode r.mode r.stack ≡ Some n → ((ps : Parts) → r.code ≡ posts ps → x ≡ module_for ts ps) → (units_differ x.units ≡ true → Spells x ts) × (units_differ x.units ≡ false → NothingSpells ts)
-reached_module ts r n x h m = made_so ts r.mode r.stack r.code r.margin n x r.so h m
+pub reached_deep : (ts : List Tok) (r : Reached ts) (n : ℕ) → outcome_mode r.mode r.stack ≡ Some n → once_codes r.code ≡ true → 400 < n → AreSpelled ts × (SpelledWithin 400 ts → ⊥)
+reached_deep ts r n h d l =
+    let o : (finished (advances module_start ts) ≡ true) × (levels_read (advances module_start ts) ≡ n) × (code_read (advances module_start ts) ≡ r.code) = reached_whole ts r n h in
+    let i : IsRead ts = read_module ts o.0 in
+    ((module_for ts i.written, read_spells ts (module_for ts i.written) i refl (ap once_codes o.2 ∙ d)), too_deep ts (omega (arith, o.1, l)))
 
--- ---- the answer where a whole module was read
+pub reached_within : (ts : List Tok) (r : Reached ts) (n : ℕ) → outcome_mode r.mode r.stack ≡ Some n → once_codes r.code ≡ true → n ≤ 400 → SpelledWithin 400 ts
+reached_within ts r n h d l =
+    let o : (finished (advances module_start ts) ≡ true) × (levels_read (advances module_start ts) ≡ n) × (code_read (advances module_start ts) ≡ r.code) = reached_whole ts r n h in
+    within_levels ts (read_module ts o.0) (ap once_codes o.2 ∙ d) (omega (arith, o.1, l))
 
-pub record Answered (ts : List Tok) (x : Module) : Type 0 where
-  pub differs : units_differ x.units ≡ true → Spells x ts
-  pub repeats : units_differ x.units ≡ false → NothingSpells ts
+-- the module of what was read
+pub reached_module : (ts : List Tok) (r : Reached ts) (n : ℕ) (x : Module) → outcome_mode r.mode r.stack ≡ Some n → once_codes r.code ≡ true → ((ps : Parts) → r.code ≡ posts ps → x ≡ module_for ts ps) → Spells x ts
+reached_module ts r n x h d made_of =
+    let o : (finished (advances module_start ts) ≡ true) × (levels_read (advances module_start ts) ≡ n) × (code_read (advances module_start ts) ≡ r.code) = reached_whole ts r n h in
+    let i : IsRead ts = read_module ts o.0 in
+    read_spells ts x i (made_of i.written (sym o.2 ∙ i.code_so)) (ap once_codes o.2 ∙ d)
 
-pub answer_spells : (ts : List Tok) (x : Module) (r : Result Module ParseFault) → Answered ts x → IsChecked x r → IfOk r (λ m. Spells m ts)
-answer_spells ts x (Ok m) a h = subst (λ (y : Module). Spells y ts) (sym h.0) (a.differs h.1)
-answer_spells ts x (Err e) a h = tt
-
-pub answer_one : (ts : List Tok) (x : Module) (r : Result Module ParseFault) → Answered ts x → IsChecked x r → (n : Module) → Spells n ts → IfOk r (λ m. m ≡ n)
-answer_one ts x (Ok m) a h n s = h.0 ∙ one_spelling ts x n (a.differs h.1) s
-answer_one ts x (Err e) a h n s = tt
-
-pub answer_levels : (ts : List Tok) (x : Module) (r : Result Module ParseFault) → SpelledWithin 400 ts → IfOk r (λ m. SpelledWithin 400 ts)
-answer_levels ts x (Ok m) h = h
-answer_levels ts x (Err e) h = tt
-
-pub answer_fault : (ts : List Tok) (x : Module) (r : Result Module ParseFault) → IsWritten ts → Answered ts x → IsChecked x r → IfErr r (λ e. IsOfUnit ts e) → IfErr r (λ e. IsRefusal e ts)
-answer_fault ts x (Ok m) w a h u = tt
-answer_fault ts x (Err e) w a h u = bad_so e ts u w (a.repeats h.1)
-
--- what has few levels is written by the rules
-pub within_written : (ts : List Tok) → SpelledWithin 400 ts → IsWritten ts
-within_written ts s = record { written = s.written; by_rules = s.by_rules; tokens_so = s.tokens_so }
-
-pub answered : (ts : List Tok) (r : Reached ts) (n : ℕ) (x : Module) → outcome_mode r.mode r.stack ≡ Some n → ((ps : Parts) → r.code ≡ posts ps → x ≡ module_for ts ps) → Answered ts x
-answered ts r n x h m =
-    let p : (units_differ x.units ≡ true → Spells x ts) × (units_differ x.units ≡ false → NothingSpells ts) = reached_module ts r n x h m in
-    record { differs = p.0; repeats = p.1 }
+-- why what is not spelled is refused
+pub refusal_so : (e : ParseFault) (ts : List Tok) → IsStanding e ts → NothingSpells ts → IsRefusal e ts
+refusal_so (BadGrammar p) ts s n = (n, s.0, s.1)
+refusal_so (NotSupported p form) ts s n = (n, s)
+refusal_so (TooDeep p) ts s n = absurd s
+refusal_so (Memory e) ts s n = tt
 
 -- the module with the aliases that were read
 pub noted_so : (ts us : List Tok) (x tree : Module) (found : List Alias) (ps : Parts) → x ≡ noted found tree → found ≡ aliases_of us → us ≡ ts → tree ≡ module_tree (items ps) → x ≡ module_for ts ps

@@ -31,7 +31,7 @@ one_more x y xs ys e = (one x y xs ys e, more x y xs ys e)
     more : (a b : Token) (ks ls : List Token) → a ∷ ks ≡ b ∷ ls → ks ≡ ls
     more a b ks ls q = cc
 
-no_split : (f r : List Token) (u : Token) → [] ≡ f ++ (u ∷ r) → ⊥
+pub no_split : (f r : List Token) (u : Token) → [] ≡ f ++ (u ∷ r) → ⊥
 no_split [] r u e = cc
 no_split (x ∷ f) r u e = cc
 
@@ -52,6 +52,11 @@ split_end (y ∷ ts) (x ∷ f) r t u e =
   where
     cons_as : (a b : Token) (xs ys : List Token) → a ≡ b → xs ≡ ys → a ∷ xs ≡ b ∷ ys
     cons_as a b xs ys p q = cc
+
+pub last_next : (ts : List Token) (t : Token) → last_of (ts ++ (t ∷ [])) ≡ Some t
+last_next [] t = refl
+last_next (u ∷ []) t = refl
+last_next (u ∷ v ∷ ts) t = last_next (v ∷ ts) t
 
 front_length : (ts f r : List Token) (u : Token) → ts ≡ f ++ (u ∷ r) → length f ≤ length ts
 front_length ts [] r u e = omega arith

@@ -49,15 +49,6 @@ pub record LastAt (Q : List Token → Token → Type 0) (place : Place) (ts : Li
   pub place_so : place ≡ token.place
   pub last : (f : List Token) (t : Token) (r : List Token) → ts ≡ f ++ (t ∷ r) → Q f t → length f ≤ length front
 
--- one that passes stands at the place
-pub record OneAt (Q : List Token → Token → Type 0) (place : Place) (ts : List Token) : Type 0 where
-  pub front : List Token
-  pub token : Token
-  pub rest : List Token
-  pub tokens_so : ts ≡ front ++ (token ∷ rest)
-  pub passes : Q front token
-  pub place_so : place ≡ token.place
-
 abbrev pub IsFirst : Place → List Token → Type 0
 IsFirst place [] = ⊥
 IsFirst place (t ∷ ts) = place ≡ t.place
@@ -87,7 +78,3 @@ HeaderFault P place ts =
 -- The place of the first unit that is not whole: of the last one that begins, since what stands before it is whole.
 abbrev pub FaultAt : (List Token → Type 0) → Place → List Token → Type 0
 FaultAt P place ts = LastAt (Begins P) place ts ⊎ (Nowhere (Begins P) ts × HeaderFault P place ts)
-
--- Where units begin, one of them begins at the place.
-abbrev pub OfUnit : (List Token → Type 0) → Place → List Token → Type 0
-OfUnit P place ts = OneAt (Begins P) place ts ⊎ Nowhere (Begins P) ts

@@ -8,7 +8,7 @@ pub mod Forms
 pub mod Written
 pub mod Rules
 pub mod Beginnings
-pub mod Refused
 pub mod Aliases
 pub mod Grammar
+pub mod Refused
 pub mod inner

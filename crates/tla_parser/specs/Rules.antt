@@ -4,7 +4,7 @@ use Rattle.std.specs.Prelude.{ℕ, suc, Bool, true, false, cond, List, ◌≡◌
 use Rattle.tla_parser.specs.Forms.{FormPart, Matches, Spelled, a_token, module_form, templates}
 use Rattle.tla_parser.specs.Operators.{after, hi, is_bullet, is_prefix, lo, prefix_hi, prefix_lo, same}
 use Rattle.tla_parser.specs.Signs.{column, sign}
-use Rattle.tla_parser.specs.Written.{From, Parts, Written, bin, closed, deepest, elements, exp, from, of_module, pre, start, tailed, tok, tokens, tokens_of, top}
+use Rattle.tla_parser.specs.Written.{From, Parts, Written, bin, closed, elements, exp, from, of_module, pre, start, tailed, tok, tokens, tokens_of, top}
 use Rattle.tla_parser.specs.declared.moves.Construct.{Construct}
 use Rattle.tla_parser.specs.declared.signs.Role.TheVariants.{InfixRole, PostfixRole}
 
@@ -112,15 +112,8 @@ pub record IsModule (ps : Parts) : Type 0 where
   pub begins : of_module ps ≡ true
   pub form : Matches module_form (elements ps)
 
--- The tokens are those of a module that is written by the rules, whatever the names of its fields.
+-- The tokens are those of a module that is written by the rules, whatever its fields.
 pub record IsWritten (ts : List Tok) : Type 0 where
   pub written : Parts
   pub by_rules : IsModule written
   pub tokens_so : tokens_of written ≡ ts
-
--- so is some module, and no expression of it has more than n levels
-pub record SpelledWithin (n : ℕ) (ts : List Tok) : Type 0 where
-  pub written : Parts
-  pub by_rules : IsModule written
-  pub tokens_so : tokens_of written ≡ ts
-  pub levels_so : deepest written ≤ n

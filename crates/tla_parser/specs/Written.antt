@@ -110,6 +110,14 @@ of_module (from w) = false
 of_module (tok ps t) = of_module ps
 of_module (exp ps w) = of_module ps
 
+-- how many they are
+abbrev pub parts : Parts → ℕ
+parts start = 0
+parts top = 0
+parts (from w) = 1
+parts (tok ps t) = parts ps + 1
+parts (exp ps w) = parts ps + 1
+
 -- ---- levels: a leaf is one level, and parentheses make none
 
 unfoldable pub form_levels : Construct → ℕ → ℕ

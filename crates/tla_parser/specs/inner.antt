@@ -2,7 +2,8 @@ pub mod Moves
 pub mod Derivations
 pub mod Recognition
 pub mod Building
-pub mod Checked
 pub mod Standings
+pub mod Repeats
 pub mod Refusals
+pub mod Sights
 pub mod Notes

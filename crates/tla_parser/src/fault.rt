@@ -20,8 +20,9 @@ pub enum Syntax {
 /// Why tokens are no module.
 #[derive(Debug, Drop, Error)]
 pub enum ParseFault {
-    /// No module spells the tokens, and the unit that begins here is the first that is not whole; where none begins,
-    /// it is the token behind the header, the last token, or the first where no header stands.
+    /// No module spells the tokens, and the unit that begins here is the first that is not whole, or that names a field
+    /// of a record twice; where none begins, it is the token behind the header, the last token, or the first where no
+    /// header stands.
     #[error("no unit of the grammar stands here")]
     BadGrammar(Place),
     /// All units are whole, and the one that begins here is the first with more than 400 levels.

@@ -1,94 +1,179 @@
-// Field names that differ.
-ghost use Rattle.std.specs.Prelude.{◌≡◌, bytes_eq, true, false, MatchOption};
-ghost use Rattle.std.specs.List.{list_all, list_any};
-ghost use Rattle.tla_parser.specs.Fields.{distinct, fields_differ, names_differ, unit_differs, units_differ};
+// Whether a record names a field twice, told while a module is read.
+ghost use Rattle.std.specs.Prelude.{◌≡◌, ◌∷◌, ◌&&◌, bytes_eq, drop, option_copied, reverse, None, IfOk};
+ghost use Rattle.std.specs.List.{list_any};
+ghost use Rattle.tla_parser.specs.Fields.{as_list, distinct};
+ghost use Rattle.tla_parser.specs.Trees.{name_of};
+ghost use Rattle.tla_parser.specs.declared.open.Code.TheVariants.{Close};
+ghost use Rattle.tla_parser.specs.inner.Repeats.{end_name, named_at, named_from, operand_entry, shut_name, shut_once, walk_of, walk_start, walked, walked_one};
 
-use tla_meaning::{Expr, Op, Unit};
-use tla_values::Text;
+use crate::moves::Construct;
+use crate::open::Code;
+use std::alloc::{AllocError, Global};
+use tla_lexer::TokenKind;
+use tla_values::{Text, copy_text};
 
-fn is_among(name: &Text, names: &[Text]) -> bool
-    ensures { result ≡ list_any (bytes_eq name.now) names.now }
+/// A part of a form that is open: a token or an operand, and the name that it is.
+#[derive(Drop)]
+pub(crate) struct Entry {
+    pub(crate) is_token: bool,
+    pub(crate) name: Option<Text>,
+}
+
+/// The parts that are open, and whether no record named a field twice.
+#[derive(Drop)]
+pub(crate) struct Fields {
+    pub(crate) open: Vec<Entry>,
+    pub(crate) once: bool,
+}
+
+// The field that a part of this index names, where it is a record's.
+fn field(part: &Entry, index: usize) -> Option<&Text>
+    ensures { as_list (option_copied result) ≡ named_at index part.now }
 {
-    for other in names {
-        if name.bytes() == other.bytes() {
-            return true;
+    if part.is_token || index == 1 {
+        part.name.as_ref()
+    } else {
+        None
+    }
+}
+
+// Whether a part from this index on names the field.
+fn is_among(name: &Text, parts: &[Entry], from: usize) -> bool
+    ensures { result ≡ list_any (bytes_eq name.now) (named_from from (drop from parts.now)) }
+{
+    for i in from..parts.len() {
+        if let Some(other) = field(&parts[i], i) {
+            if name.bytes() == other.bytes() {
+                return true;
+            }
         }
     }
     false
 }
 
-// Whether no two of the names are equal.
-fn distinct(names: &[Text]) -> bool
-    ensures { result ≡ distinct names.now }
+// Whether no two parts of a record name one field.
+fn distinct(parts: &[Entry]) -> bool
+    ensures { result ≡ distinct (named_from 0 parts.now) }
 {
-    for i in 0..names.len() {
-        if is_among(&names[i], &names[i + 1..]) {
-            return false;
+    for i in 0..parts.len() {
+        if let Some(name) = field(&parts[i], i) {
+            if is_among(name, parts, i + 1) {
+                return false;
+            }
         }
     }
     true
 }
 
-fn names_differ(op: &Op) -> bool
-    ensures { result ≡ names_differ op.now }
+// The name that a token is.
+fn copy_name(alloc: Global, kind: &TokenKind) -> Result<Option<Text>, AllocError>
+    ensures { IfOk result (λ name. name ≡ name_of kind.now) }
 {
-    match op {
-        Op::Record(names) => distinct(names.as_slice()),
-        Op::RecSet(names) => distinct(names.as_slice()),
-        _ => true,
+    match kind {
+        TokenKind::Name(name) => Ok(Some(copy_text(alloc, name)?)),
+        _ => Ok(None),
     }
 }
 
-#[cycle(fields)]
-fn fields_differ(e: &Expr) -> bool
-    ensures { result ≡ fields_differ e.now }
+// The name that the parts end in.
+fn end_name(parts: Vec<Entry>) -> Option<Text>
+    ensures { result ≡ end_name (reverse parts.items) }
 {
-    names_differ(&e.op) && all_differ(e.args.as_slice())
+    let mut parts = parts;
+    match parts.pop() {
+        Some(part) if part.is_token => part.name,
+        _ => None,
+    }
 }
 
-#[cycle(fields)]
-fn all_differ(trees: &[Expr]) -> bool
-    ensures { result ≡ list_all fields_differ trees.now }
+// Whether no field is named twice, in a form either, and the name that it is.
+#[tactic(auto, unfolding(crate::specs::Fields::has_fields, crate::specs::Written::class_of))]
+fn shut(once: bool, construct: Construct, parts: Vec<Entry>) -> (bool, Option<Text>)
+    ensures once { result.0 ≡ (once && shut_once construct parts.items) }
+    ensures name { result.1 ≡ shut_name construct (reverse parts.items) }
 {
-    for e in trees {
-        if !fields_differ(e) {
-            return false;
+    match construct {
+        Construct::RecordValue | Construct::RecordSet => {
+            (once && distinct(parts.as_slice()), None)
+        }
+        Construct::NameUse => (once, end_name(parts)),
+        _ => (once, None),
+    }
+}
+
+impl Fields {
+    pub(crate) fn new(alloc: Global) -> Fields
+        ensures { walk_of result ≡ walk_start }
+    {
+        Fields {
+            open: Vec::new(alloc),
+            once: true,
         }
     }
-    true
-}
 
-fn pairs_differ(pairs: &[(Text, Expr)]) -> bool
-    ensures { result ≡ list_all (λ pair. fields_differ pair.1) pairs.now }
-{
-    for pair in pairs {
-        if !fields_differ(&pair.1) {
-            return false;
+    // An operand stands for the last parts.
+    fn close(&mut self, construct: Construct, count: usize) -> Result<(), AllocError>
+        ensures { IfOk result (λ _. walk_of self.new ≡ walked_one (Close construct count) (walk_of self.old)) }
+    {
+        let kept = self.open.len().saturating_sub(count);
+        let parts = self.open.split_off(kept)?;
+        let (once, name) = shut(self.once, construct, parts);
+        self.once = once;
+        self.open.push(Entry {
+            is_token: false,
+            name,
+        })?;
+        Ok(())
+    }
+
+    // An operand that is no name.
+    fn operand(&mut self) -> Result<(), AllocError>
+        ensures { IfOk result (λ _. walk_of self.new ≡ (self.old.once, operand_entry None ∷ reverse self.old.open.items)) }
+    {
+        self.open.push(Entry {
+            is_token: false,
+            name: None,
+        })?;
+        Ok(())
+    }
+
+    fn step(&mut self, alloc: Global, code: &Code) -> Result<(), AllocError>
+        ensures { IfOk result (λ _. walk_of self.new ≡ walked_one code.now (walk_of self.old)) }
+    {
+        match code {
+            Code::Part(token) => {
+                let name = copy_name(alloc, &token.kind)?;
+                self.open.push(Entry {
+                    is_token: true,
+                    name,
+                })?;
+                Ok(())
+            }
+            Code::Prefix(_) => {
+                let _ = self.open.pop();
+                self.operand()
+            }
+            Code::Infix(_, _) => {
+                let _ = self.open.pop();
+                let _ = self.open.pop();
+                self.operand()
+            }
+            Code::Close(construct, count) => self.close(*construct, *count),
         }
     }
-    true
-}
 
-fn unit_differs(unit: &Unit) -> bool
-    ensures { result ≡ unit_differs unit.now }
-{
-    match unit {
-        Unit::Assume(e) => fields_differ(e),
-        Unit::Theorem(e) => fields_differ(e),
-        Unit::Define(def, _) => fields_differ(&def.body),
-        Unit::Instance(_, _, pairs, _, _) => pairs_differ(pairs.as_slice()),
-        _ => true,
-    }
-}
-
-/// The index of the first unit with a record that names a field twice.
-pub(crate) fn repeating(units: &[Unit]) -> Option<usize>
-    ensures { MatchOption result (units_differ units.now ≡ true) (λ i. units_differ units.now ≡ false) }
-{
-    for (i, unit) in units.iter().enumerate() {
-        if !unit_differs(unit) {
-            return Some(i);
+    /// Reads the codes from this index on.
+    pub(crate) fn walk(
+        &mut self,
+        alloc: Global,
+        codes: &[Code],
+        from: usize,
+    ) -> Result<(), AllocError>
+        ensures { IfOk result (λ _. walk_of self.new ≡ walked (drop from codes.now) (walk_of self.old)) }
+    {
+        for i in from..codes.len() {
+            self.step(alloc, &codes[i])?;
         }
+        Ok(())
     }
-    None
 }

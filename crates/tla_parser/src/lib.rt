@@ -1,6 +1,7 @@
 //! The module that tokens spell. (Lamport, Specifying Systems, chapters 15 to 17.)
 #![tactic(auto)]
 
+mod ahead;
 mod aliases;
 mod binders;
 mod builder;
@@ -21,6 +22,7 @@ mod places;
 mod ranges;
 mod recognizer;
 mod rules;
+mod sights;
 mod signs;
 mod trees;
 mod units;

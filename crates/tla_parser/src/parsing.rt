@@ -2,36 +2,44 @@
 ghost use Rattle.std.specs.Prelude.{◌≡◌, ◌<◌, ◌≤◌, ◌∷◌, ◌++◌, [], List, length, reverse, IfOk, IfErr};
 ghost use Rattle.tla_lexer.specs.declared.token.Token.{Token as Tok};
 ghost use Rattle.tla_meaning.specs.declared.modules.Module.{Module as Tree};
-ghost use Rattle.tla_parser.specs.Grammar.{IsRefusal, NothingSpells, Spells};
-ghost use Rattle.tla_parser.specs.Rules.{SpelledWithin};
-ghost use Rattle.tla_parser.specs.inner.Checked.{IsChecked};
+ghost use Rattle.tla_parser.specs.Grammar.{SpelledWithin, Spells};
+ghost use Rattle.tla_parser.specs.Refused.{IsRefusal};
 ghost use Rattle.tla_parser.specs.Modules.{module_tree};
 ghost use Rattle.tla_parser.specs.Spelling.{items};
 ghost use Rattle.tla_parser.specs.Written.{Parts};
 ghost use Rattle.tla_parser.specs.inner.Derivations.{posts};
 ghost use Rattle.tla_parser.specs.inner.Moves.{is_finished};
 ghost use Rattle.tla_parser.specs.inner.Notes.{noted};
-ghost use Rattle.tla_parser.specs.inner.Refusals.{HasRead, IsOfUnit, IsReading};
-ghost use Rattle.tla_parser.specs.inner.Recognition.{advance, advances, ended_module, module_start, outcome_mode, outcome_stack, stood};
+ghost use Rattle.tla_parser.specs.inner.Refusals.{HasRead, IsEnd, IsReading, IsStanding};
+ghost use Rattle.tla_parser.specs.inner.Recognition.{ended_module, module_start, outcome_mode, outcome_stack, stood};
 
 use crate::aliases::aliases_of;
 use crate::binders::Copies;
 use crate::builder::Builder;
 use crate::fault::ParseFault;
-use crate::fields::repeating;
+use crate::fields::Fields;
 use crate::looks::look;
 use crate::moves::{Mark, Next};
 use crate::open::{Code, Form, Mode, Open};
-use crate::places::{LEVELS, Places, what_stands};
+use crate::places::{LEVELS, Places, Standing, what_stands};
 use crate::recognizer::Recognizer;
+use crate::sights::shown;
 use crate::units::module_tree;
 use std::alloc::{AllocError, Global};
 use tla_lexer::{Token, Tokens};
-use tla_meaning::Module;
+use tla_meaning::{Module, Place};
 use tla_values::{List, Text};
 
-// Where a module begins.
-fn begun(alloc: Global) -> Result<Recognizer, AllocError>
+/// What is read of a module's tokens.
+#[derive(Drop)]
+pub(crate) struct Reading {
+    pub(crate) recognizer: Recognizer,
+    pub(crate) places: Places,
+    pub(crate) fields: Fields,
+}
+
+/// Where a module begins.
+pub(crate) fn begun(alloc: Global) -> Result<Recognizer, AllocError>
     ensures { IfOk result (λ r. stood Mode.Read r ≡ module_start) }
 {
     let mut stack = Vec::new(alloc);
@@ -49,39 +57,42 @@ fn begun(alloc: Global) -> Result<Recognizer, AllocError>
     })
 }
 
-// Reads a token.
-fn read(
-    alloc: Global,
-    recognizer: &mut Recognizer,
-    places: &mut Places,
-    mode: Mode,
-    token: &Token,
-) -> Result<Mode, AllocError>
-    ensures state { IfOk result (λ next. stood next recognizer.new ≡ advance token.now (stood mode recognizer.old)) }
-    ensures places { (ts : List Tok) → IsReading ts (stood mode recognizer.old) places.old
-        → IfOk result (λ next. IsReading (ts ++ (token.now ∷ [])) (stood next recognizer.new) places.new) }
+// Nothing is read.
+fn unread(alloc: Global, first: Place) -> Result<Reading, AllocError>
+    ensures { IfOk result (λ r. IsReading [] Mode.Read r) }
 {
-    let before = what_stands(recognizer.stack.as_slice(), mode);
-    let next = recognizer.step(alloc, mode, token)?;
-    let behind = what_stands(recognizer.stack.as_slice(), next);
-    places.read(before, behind, look(token), token.place)?;
+    Ok(Reading {
+        recognizer: begun(alloc)?,
+        places: Places::new(first),
+        fields: Fields::new(alloc),
+    })
+}
+
+// Reads a token.
+fn read(alloc: Global, reading: &mut Reading, mode: Mode, token: &Token) -> Result<Mode, AllocError>
+    ensures { (ts : List Tok) → IsReading ts mode reading.old
+        → IfOk result (λ next. IsReading (ts ++ (token.now ∷ [])) next reading.new) }
+{
+    let before = what_stands(reading.recognizer.stack.as_slice(), mode);
+    let count = reading.recognizer.code.len();
+    let next = reading.recognizer.step(alloc, mode, token)?;
+    let behind = what_stands(reading.recognizer.stack.as_slice(), next);
+    reading
+        .fields
+        .walk(alloc, reading.recognizer.code.as_slice(), count)?;
+    reading
+        .places
+        .read(before, behind, token, reading.fields.once);
     Ok(next)
 }
 
 // Reads the tokens of a module.
-fn read_all(
-    alloc: Global,
-    recognizer: &mut Recognizer,
-    places: &mut Places,
-    tokens: &[Token],
-) -> Result<Mode, AllocError>
-    ensures state { IfOk result (λ mode. stood mode recognizer.new ≡ advances (stood Mode.Read recognizer.old) tokens.now) }
-    ensures places { IsReading [] (stood Mode.Read recognizer.old) places.old
-        → IfOk result (λ mode. IsReading tokens.now (stood mode recognizer.new) places.new) }
+fn read_all(alloc: Global, reading: &mut Reading, tokens: &[Token]) -> Result<Mode, AllocError>
+    ensures { IsReading [] Mode.Read reading.old → IfOk result (λ mode. IsReading tokens.now mode reading.new) }
 {
     let mut mode = Mode::Read;
     for token in tokens {
-        mode = read(alloc, recognizer, places, mode, token)?;
+        mode = read(alloc, reading, mode, token)?;
     }
     Ok(mode)
 }
@@ -102,6 +113,26 @@ fn ended_module(next: Next) -> bool
     match next {
         Next::Reads(mark) => is_finished(mark),
         _ => false,
+    }
+}
+
+// Why tokens that spell nothing are refused: by a form that is read nowhere, or else by the grammar.
+fn refusal(
+    alloc: Global,
+    tokens: &[Token],
+    places: &Places,
+    end: Standing,
+) -> Result<ParseFault, AllocError>
+    ensures { 0 < length tokens.now → IsEnd tokens.now end → HasRead tokens.now places.now
+        → IfOk result (λ e. IsStanding e tokens.now) }
+{
+    let fault = places.bad(end);
+    if !places.are_whole() {
+        return Ok(ParseFault::BadGrammar(fault));
+    }
+    match shown(alloc, tokens)? {
+        Some((place, form)) => Ok(ParseFault::NotSupported(place, form)),
+        None => Ok(ParseFault::BadGrammar(fault)),
     }
 }
 
@@ -155,25 +186,14 @@ fn noted(tree: Module, aliases: List<(Text, Text)>) -> Module
     tree
 }
 
-// The module, where no record of it names a field twice.
-fn checked(tree: Module, places: &Places) -> Result<Module, ParseFault>
-    ensures told { IsChecked tree result }
-    ensures place { (ts : List Tok) → HasRead ts places.now → IfErr result (λ e. IsOfUnit ts e) }
-{
-    match repeating(tree.units.as_slice()) {
-        None => Ok(tree),
-        Some(index) => Err(ParseFault::BadGrammar(places.of_unit(index))),
-    }
-}
-
 /// The module that the tokens spell. (Lamport, Specifying Systems, chapters 15 and 17.)
 ///
 /// There is at least one token. The aliases are those that the notes of the tokens give, `@typeAlias: name = T;`, in their
-/// order, each with its T as it is written. A refusal names where the first unit begins that is not whole; where none
-/// begins the token behind the header, the first token where no header stands, or the last where no unit is left. It
-/// names the first unit with more than 400 levels where all are whole, or the place of a form that is read nowhere: in
-/// the first unit that is not whole, `---- MODULE` and an operator behind the name that is defined come before the
-/// fault of the grammar. Parentheses make no level. The time is in proportion to the tokens, and memory too, but for sets that
+/// order, each with its T as it is written. A refusal names where the first unit begins that is not whole, as one is
+/// that names a field of a record twice; where none begins the token behind the header, the first token where no header
+/// stands, or the last where no unit is left. It names the first unit with more than 400 levels where all are whole, or
+/// the place of a form that is read nowhere behind whole units, which comes before the fault of the grammar. Parentheses
+/// make no level. The time is in proportion to the tokens, and memory too, but for sets that
 /// several names share, of which at most 1,048,576 nodes are copied; past them memory counts as wanting.
 pub fn parse(alloc: Global, tokens: &Tokens) -> Result<Module, ParseFault>
     requires { 0 < length tokens.now }
@@ -183,25 +203,31 @@ pub fn parse(alloc: Global, tokens: &Tokens) -> Result<Module, ParseFault>
     ensures fault { IfErr result (λ e. IsRefusal e tokens.now) }
 {
     let source = tokens.as_slice();
-    let mut places = Places::new(alloc, source[0].place);
-    let mut recognizer = begun(alloc)?;
-    let mode = read_all(alloc, &mut recognizer, &mut places, source)?;
-    let end = what_stands(recognizer.stack.as_slice(), mode);
+    let mut reading = unread(alloc, source[0].place)?;
+    let mode = read_all(alloc, &mut reading, source)?;
+    let end = what_stands(reading.recognizer.stack.as_slice(), mode);
+    let Reading {
+        recognizer,
+        places,
+        fields,
+    } = reading;
     let Recognizer {
         stack,
         code,
         margin: _,
     } = recognizer;
     match outcome(mode, stack) {
-        None => Err(places.refusal(end)),
+        None => Err(refusal(alloc, source, &places, end)?),
         Some(levels) => {
+            if !fields.once {
+                return Err(refusal(alloc, source, &places, end)?);
+            }
             if levels > LEVELS {
                 return Err(ParseFault::TooDeep(places.deep(end)));
             }
             let tree = made(alloc, code)?;
             let aliases = aliases_of(alloc, source)?;
-            let module = noted(tree, aliases);
-            checked(module, &places)
+            Ok(noted(tree, aliases))
         }
     }
 }

@@ -4,7 +4,7 @@ use Rattle.std.specs.Prelude.{ℕ, suc, Bool, true, false, List, ◌≡◌, ◌+
 use Rattle.tla_parser.specs.Operators.{after, hi, is_prefix, lo, prefix_hi, prefix_lo, same}
 use Rattle.tla_parser.specs.Rules.{Above}
 use Rattle.tla_parser.specs.Signs.{column, sign}
-use Rattle.tla_parser.specs.Written.{From, Parts, Written, bin, class, closed, continues, exp, from, of_module, pre, start, tailed, tok, tokens, top}
+use Rattle.tla_parser.specs.Written.{From, Parts, Written, bin, class, closed, continues, exp, from, of_module, parts, pre, start, tailed, tok, tokens, top}
 use Rattle.tla_parser.specs.declared.moves.Class.{Class}
 use Rattle.tla_parser.specs.declared.moves.Construct.{Construct}
 use Rattle.tla_parser.specs.declared.moves.Construct.TheVariants.{Junction}
@@ -138,13 +138,6 @@ pub record IsTableModule (ps : Parts) : Type 0 where
   pub ends : ahead ps ≡ Reads Finished
 
 -- ---- what is read, each construct behind its parts
-
-abbrev pub parts : Parts → ℕ
-parts start = 0
-parts top = 0
-parts (from w) = 1
-parts (tok ps t) = parts ps + 1
-parts (exp ps w) = parts ps + 1
 
 abbrev mutual
   pub post : Written → List Code

@@ -2,8 +2,6 @@
 use Rattle.std.specs.Prelude.{nat_lt, nat_le}
 use Rattle.tla_lexer.specs.declared.token.Token.{Token as Tok}
 use Rattle.tla_parser.specs.declared.recognizer.Recognizer.{Recognizer}
-use Rattle.tla_parser.specs.declared.fault.ParseFault.{ParseFault}
-use Rattle.tla_parser.specs.declared.fault.ParseFault.TheVariants.{BadGrammar, NotSupported, TooDeep, Memory}
 use Rattle.std.specs.Prelude.{ℕ, Bool, true, false, cond, not, max, min, List, Option, Some, None, length, reverse, ◌≡◌, ◌+◌, ◌<◌, ◌∷◌, ◌++◌, ◌&&◌, ◌||◌, []}
 use Rattle.tla_parser.specs.Operators.{after, hi, is_prefix, lo, prefix_hi, prefix_lo, same}
 use Rattle.tla_parser.specs.Signs.{column, sign}
@@ -263,10 +261,3 @@ outcome_mode Read s = outcome_stack s
 outcome_mode Want s = None
 outcome_mode (Have w) s = None
 outcome_mode Stuck s = None
-
--- a refusal of the grammar's
-abbrev pub is_of_grammar : ParseFault → Bool
-is_of_grammar (BadGrammar p) = true
-is_of_grammar (NotSupported p s) = true
-is_of_grammar (TooDeep p) = false
-is_of_grammar (Memory e) = false

@@ -3,7 +3,7 @@ use Rattle.std.specs.Prelude.{Bool, true, false, not, List, Option, Some, None, 
 use Rattle.tla_parser.specs.Beginnings.{begins_unit}
 use Rattle.tla_parser.specs.Operators.{same_sign}
 use Rattle.tla_parser.specs.declared.moves.Mark.{Mark}
-use Rattle.tla_parser.specs.declared.moves.Mark.TheVariants.{ArgumentName, AtTop, BehindArity, BehindDeclared, BehindExtended, BehindHeader, BehindInstance, BehindRecursive, BetweenUnits, ChosenName, DeclaredName, ExtendedName, Finished, InAssumption, InBody, InStatement, InstanceName, LocalArgument, LocalUnit, MappedName, ModuleHead, ModuleName, ModuleNamed, NextBoundName, QuantifiedName, RecursiveName, UnitHead}
+use Rattle.tla_parser.specs.declared.moves.Mark.TheVariants.{AtTop, BehindExtended, BehindHeader, BetweenUnits, DeclaredName, ExtendedName, Finished, InAssumption, InBody, InStatement, InstanceName, LocalUnit, ModuleHead, ModuleName, ModuleNamed, RecursiveName, UnitHead}
 use Rattle.tla_parser.specs.declared.moves.Next.{Next}
 use Rattle.tla_parser.specs.declared.moves.Next.TheVariants.{Fail, Last, Reads, Shut, Wants}
 use Rattle.tla_parser.specs.declared.open.Mode.{Mode}
@@ -137,33 +137,3 @@ heading (running Read s c m) = header_open s
 heading (running Want s c m) = false
 heading (running (Have w) s c m) = false
 heading (running Stuck s c m) = false
-
--- ---- marks of the forms that are read nowhere
-
--- a name that is bound is to come
-unfoldable pub binds_names : Mark → Bool
-binds_names QuantifiedName = true
-binds_names NextBoundName = true
-binds_names ChosenName = true
-binds_names MappedName = true
-binds_names ArgumentName = true
-binds_names LocalArgument = true
-binds_names _ = false
-
--- the module may end, and a unit may begin
-unfoldable pub ends_unit : Mark → Bool
-ends_unit BehindHeader = true
-ends_unit BehindExtended = true
-ends_unit BetweenUnits = true
-ends_unit BehindDeclared = true
-ends_unit BehindInstance = true
-ends_unit BehindRecursive = true
-ends_unit BehindArity = true
-ends_unit _ = false
-
-abbrev pub next_ends_unit : Next → Bool
-next_ends_unit (Reads m) = ends_unit m
-next_ends_unit (Wants m) = false
-next_ends_unit (Last m) = false
-next_ends_unit (Shut c) = false
-next_ends_unit Fail = false

@@ -1,6 +1,6 @@
 use Rattle.std.proofs.Common.{subst, sym}
 use Rattle.tla_meaning.specs.declared.place.Place.{Place}
-use Rattle.tla_parser.specs.Grammar.{IsRefusal}
+use Rattle.tla_parser.specs.Refused.{IsRefusal}
 use Rattle.tla_parser.specs.declared.fault.ParseFault.{ParseFault}
 use Rattle.tla_parser.specs.declared.fault.ParseFault.TheVariants.{BadGrammar, TooDeep}
 use Rattle.plain_texts.specs.Sources.{IsUnspelled}

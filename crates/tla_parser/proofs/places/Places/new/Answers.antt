@@ -3,4 +3,4 @@ use Rattle.tla_parser.proofs.Kept.{start_empty}
 use Rattle.tla_parser.proofs.places.Places.new.Goals as goal
 
 pub returns : goal.returns
-returns c = start_empty c.args.first _ c.new.ensures.items refl refl refl refl refl refl refl
+returns c = start_empty _ refl refl refl refl
