@@ -1,7 +1,10 @@
 // Types, and copies of them.
 ghost use Rattle.std.specs.Prelude.{◌≡◌, IfOk, map};
+ghost use Rattle.std.specs.List.{list_all};
 ghost use Rattle.snowcat_rows.specs.Types.{mean};
 ghost use Rattle.snowcat_rows.specs.Codes.{named};
+ghost use Rattle.snowcat_rows.specs.FieldNames.{names, names_differ};
+ghost use Rattle.snowcat_rows.specs.inner.Naming.{fields_named};
 
 use std::alloc::{AllocError, Global};
 use tla_values::{List, Text, copy_text};
@@ -28,10 +31,11 @@ pub enum Ty {
 }
 
 /// An equal type.
-#[tactic(auto, using(crate::proofs::Means::means))]
+#[tactic(auto, using(crate::proofs::Means::means, crate::proofs::Naming::differs))]
 #[cycle(copy)]
 pub fn copy_type(alloc: Global, t: &Ty) -> Result<Ty, AllocError>
-    ensures { IfOk result (λ r. mean r ≡ mean t.now) }
+    ensures mean { IfOk result (λ r. mean r ≡ mean t.now) }
+    ensures named { IfOk result (λ r. names_differ r ≡ names_differ t.now) }
 {
     match t {
         Ty::Bool => Ok(Ty::Bool),
@@ -71,10 +75,11 @@ pub fn copy_type(alloc: Global, t: &Ty) -> Result<Ty, AllocError>
     }
 }
 
-#[tactic(auto, using(crate::proofs::Means::means))]
+#[tactic(auto, using(crate::proofs::Means::means, crate::proofs::Naming::differs))]
 #[cycle(copy)]
 fn copy_all(alloc: Global, ts: &[Ty]) -> Result<List<Ty>, AllocError>
-    ensures { IfOk result (λ r. map mean r ≡ map mean ts.now) }
+    ensures mean { IfOk result (λ r. map mean r ≡ map mean ts.now) }
+    ensures named { IfOk result (λ r. list_all names_differ r ≡ list_all names_differ ts.now) }
 {
     let mut items = Vec::new(alloc);
     for t in ts {
@@ -84,10 +89,12 @@ fn copy_all(alloc: Global, ts: &[Ty]) -> Result<List<Ty>, AllocError>
     Ok(List::from_vec(items))
 }
 
-#[tactic(auto, using(crate::proofs::Means::means))]
+#[tactic(auto, using(crate::proofs::Means::means, crate::proofs::Naming::differs))]
 #[cycle(copy)]
 fn copy_fields(alloc: Global, fs: &[(Text, Ty)]) -> Result<List<(Text, Ty)>, AllocError>
-    ensures { IfOk result (λ r. named r ≡ named fs.now) }
+    ensures mean { IfOk result (λ r. named r ≡ named fs.now) }
+    ensures names { IfOk result (λ r. names r ≡ names fs.now) }
+    ensures named { IfOk result (λ r. fields_named r ≡ fields_named fs.now) }
 {
     let mut items = Vec::new(alloc);
     for f in fs {

@@ -8,7 +8,7 @@ loop-f-preserved c =
     elim c.if-is_none.branch [
       | then-is_none+in_ok-name+in_ok-item+in_ok-push w ↦
           missing_take c.args.fs.now c.args.gs.now c.loop-f.items.items c.if-is_none.items.items c.loop-f.f-index (c.loop-f.f-index + 1) c.f-item.result (w.in_ok-name.name, w.in_ok-item.item) (search rules) c.f-item.is (omega arith)
-          (none_is c.args.gs.now c.f-item.result.0 c.find.result c.find.ensures w.if-is_none.ensures) (ap (λ v. v.items) w.items-is ∙ w.in_ok-push.ensures.items) w.in_ok-name.ensures w.in_ok-item.ensures c.loop-f.invariant
+          (none_is c.args.gs.now c.f-item.result.0 c.find.result c.find.ensures w.if-is_none.ensures) (ap (λ v. v.items) w.items-is ∙ w.in_ok-push.ensures.items) w.in_ok-name.ensures w.in_ok-item.ensures.mean c.loop-f.invariant
       | else-is_none w ↦
           missing_skip c.args.fs.now c.args.gs.now c.loop-f.items.items c.if-is_none.items.items c.loop-f.f-index (c.loop-f.f-index + 1) c.f-item.result (search rules) c.f-item.is (omega arith)
           (some_is c.args.gs.now c.f-item.result.0 c.find.result c.find.ensures w.if-is_none.ensures) (ap (λ v. v.items) w.items-is) c.loop-f.invariant
