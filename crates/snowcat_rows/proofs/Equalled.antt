@@ -8,7 +8,7 @@ use Rattle.snowcat_rows.specs.Sorting.{Within}
 use Rattle.snowcat_rows.specs.Chains.{type_var, row_var, Binding, to_type, to_row, key, single, solved, Occurs, OccursSlot, OccursRow}
 use Rattle.snowcat_rows.specs.inner.Rounds.{only, others, extra, extra_after, Is, Common, Covers, Advances, left_type, right_type, left_row, right_row, both_rows}
 use Rattle.snowcat_rows.specs.inner.Measures.{TypesBelow}
-use Rattle.snowcat_rows.specs.Unifying.{StandsFor, IsNeeded, Made}
+use Rattle.snowcat_rows.specs.Unifying.{IsBound, IsNeeded, Made}
 use Rattle.snowcat_rows.proofs.RowTheory.{single_free, single_at_type, single_at_row, tail_off}
 use Rattle.snowcat_rows.proofs.General.{Reached, unified}
 use Rattle.snowcat_rows.proofs.Advancing.{Plain}
@@ -144,19 +144,19 @@ alone_fronts k m p x y cs ds (both_rows f g r q e i a lf lg fr fq) = refl
 
 -- ---- the variables that a round issues
 
-stands_before : (r v : ℕ) (cs ds : List Binding) → StandsFor r v cs → StandsFor r v (cs ++ ds)
-stands_before r v [] ds h = absurd (h)
-stands_before r v (to_type w t ∷ cs) ds h = stands_before r v cs ds h
-stands_before r v (to_row q w ∷ cs) ds (inl h) = inl h
-stands_before r v (to_row q w ∷ cs) ds (inr h) = inr (stands_before r v cs ds h)
+bound_before : (r : ℕ) (w : Row) (cs ds : List Binding) → IsBound r w cs → IsBound r w (cs ++ ds)
+bound_before r w [] ds h = absurd (h)
+bound_before r w (to_type v t ∷ cs) ds h = bound_before r w cs ds h
+bound_before r w (to_row q z ∷ cs) ds (inl h) = inl h
+bound_before r w (to_row q z ∷ cs) ds (inr h) = inr (bound_before r w cs ds h)
 
-stands_behind : (r v : ℕ) (cs ds : List Binding) → StandsFor r v ds → StandsFor r v (cs ++ ds)
-stands_behind r v [] ds h = h
-stands_behind r v (to_type w t ∷ cs) ds h = stands_behind r v cs ds h
-stands_behind r v (to_row q w ∷ cs) ds h = inr (stands_behind r v cs ds h)
+bound_behind : (r : ℕ) (w : Row) (cs ds : List Binding) → IsBound r w ds → IsBound r w (cs ++ ds)
+bound_behind r w [] ds h = h
+bound_behind r w (to_type v t ∷ cs) ds h = bound_behind r w cs ds h
+bound_behind r w (to_row q z ∷ cs) ds h = inr (bound_behind r w cs ds h)
 
 needed_before : (cs ds : List Binding) (v : ℕ) → IsNeeded cs v → IsNeeded (cs ++ ds) v
-needed_before cs ds v (r, q, a, h, k) = (r, q, a, stands_before r v cs ds h, stands_before q v cs ds k)
+needed_before cs ds v (r, q, w, z, a, b, e, d) = (r, q, w, z, a, (bound_before r w cs ds b.0, bound_before q z cs ds b.1), e, d)
 
 only_some : (x y : Slot) → Is x → y ≡ none → (t : Term) × (only x y ≡ some t)
 only_some (some t) none i e = (t, refl)
@@ -168,6 +168,12 @@ after_some s (some t) none i e = (apply s t, refl)
 after_some s none y i e = absurd (i)
 after_some s (some t) (some u) i e = absurd (cc)
 
+one_only : (s : Sub) (x y : Slot) (t u : Term) → only x y ≡ some t → apply_slot s (only y x) ≡ some u → ⊥
+one_only s none none t u e h = absurd (cc)
+one_only s none (some y) t u e h = absurd (cc)
+one_only s (some x) none t u e h = absurd (cc)
+one_only s (some x) (some y) t u e h = absurd (cc)
+
 pub needed_next : (n m p : ℕ) (x y : Term) (cs ds : List Binding) → Advances x y m cs ds p → ((v : ℕ) → n ≤ v → v < m → IsNeeded cs v) →
     (v : ℕ) → n ≤ v → v < p → IsNeeded ds v
 needed_next n m p x y cs ds (left_type w e f) h v le lt = needed_before cs (to_type w y ∷ []) v (h v le lt)
@@ -178,10 +184,18 @@ needed_next n m p x y cs ds (both_rows f g r q e i a lf lg fr fq) h v le lt =
     elim (eqb_tells v m) [
       | inl k ↦
           let ns = to_row r (others f g m) ∷ to_row q (extra_after f g r m) ∷ [] in
-          let left : StandsFor r m ns = (let o = only_some (g lf.0) (f lf.0) lf.1 lf.2 in inl (refl, (lf.0, o.0, o.1), refl)) in
-          let right : StandsFor q m ns = (let o = after_some (single (to_row r (others f g m))) (f lg.0) (g lg.0) lg.1 lg.2 in inr (inl (refl, (lg.0, o.0, o.1), refl))) in
+          let s = single (to_row r (others f g m)) in
+          let left = only_some (g lf.0) (f lf.0) lf.1 lf.2 in
+          let right = after_some s (f lg.0) (g lg.0) lg.1 lg.2 in
+          let one : IsBound r (others f g m) ns = inl (refl, refl) in
+          let other : IsBound q (extra_after f g r m) ns = inr (inl (refl, refl)) in
           let P : ℕ → Type 0 = λ z. IsNeeded (cs ++ ns) z in
-          subst P (sym k.1) (r, q, a, stands_behind r m cs ns left, stands_behind q m cs ns right)
+          subst P (sym k.1) (
+            r, q, others f g m, extra_after f g r m, a,
+            (bound_behind r (others f g m) cs ns one, bound_behind q (extra_after f g r m) cs ns other),
+            (((lf.0, left.0, left.1), refl), ((lg.0, right.0, right.1), refl)),
+            λ n t u. one_only s (g n) (f n) t u,
+          )
       | inr k ↦ needed_before cs (to_row r (others f g m) ∷ to_row q (extra_after f g r m) ∷ []) v (h v le (omega (arith, lt, k.1)))
     ]
 

@@ -1,10 +1,10 @@
 -- Examples of values of types, and of the types of text literals.
-use Rattle.std.proofs.Common.{◌≡◌, ℕ, true, List, [], ◌∷◌, refl, ap, sym, ◌∙◌, subst, pos, codes, false, Some, None, arith}
+use Rattle.std.proofs.Common.{◌≡◌, ℕ, true, List, [], ◌∷◌, refl, ap, sym, ◌∙◌, subst, pos, codes, false, Some, None, arith, ◌⊎◌, inl, inr}
 use Rattle.tla_values.specs.declared.value.Value.TheVariants as value
-use Rattle.snowcat_rows.specs.Types.{Term, var, con, app, fields, row, lookup, BoolHead, IntHead, StrHead, NamedHead, SetHead, TupHead, EndHead, Beside, here}
-use Rattle.snowcat_rows.specs.Substitutions.{Fronts, apply}
-use Rattle.snowcat_rows.specs.Chains.{Binding, solved, sub_of}
-use Rattle.snowcat_rows.specs.Unifying.{Follow, given, and_then, Made, Unmade}
+use Rattle.snowcat_rows.specs.Types.{Term, var, con, app, fields, row, lookup, none, some, BoolHead, IntHead, StrHead, NamedHead, SetHead, TupHead, EndHead, Beside, here}
+use Rattle.snowcat_rows.specs.Substitutions.{Fronts, Row, apply}
+use Rattle.snowcat_rows.specs.Chains.{Binding, to_row, solved, sub_of}
+use Rattle.snowcat_rows.specs.Unifying.{IsBound, Follows, IsNeeded, Follow, given, and_then, Made, Unmade}
 use Rattle.snowcat_rows.specs.Readings.{unknown_within}
 use Rattle.snowcat_rows.specs.LiteralTypes.{literal_type}
 use Rattle.snowcat_rows.specs.TypeTexts.{bool, int, str, variable, set, function, record_of, parens, last, also, pieces, is_formed, is_among, Written, IsTypeText}
@@ -106,4 +106,33 @@ two_fronts s =
 -- ---- a variable that no binding needs is not issued
 
 in_vain : (l : Fronts) (a b : Term) → Made 0 1 l [] [] a b → ⊥
-in_vain l a b h = (h.needed 0 (omega arith) (omega arith)).3
+in_vain l a b h = (h.needed 0 (omega arith) (omega arith)).5.0
+
+abbrev with_h : Row
+with_h = record { at = lookup ((codes "h", con IntHead) ∷ []); tail = Some 3 }
+
+abbrev alone : Row
+alone = record { at = λ n. none; tail = Some 3 }
+
+-- {h: Int, r3} for r0 and r1 and {r3} for r2, where r2 could stand in the place of r3
+abbrev three_rows : List Binding
+three_rows = to_row 0 with_h ∷ to_row 1 with_h ∷ to_row 2 alone ∷ []
+
+which_row : (r : ℕ) (w : Row) → IsBound r w three_rows → (w ≡ with_h) ⊎ (w ≡ alone)
+which_row r w (inl h) = inl h.1
+which_row r w (inr (inl h)) = inl h.1
+which_row r w (inr (inr (inl h))) = inr h.1
+which_row r w (inr (inr (inr h))) = absurd h
+
+not_alone : (w : Row) → (w ≡ with_h) ⊎ (w ≡ alone) → Follows 3 w → w ≡ with_h
+not_alone w (inl e) f = e
+not_alone w (inr e) f = absurd (nothing f.0.1 (ap (λ z. z.at f.0.0) (sym e) ∙ f.0.2))
+  where
+    nothing : (t : Term) → none ≡ some t → ⊥
+    nothing t e = cc
+
+could_do_without : IsNeeded three_rows 3 → ⊥
+could_do_without (r, q, w, z, a, b, f, d) =
+    let e = not_alone w (which_row r w b.0) f.0 in
+    let k = not_alone z (which_row q z b.1) f.1 in
+    d (codes "h") (con IntHead) (con IntHead) (ap (λ x. x.at (codes "h")) e) (ap (λ x. x.at (codes "h")) k)

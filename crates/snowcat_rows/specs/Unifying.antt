@@ -3,23 +3,31 @@ use Rattle.std.specs.Prelude.{ℕ, ◌+◌, ◌≡◌, ◌<◌, ◌≤◌, ◌�
 use Rattle.snowcat_rows.specs.declared.substitution.UnifyFault.{UnifyFault}
 use Rattle.snowcat_rows.specs.declared.substitution.UnifyFault.TheVariants.{Clash, Memory}
 use Rattle.snowcat_rows.specs.Types.{Term, some, mean, Beside}
-use Rattle.snowcat_rows.specs.Substitutions.{Sub, apply, Fronts, Fits, Sorted, Unified, Apart}
+use Rattle.snowcat_rows.specs.Substitutions.{Row, Sub, apply, Fronts, Fits, Sorted, Unified, Apart}
 use Rattle.snowcat_rows.specs.Chains.{Binding, to_type, to_row, solved, sub_of}
 use Rattle.snowcat_rows.specs.Sorting.{AllSorted}
 
 abbrev pub Same : ℕ → Fronts → Fronts → Type 0
 Same n l k = (v : ℕ) → v < n → (x : List ℕ) → k v x ≡ l v x
 
--- the row variable r stands for some names and then for what v stands for
-abbrev pub StandsFor : ℕ → ℕ → List Binding → Type 0
-StandsFor r v [] = ⊥
-StandsFor r v (to_type w t ∷ bs) = StandsFor r v bs
-StandsFor r v (to_row q w ∷ bs) =
-    ((r ≡ q) × ((n : List ℕ) × (t : Term) × (w.at n ≡ some t)) × (w.tail ≡ Some v)) ⊎ StandsFor r v bs
+-- the row variable r is bound to the row w
+abbrev pub IsBound : ℕ → Row → List Binding → Type 0
+IsBound r w [] = ⊥
+IsBound r w (to_type v t ∷ bs) = IsBound r w bs
+IsBound r w (to_row q z ∷ bs) = ((r ≡ q) × (w ≡ z)) ⊎ IsBound r w bs
 
--- v follows names in two rows, so that neither of their variables could stand for the other
+-- v follows the names of the row, and there is one
+abbrev pub Follows : ℕ → Row → Type 0
+Follows v w = ((n : List ℕ) × (t : Term) × (w.at n ≡ some t)) × (w.tail ≡ Some v)
+
+-- no name stands in both rows
+abbrev pub Disjoint : Row → Row → Type 0
+Disjoint w z = (n : List ℕ) (t u : Term) → w.at n ≡ some t → z.at n ≡ some u → ⊥
+
+-- v ends the rows of two variables, each with names that the other lacks: so neither could stand for the other
 abbrev pub IsNeeded : List Binding → ℕ → Type 0
-IsNeeded bs v = (r q : ℕ) × (r ≡ q → ⊥) × StandsFor r v bs × StandsFor q v bs
+IsNeeded bs v =
+    (r q : ℕ) × (w z : Row) × (r ≡ q → ⊥) × (IsBound r w bs × IsBound q z bs) × (Follows v w × Follows v z) × Disjoint w z
 
 -- the new bindings are the most general substitution that extends the old one and makes a and b equal, where n variables
 -- were issued and p are now
@@ -29,7 +37,7 @@ pub record Made (n p : ℕ) (l : Fronts) (bs ds : List Binding) (a b : Term) : T
   pub same : Same n l fronts
   pub sorted : AllSorted fronts ds
   pub unified : Unified n p l fronts (sub_of bs) a b (sub_of ds)
-  -- no variable is issued without need
+  -- each new variable ends two rows, each with names that the other lacks
   pub needed : (v : ℕ) → n ≤ v → v < p → IsNeeded ds v
 
 abbrev pub IsMade : ℕ → ℕ → List Binding → List Binding → Term → Term → Type 0
