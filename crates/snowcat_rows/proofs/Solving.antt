@@ -1,11 +1,11 @@
 -- What stands in a type once bindings are put in place.
-use Rattle.std.proofs.Common.{◌≡◌, ℕ, Bool, if◌then◌else◌, ◌⊎◌, inl, inr, List, [], ◌∷◌, refl, sym, ◌∙◌, subst, Option, Some, None}
+use Rattle.std.proofs.Common.{◌≡◌, ℕ, ◌<◌, ◌≤◌, Bool, if◌then◌else◌, ◌⊎◌, inl, inr, List, [], ◌∷◌, refl, sym, ◌∙◌, subst, Option, Some, None, arith}
 use Rattle.std.proofs.lemmas.Bool.Decides.{eqb_tells}
 use Rattle.snowcat_rows.specs.Types.{Term, Slot, var, con, app, fields, none, some}
 use Rattle.snowcat_rows.specs.inner.Parts.{Part, PartSlot, IsPart}
 use Rattle.snowcat_rows.specs.Substitutions.{apply, apply_slot, or_else, tail_row, same_sub}
 use Rattle.snowcat_rows.specs.Sorting.{Within, BindingWithin, AllWithin}
-use Rattle.snowcat_rows.specs.Chains.{Variable, type_var, row_var, Stands, Ends, Binding, to_type, to_row, single, solved, Occurs, OccursSlot, OccursIn, key, Absent, Chain}
+use Rattle.snowcat_rows.specs.Chains.{Variable, number, type_var, row_var, Stands, Ends, Binding, to_type, to_row, single, solved, Occurs, OccursSlot, OccursIn, key, Absent, Chain}
 use Rattle.snowcat_rows.proofs.General.{Unbound}
 
 -- ---- after one binding
@@ -128,6 +128,19 @@ within_single m b u h w v o = elim (occurs_single v b u o) [ inl k ↦ w v k.0 |
 pub within_solved : (m : ℕ) (bs : List Binding) (u : Term) → AllWithin m bs → Within m u → Within m (solved bs u)
 within_solved m [] u h w = w
 within_solved m (b ∷ bs) u h w = within_solved m bs (apply (single b) u) h.1 (within_single m b u h.0 w)
+
+AllWithin-up : (n m : ℕ) (bs : List Binding) → n ≤ m → AllWithin n bs → AllWithin m bs
+AllWithin-up n m [] le h = tt
+AllWithin-up n m (b ∷ bs) le h = ((up (key b) h.0.0, λ v o. up v (h.0.1 v o)), AllWithin-up n m bs le h.1)
+  where
+    up : (v : Variable) → number v < n → number v < m
+    up v lt = omega (arith, le, lt)
+
+-- what a type is once all is put in place
+pub within_settled : (n m : ℕ) (bs : List Binding) (t r : Term) → AllWithin n bs → n ≤ m → Within m t → r ≡ solved bs t → Within m r
+within_settled n m bs t r h le w e =
+    let P : Term → Type 0 = λ u. Within m u in
+    subst P (sym e) (within_solved m bs t (AllWithin-up n m bs le h) w)
 
 -- ---- parts
 

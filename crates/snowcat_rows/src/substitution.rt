@@ -195,9 +195,11 @@ impl Subst {
         Ty::Var(v)
     }
 
-    /// The type under the substitution.
+    /// The type under the substitution. It can be handed on to [`unify`](Subst::unify) where the given type can.
     pub fn resolved(&self, alloc: Global, t: &Ty) -> Result<Ty, AllocError>
-        ensures { IfOk result (λ r. mean r ≡ apply (stands_for self.now) (mean t.now)) }
+        ensures mean { IfOk result (λ r. mean r ≡ apply (stands_for self.now) (mean t.now)) }
+        ensures within { (n : ℕ) → issued_of self.now ≤ n → Within n (mean t.now)
+            → IfOk result (λ r. Within n (mean r)) }
     {
         let settled = settle(alloc, t, self.store.bindings.as_slice(), &self.store.places)?;
         Ok(settled)
