@@ -15,7 +15,8 @@ use Rattle.snowcat_rows.specs.TypeTexts.{Syntax, Syntaxes, Fields, bool, int, st
 use Rattle.snowcat_rows.specs.Texts.{type_text}
 use Rattle.snowcat_rows.specs.Spellings.{Spelt, spelt, spelling, syntax_layer, left_of_arrow, right_of_arrow, others, other_fields, row_name}
 use Rattle.snowcat_rows.specs.Readings.{Known, find, number, noted, same_seen, own, zipped, read, read_all, read_fields, read_alias, read_row, unknown, unknown_all, unknown_fields, or_first, IsReadAs}
-use Rattle.snowcat_rows.specs.Renamings.{renamed_slot, shown_type, shown_row, by_numbers}
+use Rattle.snowcat_rows.specs.Renamings.{renamed_slot}
+use Rattle.snowcat_rows.specs.inner.Shown.{shown_type, shown_row, by_numbers}
 use Rattle.snowcat_rows.proofs.Means.{mean_out}
 use Rattle.snowcat_rows.proofs.Words.{itself, same_bytes}
 use Rattle.snowcat_rows.proofs.SpellingLaw.{spelt_opened, spelt_out, got, got_one, got_operator, some_is}
@@ -320,7 +321,7 @@ read_terms t s e = (all_claims t).terms s e [] [] (read [] s []).1 (same (read [
 pub read_back : (t : Ty) (s : Syntax) → spelling t ≡ Some s → IsTypeText (type_text t) s → IsReadAs [] (type_text t) (by_numbers (read [] s []).1 (mean t))
 read_back t s e h = record { known = []; syntax_of = s; knows = refl; is_text = h; all_known = (all_claims t).plainly s e []; says = sym (read_terms t s e) }
 
--- ---- different variables have different numbers
+-- ---- what looks the same is the same
 
 pub same_is : (v w : Seen) → same_seen v w ≡ true → v ≡ w
 same_is (seen.Type x) (seen.Type y) h = ap (λ z. seen.Type z) (same_bytes x y h)
@@ -330,19 +331,3 @@ same_is (seen.Type x) seen.Own h = absurd (cc)
 same_is (seen.Row x) (seen.Type y) h = absurd (cc)
 same_is (seen.Row x) seen.Own h = absurd (cc)
 same_is seen.Own w h = absurd (cc)
-
-pub numbers_tell : (ns : List Seen) (v w : Seen) → number v ns < length ns → number v ns ≡ number w ns → v ≡ w
-numbers_tell [] v w h e = absurd (omega (arith, h))
-numbers_tell (n ∷ ns) v w h e = elim (cases_Bool (same_seen n v)) [
-  | inl a ↦ elim (cases_Bool (same_seen n w)) [
-    | inl b ↦ sym (same_is n v a) ∙ same_is n w b
-    | inr b ↦ absurd (let p : number v (n ∷ ns) ≡ 0 = rw a refl in let q : number w (n ∷ ns) ≡ suc (number w ns) = rw b refl in omega (arith, p, q, e))
-  ]
-  | inr a ↦ elim (cases_Bool (same_seen n w)) [
-    | inl b ↦ absurd (let p : number v (n ∷ ns) ≡ suc (number v ns) = rw a refl in let q : number w (n ∷ ns) ≡ 0 = rw b refl in omega (arith, p, q, e))
-    | inr b ↦
-        let p : number v (n ∷ ns) ≡ suc (number v ns) = rw a refl in
-        let q : number w (n ∷ ns) ≡ suc (number w ns) = rw b refl in
-        numbers_tell ns v w (omega (arith, p, h)) (omega (arith, p, q, e))
-  ]
-]

@@ -6,7 +6,8 @@ use Rattle.snowcat_rows.specs.declared.marks.Seen.TheVariants as seen
 use Rattle.snowcat_rows.specs.declared.types.Ty.{Ty}
 use Rattle.snowcat_rows.specs.Types.{Term, Slot, var, con, app, fields, none, some, mean}
 use Rattle.snowcat_rows.specs.Readings.{Known, Knows, number, same_seen, read, IsReadAs}
-use Rattle.snowcat_rows.specs.Renamings.{renamed, renamed_slot, shown_type, shown_row, by_numbers}
+use Rattle.snowcat_rows.specs.Renamings.{renamed, renamed_slot, Variants}
+use Rattle.snowcat_rows.specs.inner.Shown.{shown_type, shown_row, by_numbers}
 use Rattle.snowcat_rows.specs.Said.{IsRegular, IsSaid, IsSpelled, IsReadBack}
 use Rattle.snowcat_rows.specs.Sorting.{Within}
 use Rattle.snowcat_rows.specs.Spellable.{Spellable}
@@ -87,7 +88,7 @@ mutual
 
 pub read_said : (aliases : List (List ℕ × List ℕ)) (text : List ℕ) (t : Term) → IsReadAs aliases text t → IsSaid t
 read_said aliases text t h =
-    record { aliases = aliases; text = text; read_as = t; is_read = h; is_renamed = ((λ n. n), (λ n. n), unrenamed t) }
+    record { aliases = aliases; text = text; read_as = t; is_read = h; is_variant = (((λ n. n), (λ n. n), unrenamed t), ((λ n. n), (λ n. n), unrenamed t)) }
 
 spelled_is : (t : Ty) → IsRegular t → Spellable (mean t) → IsSpelled t
 spelled_is t r p =
@@ -96,23 +97,33 @@ spelled_is t r p =
 
 pub said_spellable : (t : Term) → IsSaid t → Spellable t
 said_spellable t s =
-    let f = s.is_renamed.0 in
-    let g = s.is_renamed.1 in
+    let f = s.is_variant.0.0 in
+    let g = s.is_variant.0.1 in
     record {
-      text = said_text s.aliases s.text s.read_as t f g s.is_read s.is_renamed.2;
-      fronts = said_sorted s.aliases s.text s.read_as t f g s.is_read s.is_renamed.2;
+      text = said_text s.aliases s.text s.read_as t f g s.is_read s.is_variant.0.2;
+      fronts = said_sorted s.aliases s.text s.read_as t f g s.is_read s.is_variant.0.2;
     }
+
+-- what is shown is read as the type, but for the numbers of its variables
+shown_variant : (t : Ty) → IsRegular t → (h : IsSpelled t) → Variants (mean t) (by_numbers (read [] h.0 []).1 (mean t))
+shown_variant t r h =
+    let ns = (read [] h.0 []).1 in
+    let p = said_fronted (type_text t) h.0 h.2 in
+    let P : Term → Type 0 = λ z. Fronted p.0 z in
+    let k : Fronted p.0 (by_numbers ns (mean t)) = subst P (read_terms t h.0 h.1) p.2 in (
+      ((λ n. number (shown_type n) ns), (λ n. number (shown_row n) ns), refl),
+      (back ns, back ns, and_back ns p.0 p.1 (mean t) k (within_below (2 ^ 32) (mean t) r.numbers)),
+    )
 
 pub spellable_said : (t : Ty) → IsRegular t → Spellable (mean t) → IsSaid (mean t)
 spellable_said t r p =
     let h = spelled_is t r p in
-    let ns = (read [] h.0 []).1 in
     record {
       aliases = [];
       text = type_text t;
-      read_as = by_numbers ns (mean t);
+      read_as = by_numbers (read [] h.0 []).1 (mean t);
       is_read = read_back t h.0 h.1 h.2;
-      is_renamed = ((λ n. number (shown_type n) ns), (λ n. number (shown_row n) ns), refl);
+      is_variant = shown_variant t r h;
     }
 
 pub spelled_again : (t : Ty) → IsRegular t → IsSaid (mean t) → IsSpelled t
@@ -121,17 +132,7 @@ spelled_again t r s = spelled_is t r (said_spellable (mean t) s)
 pub read_again : (t : Ty) → IsRegular t → IsSaid (mean t) → IsReadBack t
 read_again t r s =
     let h = spelled_again t r s in
-    let ns = (read [] h.0 []).1 in
-    let p = said_fronted (type_text t) h.0 h.2 in
-    let P : Term → Type 0 = λ z. Fronted p.0 z in
-    let k : Fronted p.0 (by_numbers ns (mean t)) = subst P (read_terms t h.0 h.1) p.2 in (
-      by_numbers ns (mean t),
-      read_back t h.0 h.1 h.2,
-      (
-        ((λ n. number (shown_type n) ns), (λ n. number (shown_row n) ns), refl),
-        (back ns, back ns, and_back ns p.0 p.1 (mean t) k (within_below (2 ^ 32) (mean t) r.numbers)),
-      ),
-    )
+    (by_numbers (read [] h.0 []).1 (mean t), read_back t h.0 h.1 h.2, shown_variant t r h)
 
 -- ---- the numbers of a type that was read
 

@@ -13,3 +13,4 @@ pub mod Rounds
 pub mod Stores
 pub mod Naming
 pub mod Fronted
+pub mod Shown

@@ -31,8 +31,7 @@ pub use faults::TypeTextFault;
 pub use occurrences::is_within;
 pub use reading::read_type;
 pub use showing::{
-    numbers_tell_variables, said_types_are_spellable, show_type, shown_types_are_read_back,
-    shown_types_are_spelled,
+    said_types_are_spellable, show_type, shown_types_are_read_back, shown_types_are_spelled,
 };
 pub use substitution::{Subst, UnifyFault};
 pub use types::{Ty, copy_type};

@@ -88,11 +88,6 @@ pub fn said_types_are_spellable()
     ensures spellable { (t : AnyType) → IsRegular t → Spellable (mean t) → IsSaid (mean t) }
 {}
 
-/// Different variables have different numbers.
-pub fn numbers_tell_variables()
-    ensures { (ns : Items Seen) (v w : Seen) → number v ns < length ns → number v ns ≡ number w ns → v ≡ w }
-{}
-
 #[tactic(auto, using(crate::proofs::TextForms::texts))]
 fn read_form(t: &Ty) -> Form
     ensures { result ≡ form_of t.now }
