@@ -12,7 +12,7 @@ use Rattle.snowcat_rows.specs.Substitutions.{or_else}
 use Rattle.snowcat_rows.specs.Chains.{Variable, OccursSlot}
 use Rattle.snowcat_rows.specs.inner.Rounds.{only, Is, Covers, Lacks, Common}
 use Rattle.snowcat_rows.specs.Codes.{named, has}
-use Rattle.snowcat_rows.proofs.Means.{lookup-append}
+use Rattle.snowcat_rows.proofs.Means.{lookup-append, or_none}
 
 -- a name that is tested
 pub has_first : (f : List ℕ × Ty) (fs : List (List ℕ × Ty)) (n : List ℕ) → f.0 ≡ n → has (f ∷ fs) n ≡ some (mean f.1)
@@ -125,6 +125,51 @@ missing_end fs gs items i le m n =
     or_only none none = refl
     or_only none (some u) = refl
     or_only (some t) y = refl
+
+-- ---- the fields of two records, the first of each name
+
+abbrev pub Joined : List (List ℕ × Ty) → List (List ℕ × Ty) → List (List ℕ × Ty) → List (List ℕ × Ty) → Type 0
+Joined fs gs items rest = (n : List ℕ) → or_else (has items n) (has rest n) ≡ or_else (has fs n) (has gs n)
+
+-- the name is there
+pub joined_skip : (fs gs items more : List (List ℕ × Ty)) (i j : ℕ) (g : List ℕ × Ty) → i < length gs → g ≡ get_or gs i g → j ≡ suc i → (has items g.0 ≡ none → ⊥) →
+    more ≡ items → Joined fs gs items (drop i gs) → Joined fs gs more (drop j gs)
+joined_skip fs gs items more i j g lt e q h p m n = ap (λ l. or_else (has l n) (has (drop j gs) n)) p ∙ here (name_cases g.0 n) ∙ m n
+  where
+    first_counts : (x y z : Slot) → (x ≡ none → ⊥) → or_else x y ≡ or_else x z
+    first_counts none y z k = absurd (k refl)
+    first_counts (some t) y z k = refl
+
+    here : (g.0 ≡ n) ⊎ (g.0 ≡ n → ⊥) → or_else (has items n) (has (drop j gs) n) ≡ or_else (has items n) (has (drop i gs) n)
+    here (inl k) = first_counts (has items n) (has (drop j gs) n) (has (drop i gs) n) (λ z. h (ap (has items) k ∙ z))
+    here (inr k) = ap (or_else (has items n)) (ap (λ z. has (drop z gs) n) q ∙ sym (ap (λ l. has l n) (opened gs i g lt e) ∙ has_later g (drop (suc i) gs) n k))
+
+-- it is not
+pub joined_take : (fs gs items more : List (List ℕ × Ty)) (i j : ℕ) (g f : List ℕ × Ty) → i < length gs → g ≡ get_or gs i g → j ≡ suc i →
+    more ≡ items ++ f ∷ [] → f.0 ≡ g.0 → mean f.1 ≡ mean g.1 → Joined fs gs items (drop i gs) → Joined fs gs more (drop j gs)
+joined_take fs gs items more i j g f lt e q p gn gm m n =
+    ap (λ z. or_else z (has (drop j gs) n)) (ap (λ l. has l n) p ∙ ap (λ l. lookup l n) (named_append items (f ∷ [])) ∙ lookup-append (named items) (named (f ∷ [])) n)
+    ∙ or_or (has items n) (has (f ∷ []) n) (has (drop j gs) n)
+    ∙ ap (or_else (has items n)) (here (name_cases g.0 n))
+    ∙ m n
+  where
+    named_append : (xs ys : List (List ℕ × Ty)) → named (xs ++ ys) ≡ named xs ++ named ys
+    named_append [] ys = refl
+    named_append (x ∷ xs) ys = ap (λ l. (x.0, mean x.1) ∷ l) (named_append xs ys)
+
+    or_or : (x y z : Slot) → or_else (or_else x y) z ≡ or_else x (or_else y z)
+    or_or none y z = refl
+    or_or (some t) y z = refl
+
+    here : (g.0 ≡ n) ⊎ (g.0 ≡ n → ⊥) → or_else (has (f ∷ []) n) (has (drop j gs) n) ≡ has (drop i gs) n
+    here (inl k) =
+        ap (λ z. or_else z (has (drop j gs) n)) (has_first f [] n (gn ∙ k) ∙ ap some gm) ∙ sym (ap (λ l. has l n) (opened gs i g lt e) ∙ has_first g (drop (suc i) gs) n k)
+    here (inr k) =
+        ap (λ z. or_else z (has (drop j gs) n)) (has_later f [] n (λ z. k (sym gn ∙ z)))
+        ∙ ap (λ z. has (drop z gs) n) q ∙ sym (ap (λ l. has l n) (opened gs i g lt e) ∙ has_later g (drop (suc i) gs) n k)
+
+pub joined_end : (fs gs items : List (List ℕ × Ty)) (i : ℕ) → length gs ≤ i → Joined fs gs items (drop i gs) → (n : List ℕ) → has items n ≡ or_else (has fs n) (has gs n)
+joined_end fs gs items i le m n = sym (or_none (has items n)) ∙ ap (λ l. or_else (has items n) (has l n)) (sym (drop_all i gs le)) ∙ m n
 
 -- ---- a name that is not found
 pub uncovered : (fs gs : List (List ℕ × Ty)) (i : ℕ) (g : List ℕ × Ty) → i < length gs → g ≡ get_or gs i g → has fs g.0 ≡ none → Lacks (has fs) (has gs)

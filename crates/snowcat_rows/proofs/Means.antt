@@ -74,7 +74,7 @@ lookup-append [] ys n = refl
 lookup-append (x ∷ xs) ys n =
     elim (cases_Bool (bytes_eq x.0 n)) [ inl h ↦ rw h refl | inr h ↦ rw h (lookup-append xs ys n) ]
 
-or_none : (x : Slot) → or_else x none ≡ x
+pub or_none : (x : Slot) → or_else x none ≡ x
 or_none none = refl
 or_none (some t) = refl
 
@@ -89,11 +89,10 @@ followed_same fs s k w e h =
 
 -- with the row that the variable stands for
 pub followed_by : (fs hs gs : List (List ℕ × Ty)) (s : Sub) (q : ℕ) (k : Option ℕ) → s.row_of q ≡ record { at = lookup (named gs); tail = k } →
-    named hs ≡ named fs ++ named gs → mean (Rec hs k) ≡ followed (named fs) s (Some q)
+    ((n : List ℕ) → lookup (named hs) n ≡ or_else (lookup (named fs) n) (lookup (named gs) n)) → mean (Rec hs k) ≡ followed (named fs) s (Some q)
 followed_by fs hs gs s q k e h =
     mean-Rec hs k
-    ∙ (λ i. fields (lookup (h i)) k)
-    ∙ (λ i. fields (λ n. lookup-append (named fs) (named gs) n i) k)
+    ∙ (λ i. fields (λ n. h n i) k)
     ∙ sym (λ i. fields (λ n. or_else (lookup (named fs) n) ((e i).at n)) (e i).tail)
 
 pub row_replaced : (s : Sub) (rs ts : List Ty) → map mean rs ≡ map (λ u. apply s (mean u)) ts → row (map mean rs) ≡ apply s (row (map mean ts))

@@ -85,15 +85,15 @@ names_named : (fs : List (List ℕ × Ty)) → names (named fs) ≡ names fs
 names_named [] = refl
 names_named (f ∷ fs) = ap (λ z. f.0 ∷ z) (names_named fs)
 
-and_not : (a b : Bool) → (not a && b) ≡ true → a ≡ false
+pub and_not : (a b : Bool) → (not a && b) ≡ true → a ≡ false
 and_not true b e = absurd (cc)
 and_not false b e = refl
 
-and_right : (a b : Bool) → (a && b) ≡ true → b ≡ true
+pub and_right : (a b : Bool) → (a && b) ≡ true → b ≡ true
 and_right true b e = e
 and_right false b e = absurd (cc)
 
-or_parts : (a b : Bool) → (a || b) ≡ false → (a ≡ false) × (b ≡ false)
+pub or_parts : (a b : Bool) → (a || b) ≡ false → (a ≡ false) × (b ≡ false)
 or_parts true b e = absurd (cc)
 or_parts false b e = (refl, e)
 
@@ -119,7 +119,7 @@ record_named ns ts fs gs k e d h i =
 
 -- ---- one of a list
 
-and_left : (a b : Bool) → (a && b) ≡ true → a ≡ true
+pub and_left : (a b : Bool) → (a && b) ≡ true → a ≡ true
 and_left true b e = refl
 and_left false b e = absurd (cc)
 

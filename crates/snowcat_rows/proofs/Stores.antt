@@ -9,13 +9,13 @@ use Rattle.snowcat_rows.specs.Chains.{Binding, Chain, solved}
 use Rattle.snowcat_rows.specs.Sorting.{AllWithin}
 use Rattle.snowcat_rows.specs.Codes.{Begins}
 use Rattle.snowcat_rows.specs.inner.Places.{Indexed}
-use Rattle.snowcat_rows.specs.inner.Stores.{HasBoth, IsSolved, bound_in}
+use Rattle.snowcat_rows.specs.inner.Stores.{HasBoth, IsNamed, IsSolved, bound_in}
 use Rattle.snowcat_rows.proofs.Searching.{Searching, made, made_at}
 
 -- the last round found nothing more
 pub found : (s t u : Store) (a b : Term) → Searching s.issued t.issued (bound_in s) (bound_in t) a b → HasBoth s a b → Chain (bound_in s) →
-    solved (bound_in t) a ≡ solved (bound_in t) b → bound_in u ≡ bound_in t → u.issued ≡ t.issued → IsSolved s u a b
-found s t u a b h w c e q p =
+    solved (bound_in t) a ≡ solved (bound_in t) b → bound_in u ≡ bound_in t → u.issued ≡ t.issued → IsNamed u → IsSolved s u a b
+found s t u a b h w c e q p nd =
     let C : List Binding → Type 0 = λ z. Chain z in
     let W : List Binding → Type 0 = λ z. AllWithin t.issued z in
     let N : ℕ → Type 0 = λ z. AllWithin z (bound_in u) in
@@ -23,6 +23,7 @@ found s t u a b h w c e q p =
       chain = subst C (sym q) h.plain.chain;
       within = subst N (sym p) (subst W (sym q) h.plain.within);
       more = omega (arith, h.more, p);
+      named = nd;
       made = made_at s.issued t.issued u.issued (bound_in s) (bound_in t) (bound_in u) a b q p (made s.issued t.issued (bound_in s) (bound_in t) a b h w.0 w.1 c e);
     }
 

@@ -1,10 +1,11 @@
 -- What the calls of unification say.
-use Rattle.std.specs.Prelude.{ℕ, ◌+◌, ◌≡◌, ◌<◌, ◌≤◌, ◌⊎◌, ◌++◌, [], ◌∷◌, List, Some}
+use Rattle.std.specs.Prelude.{ℕ, ◌+◌, ◌≡◌, ◌<◌, ◌≤◌, ◌⊎◌, ◌++◌, [], ◌∷◌, true, List, Some}
 use Rattle.snowcat_rows.specs.declared.substitution.UnifyFault.{UnifyFault}
 use Rattle.snowcat_rows.specs.declared.substitution.UnifyFault.TheVariants.{Clash, Memory}
 use Rattle.snowcat_rows.specs.Types.{Term, some, mean, Beside}
 use Rattle.snowcat_rows.specs.Substitutions.{Row, Sub, apply, Fronts, Fits, Sorted, Unified, Apart}
 use Rattle.snowcat_rows.specs.Chains.{Binding, to_type, to_row, solved, sub_of}
+use Rattle.snowcat_rows.specs.FieldNames.{names_differ}
 use Rattle.snowcat_rows.specs.Sorting.{AllSorted}
 
 abbrev pub Same : ℕ → Fronts → Fronts → Type 0
@@ -65,3 +66,8 @@ pub record Unmade (n : ℕ) (l : Fronts) (bs : List Binding) (a b x y : Term) : 
 abbrev pub IsRefused : UnifyFault → ℕ → List Binding → Term → Term → Type 0
 IsRefused (Clash x y) n bs a b = (l : Fronts) → AllSorted l bs → Sorted l a → Sorted l b → Unmade n l bs a b (mean x) (mean y)
 IsRefused (Memory e) n bs a b = Unit {0}
+
+-- in the records of two types that clash the names of the fields differ
+abbrev pub HasNames : UnifyFault → Type 0
+HasNames (Clash x y) = (names_differ x ≡ true) × (names_differ y ≡ true)
+HasNames (Memory e) = Unit {0}

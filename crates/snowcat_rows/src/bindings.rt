@@ -1,9 +1,11 @@
 // Bindings of variables, and those that make two types more alike.
-ghost use Rattle.std.specs.Prelude.{◌≡◌, ◌++◌, ◌∷◌, [], IfOk};
+ghost use Rattle.std.specs.Prelude.{◌≡◌, ◌++◌, ◌∷◌, [], IfOk, OnOk, true};
 ghost use Rattle.std.specs.Bool.{MatchBool};
 ghost use Rattle.snowcat_rows.specs.Types.{fields, mean, var};
 ghost use Rattle.snowcat_rows.specs.Chains.{Occurs, OccursRow, key, row_var, to_row, to_type, type_var};
 ghost use Rattle.snowcat_rows.specs.Codes.{Begins, binding, bindings_of, has, variable};
+ghost use Rattle.snowcat_rows.specs.FieldNames.{names_differ};
+ghost use Rattle.snowcat_rows.specs.inner.Naming.{all_bound_named, record_named};
 ghost use Rattle.snowcat_rows.specs.inner.Rounds.{Advances, BothBound, Common, Lacks, NoneBound, Stuck, Unlike, row_of};
 
 use crate::occurrences::{Unknown, is_end, occurs, occurs_fields};
@@ -38,6 +40,8 @@ fn bind_type(alloc: Global, bindings: &mut Vec<Bound>, v: u32, t: &Ty) -> Result
         ((Occurs (type_var v) (mean t.now) → ⊥)
         × (bindings_of bindings.new.items ≡ bindings_of bindings.old.items ++ to_type v (mean t.now) ∷ []))
         (Occurs (type_var v) (mean t.now))) }
+    ensures named { all_bound_named bindings.old.items ≡ true → names_differ t.now ≡ true
+        → OnOk result (all_bound_named bindings.new.items ≡ true) }
 {
     if occurs(Unknown::Type(v), t) {
         return Ok(false);
@@ -64,6 +68,8 @@ fn bind_later(
         (Advances (mean x.now) (mean y.now) issued
         (bindings_of bindings.old.items) (bindings_of bindings.new.items) issued)
         (Stuck (mean x.now) (mean y.now) issued)) }
+    ensures named { all_bound_named bindings.old.items ≡ true → names_differ x.now ≡ true → names_differ y.now ≡ true
+        → OnOk result (all_bound_named bindings.new.items ≡ true) }
 {
     if let Ty::Var(w) = y {
         if v < *w {
@@ -88,6 +94,8 @@ fn bind_row(
         × (bindings_of bindings.new.items
         ≡ bindings_of bindings.old.items ++ to_row r (row_of (has fields.items) tail) ∷ []))
         (OccursRow (row_var r) (row_of (has fields.items) tail))) }
+    ensures named { all_bound_named bindings.old.items ≡ true → record_named fields.items ≡ true
+        → OnOk result (all_bound_named bindings.new.items ≡ true) }
 {
     if occurs_fields(Unknown::Row(r), fields.as_slice()) || is_end(Unknown::Row(r), tail) {
         return Ok(false);
@@ -111,6 +119,8 @@ fn bind_both(
         (BothBound r (has left.items) q (has right.items) issued
         (bindings_of bindings.old.items) (bindings_of bindings.new.items))
         (NoneBound r (has left.items) q (has right.items) issued)) }
+    ensures named { all_bound_named bindings.old.items ≡ true → record_named left.items ≡ true → record_named right.items ≡ true
+        → OnOk result (all_bound_named bindings.new.items ≡ true) }
 {
     if occurs_fields(Unknown::Row(r), left.as_slice()) {
         return Ok(false);
@@ -144,6 +154,8 @@ fn advance_both(
         (Advances (fields (has fs.now) (Some r)) (fields (has gs.now) (Some q)) issued.old
         (bindings_of bindings.old.items) (bindings_of bindings.new.items) issued.new)
         (Stuck (fields (has fs.now) (Some r)) (fields (has gs.now) (Some q)) issued.old)) }
+    ensures named { all_bound_named bindings.old.items ≡ true → record_named fs.now ≡ true → record_named gs.now ≡ true
+        → OnOk result (all_bound_named bindings.new.items ≡ true) }
 {
     if *issued == 4294967295 {
         return Err(AllocError);
@@ -175,6 +187,8 @@ fn advance_rows(
         (Advances (fields (has fs.now) k) (fields (has gs.now) j) issued.old
         (bindings_of bindings.old.items) (bindings_of bindings.new.items) issued.new)
         (Stuck (fields (has fs.now) k) (fields (has gs.now) j) issued.old)) }
+    ensures named { all_bound_named bindings.old.items ≡ true → record_named fs.now ≡ true → record_named gs.now ≡ true
+        → OnOk result (all_bound_named bindings.new.items ≡ true) }
 {
     if is_same_end(k, j) {
         return Ok(false);
@@ -235,6 +249,8 @@ pub(crate) fn advance(
         (Advances (mean x.now) (mean y.now) issued.old
         (bindings_of bindings.old.items) (bindings_of bindings.new.items) issued.new)
         (Stuck (mean x.now) (mean y.now) issued.old)) }
+    ensures named { all_bound_named bindings.old.items ≡ true → names_differ x.now ≡ true → names_differ y.now ≡ true
+        → OnOk result (all_bound_named bindings.new.items ≡ true) }
 {
     match x {
         Ty::Var(v) => {

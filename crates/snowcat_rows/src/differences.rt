@@ -1,7 +1,10 @@
 // Where two types differ.
-ghost use Rattle.std.specs.Prelude.{◌≡◌, MatchOption, length, map};
+ghost use Rattle.std.specs.Prelude.{◌≡◌, IfSome, MatchOption, length, map, true};
+ghost use Rattle.std.specs.List.{list_all};
 ghost use Rattle.snowcat_rows.specs.Types.{mean, row};
 ghost use Rattle.snowcat_rows.specs.Codes.{has};
+ghost use Rattle.snowcat_rows.specs.FieldNames.{names_differ};
+ghost use Rattle.snowcat_rows.specs.inner.Naming.{are_named, fields_named};
 ghost use Rattle.snowcat_rows.specs.inner.Rounds.{Common, Differ, InField};
 
 use crate::records::{find, is_alike};
@@ -9,11 +12,13 @@ use crate::types::Ty;
 use tla_values::Text;
 
 // The first two parts that differ at once.
-#[tactic(auto, using(crate::proofs::Means::means))]
+#[tactic(auto, using(crate::proofs::Means::means, crate::proofs::Naming::differs))]
 #[cycle(difference)]
 pub(crate) fn difference<'a>(a: &'a Ty, b: &'a Ty) -> Option<(&'a Ty, &'a Ty)>
-    ensures { MatchOption result (mean a.now ≡ mean b.now)
+    ensures differ { MatchOption result (mean a.now ≡ mean b.now)
         (λ p. Differ (mean a.now) (mean b.now) (mean p.0.now) (mean p.1.now)) }
+    ensures named { names_differ a.now ≡ true → names_differ b.now ≡ true
+        → IfSome result (λ p. are_named p.0.now p.1.now ≡ true) }
 {
     match a {
         Ty::Bool => match b {
@@ -96,12 +101,14 @@ pub(crate) fn difference<'a>(a: &'a Ty, b: &'a Ty) -> Option<(&'a Ty, &'a Ty)>
     }
 }
 
-#[tactic(auto, using(crate::proofs::Means::means))]
+#[tactic(auto, using(crate::proofs::Means::means, crate::proofs::Naming::differs))]
 #[cycle(difference)]
 fn difference_all<'a>(xs: &'a [Ty], ys: &'a [Ty]) -> Option<(&'a Ty, &'a Ty)>
     requires { length xs.now ≡ length ys.now }
-    ensures { MatchOption result (row (map mean xs.now) ≡ row (map mean ys.now))
+    ensures differ { MatchOption result (row (map mean xs.now) ≡ row (map mean ys.now))
         (λ p. Differ (row (map mean xs.now)) (row (map mean ys.now)) (mean p.0.now) (mean p.1.now)) }
+    ensures named { list_all names_differ xs.now ≡ true → list_all names_differ ys.now ≡ true
+        → IfSome result (λ p. are_named p.0.now p.1.now ≡ true) }
 {
     for i in 0..xs.len() {
         if let Some(p) = difference(&xs[i], &ys[i]) {
@@ -112,11 +119,13 @@ fn difference_all<'a>(xs: &'a [Ty], ys: &'a [Ty]) -> Option<(&'a Ty, &'a Ty)>
 }
 
 // The first two parts that differ at once of fields with one name.
-#[tactic(auto, using(crate::proofs::Means::means))]
+#[tactic(auto, using(crate::proofs::Means::means, crate::proofs::Naming::differs))]
 #[cycle(difference)]
 fn difference_fields<'a>(fs: &'a [(Text, Ty)], gs: &'a [(Text, Ty)]) -> Option<(&'a Ty, &'a Ty)>
-    ensures { MatchOption result (Common (has fs.now) (has gs.now))
+    ensures differ { MatchOption result (Common (has fs.now) (has gs.now))
         (λ p. InField (has fs.now) (has gs.now) (mean p.0.now) (mean p.1.now)) }
+    ensures named { fields_named fs.now ≡ true → fields_named gs.now ≡ true
+        → IfSome result (λ p. are_named p.0.now p.1.now ≡ true) }
 {
     for f in fs {
         if let Some(i) = find(fs, &f.0) {

@@ -1,8 +1,9 @@
 // Fields of records by their names.
-ghost use Rattle.std.specs.Prelude.{ℕ, ◌≡◌, ◌<◌, List as Items, IfOk, MatchOption, get_or, length};
+ghost use Rattle.std.specs.Prelude.{ℕ, ◌≡◌, ◌<◌, List as Items, IfOk, MatchOption, get_or, length, true};
 ghost use Rattle.std.specs.Bool.{MatchBool};
 ghost use Rattle.snowcat_rows.specs.Types.{mean, none, some};
 ghost use Rattle.snowcat_rows.specs.Codes.{has};
+ghost use Rattle.snowcat_rows.specs.inner.Naming.{record_named};
 ghost use Rattle.snowcat_rows.specs.inner.Rounds.{Covers, Lacks, SameNames, only};
 
 use crate::types::{Ty, copy_type};
@@ -42,7 +43,8 @@ pub(crate) fn missing(
     fs: &[(Text, Ty)],
     gs: &[(Text, Ty)],
 ) -> Result<Vec<(Text, Ty)>, AllocError>
-    ensures { IfOk result (λ r. (n : Items ℕ) → has r.items n ≡ only (has fs.now n) (has gs.now n)) }
+    ensures has { IfOk result (λ r. (n : Items ℕ) → has r.items n ≡ only (has fs.now n) (has gs.now n)) }
+    ensures named { record_named fs.now ≡ true → IfOk result (λ r. record_named r.items ≡ true) }
 {
     let mut items = Vec::new(alloc);
     for f in fs {

@@ -1,9 +1,12 @@
 // Types once variables are replaced by what they are bound to.
-ghost use Rattle.std.specs.Prelude.{◌≡◌, IfOk, MatchOption, map};
+ghost use Rattle.std.specs.Prelude.{◌≡◌, IfOk, IfSome, MatchOption, map, true};
+ghost use Rattle.std.specs.List.{list_all};
 ghost use Rattle.snowcat_rows.specs.Types.{mean, row, var};
 ghost use Rattle.snowcat_rows.specs.Substitutions.{apply, same_sub};
 ghost use Rattle.snowcat_rows.specs.Chains.{Chain, solved};
 ghost use Rattle.snowcat_rows.specs.Codes.{bindings_of, changed, followed, has, named};
+ghost use Rattle.snowcat_rows.specs.FieldNames.{names as names_of, names_differ};
+ghost use Rattle.snowcat_rows.specs.inner.Naming.{all_bound_named, fields_named, record_named};
 ghost use Rattle.snowcat_rows.specs.inner.Places.{Indexed};
 ghost use Rattle.snowcat_rows.specs.inner.Lookups.{looked, row_at, type_at};
 ghost use Rattle.snowcat_rows.specs.inner.Rounds.{row_of};
@@ -12,6 +15,7 @@ use crate::bindings::{Bound, bound_by};
 use crate::differences::difference;
 use crate::occurrences::{Unknown, occurs};
 use crate::places::Places;
+use crate::records::find;
 use crate::types::{Ty, copy_type};
 use std::alloc::{AllocError, Global};
 use tla_values::{List, Text, copy_text};
@@ -19,8 +23,9 @@ use tla_values::{List, Text, copy_text};
 // What the variable is bound to.
 fn type_bound<'a>(bindings: &'a [Bound], places: &Places, v: u32) -> Option<&'a Ty>
     requires { Indexed places.now bindings.now }
-    ensures { MatchOption result (type_at (bindings_of bindings.now) v ≡ var v)
+    ensures mean { MatchOption result (type_at (bindings_of bindings.now) v ≡ var v)
         (λ t. type_at (bindings_of bindings.now) v ≡ mean t.now) }
+    ensures named { all_bound_named bindings.now ≡ true → IfSome result (λ t. names_differ t.now ≡ true) }
 {
     match bindings.get(places.of(Unknown::Type(v))) {
         Some(Bound::Type(w, t)) => { if *w == v { Some(t) } else { None } }
@@ -36,8 +41,9 @@ fn row_bound<'a>(
     r: u32,
 ) -> Option<(&'a [(Text, Ty)], Option<u32>)>
     requires { Indexed places.now bindings.now }
-    ensures { MatchOption result (row_at (bindings_of bindings.now) r ≡ same_sub.row_of r)
+    ensures mean { MatchOption result (row_at (bindings_of bindings.now) r ≡ same_sub.row_of r)
         (λ w. row_at (bindings_of bindings.now) r ≡ row_of (has w.0.now) w.1) }
+    ensures named { all_bound_named bindings.now ≡ true → IfSome result (λ w. record_named w.0.now ≡ true) }
 {
     match bindings.get(places.of(Unknown::Row(r))) {
         Some(Bound::Row(q, fields, tail)) => {
@@ -53,7 +59,7 @@ fn row_bound<'a>(
 }
 
 // The type with each variable replaced once.
-#[tactic(auto, using(crate::proofs::Means::means))]
+#[tactic(auto, using(crate::proofs::Means::means, crate::proofs::Naming::differs))]
 #[cycle(replace)]
 pub(crate) fn replace(
     alloc: Global,
@@ -62,7 +68,9 @@ pub(crate) fn replace(
     places: &Places,
 ) -> Result<Ty, AllocError>
     requires { Indexed places.now bindings.now }
-    ensures { IfOk result (λ r. mean r ≡ apply (looked (bindings_of bindings.now)) (mean t.now)) }
+    ensures mean { IfOk result (λ r. mean r ≡ apply (looked (bindings_of bindings.now)) (mean t.now)) }
+    ensures named { all_bound_named bindings.now ≡ true → names_differ t.now ≡ true
+        → IfOk result (λ r. names_differ r ≡ true) }
 {
     match t {
         Ty::Bool => Ok(Ty::Bool),
@@ -106,7 +114,7 @@ pub(crate) fn replace(
     }
 }
 
-#[tactic(auto, using(crate::proofs::Means::means))]
+#[tactic(auto, using(crate::proofs::Means::means, crate::proofs::Naming::differs))]
 #[cycle(replace)]
 fn replace_all(
     alloc: Global,
@@ -115,7 +123,9 @@ fn replace_all(
     places: &Places,
 ) -> Result<List<Ty>, AllocError>
     requires { Indexed places.now bindings.now }
-    ensures { IfOk result (λ r. row (map mean r) ≡ apply (looked (bindings_of bindings.now)) (row (map mean ts.now))) }
+    ensures mean { IfOk result (λ r. row (map mean r) ≡ apply (looked (bindings_of bindings.now)) (row (map mean ts.now))) }
+    ensures named { all_bound_named bindings.now ≡ true → list_all names_differ ts.now ≡ true
+        → IfOk result (λ r. list_all names_differ r ≡ true) }
 {
     let mut items = Vec::new(alloc);
     for t in ts {
@@ -125,7 +135,7 @@ fn replace_all(
     Ok(List::from_vec(items))
 }
 
-#[tactic(auto, using(crate::proofs::Means::means))]
+#[tactic(auto, using(crate::proofs::Means::means, crate::proofs::Naming::differs))]
 #[cycle(replace)]
 pub(crate) fn replace_fields(
     alloc: Global,
@@ -134,7 +144,10 @@ pub(crate) fn replace_fields(
     places: &Places,
 ) -> Result<Vec<(Text, Ty)>, AllocError>
     requires { Indexed places.now bindings.now }
-    ensures { IfOk result (λ r. named r.items ≡ changed (looked (bindings_of bindings.now)) fs.now) }
+    ensures mean { IfOk result (λ r. named r.items ≡ changed (looked (bindings_of bindings.now)) fs.now) }
+    ensures names { IfOk result (λ r. names_of r.items ≡ names_of fs.now) }
+    ensures named { all_bound_named bindings.now ≡ true → fields_named fs.now ≡ true
+        → IfOk result (λ r. fields_named r.items ≡ true) }
 {
     let mut items = Vec::new(alloc);
     for f in fs {
@@ -145,7 +158,8 @@ pub(crate) fn replace_fields(
     Ok(items)
 }
 
-// The record of fields that were changed, followed by what its row variable stands for.
+// The record of fields that were changed, followed by what its row variable stands for. The first field of a name
+// counts, so that no name comes twice.
 fn follow(
     alloc: Global,
     fields: Vec<(Text, Ty)>,
@@ -154,7 +168,9 @@ fn follow(
     places: &Places,
 ) -> Result<Ty, AllocError>
     requires { Indexed places.now bindings.now }
-    ensures { IfOk result (λ r. mean r ≡ followed (named fields.items) (looked (bindings_of bindings.now)) tail) }
+    ensures mean { IfOk result (λ r. mean r ≡ followed (named fields.items) (looked (bindings_of bindings.now)) tail) }
+    ensures named { all_bound_named bindings.now ≡ true → record_named fields.items ≡ true
+        → IfOk result (λ r. names_differ r ≡ true) }
 {
     let mut fields = fields;
     match tail {
@@ -163,9 +179,11 @@ fn follow(
             None => Ok(Ty::Rec(List::from_vec(fields), Some(q))),
             Some((rest, end)) => {
                 for g in rest {
-                    let name = copy_text(alloc, &g.0)?;
-                    let item = copy_type(alloc, &g.1)?;
-                    fields.push((name, item))?;
+                    if find(fields.as_slice(), &g.0).is_none() {
+                        let name = copy_text(alloc, &g.0)?;
+                        let item = copy_type(alloc, &g.1)?;
+                        fields.push((name, item))?;
+                    }
                 }
                 Ok(Ty::Rec(List::from_vec(fields), end))
             }
@@ -183,7 +201,9 @@ pub(crate) fn settle(
 ) -> Result<Ty, AllocError>
     requires chain { Chain (bindings_of bindings.now) }
     requires indexed { Indexed places.now bindings.now }
-    ensures { IfOk result (λ r. mean r ≡ solved (bindings_of bindings.now) (mean t.now)) }
+    ensures mean { IfOk result (λ r. mean r ≡ solved (bindings_of bindings.now) (mean t.now)) }
+    ensures named { all_bound_named bindings.now ≡ true → names_differ t.now ≡ true
+        → IfOk result (λ r. names_differ r ≡ true) }
 {
     let mut current = copy_type(alloc, t)?;
     for pass in 0..bindings.len() {
@@ -199,7 +219,9 @@ pub(crate) fn settle(
 
 // The type once each of the bindings is put in place, one after the other.
 pub(crate) fn put_all(alloc: Global, t: &Ty, bindings: &[Bound]) -> Result<Ty, AllocError>
-    ensures { IfOk result (λ r. mean r ≡ solved (bindings_of bindings.now) (mean t.now)) }
+    ensures mean { IfOk result (λ r. mean r ≡ solved (bindings_of bindings.now) (mean t.now)) }
+    ensures named { all_bound_named bindings.now ≡ true → names_differ t.now ≡ true
+        → IfOk result (λ r. names_differ r ≡ true) }
 {
     let places = Places::new(alloc);
     let mut current = copy_type(alloc, t)?;

@@ -1,14 +1,16 @@
 // Substitutions, and the most general one that makes two types equal.
-ghost use Rattle.std.specs.Prelude.{ℕ, ◌≡◌, ◌+◌, ◌<◌, ◌≤◌, [], IfOk, MatchResult, OnOk, alloc_error, take};
+ghost use Rattle.std.specs.Prelude.{ℕ, ◌≡◌, ◌+◌, ◌<◌, ◌≤◌, [], IfOk, MatchResult, OnOk, alloc_error, take, true};
 ghost use Rattle.snowcat_rows.specs.Types.{mean, var};
 ghost use Rattle.snowcat_rows.specs.Substitutions.{apply};
 ghost use Rattle.snowcat_rows.specs.Chains.{Chain, solved};
 ghost use Rattle.snowcat_rows.specs.Codes.{bindings_of};
 ghost use Rattle.snowcat_rows.specs.Sorting.{Within};
-ghost use Rattle.snowcat_rows.specs.Unifying.{IsMade, IsRefused};
+ghost use Rattle.snowcat_rows.specs.Unifying.{HasNames, IsMade, IsRefused};
+ghost use Rattle.snowcat_rows.specs.FieldNames.{names_differ};
+ghost use Rattle.snowcat_rows.specs.inner.Naming.{are_named, fault_named, round_named};
 ghost use Rattle.snowcat_rows.specs.inner.Places.{Indexed};
 ghost use Rattle.snowcat_rows.specs.inner.Rounds.{After};
-ghost use Rattle.snowcat_rows.specs.inner.Stores.{HasBoth, IsFurther, IsKept, IsSolved, IsSound, IsSound-prop, bound_in};
+ghost use Rattle.snowcat_rows.specs.inner.Stores.{HasBoth, IsFurther, IsKept, IsNamed, IsSolved, IsSound, IsSound-prop, bound_in};
 
 use crate::bindings::{Bound, advance, bound_by};
 use crate::differences::difference;
@@ -72,6 +74,8 @@ impl Store {
         ensures further { IsFurther self.old self.new }
         ensures ok { IfOk result (λ r. After r (mean a.now) (mean b.now)
             self.old.issued (bound_in self.old) (bound_in self.new) self.new.issued) }
+        ensures named { IsNamed self.old → are_named a.now b.now ≡ true
+            → IfOk result (λ r. (round_named r ≡ true) × IsNamed self.new) }
     {
         let mark = self.bindings.len();
         match difference(a, b) {
@@ -93,10 +97,12 @@ impl Store {
     fn solve(&mut self, alloc: Global, a: &Ty, b: &Ty) -> Result<(), UnifyFault>
         requires sound { IsSound self.old }
         requires within { HasBoth self.old (mean a.now) (mean b.now) }
+        requires named { are_named a.now b.now ≡ true }
         ensures further { IsFurther self.old self.new }
         ensures solved { MatchResult result
             (λ _. IsSolved self.old self.new (mean a.now) (mean b.now))
             (λ e. IsRefused e self.old.issued (bound_in self.old) (mean a.now) (mean b.now)) }
+        ensures clash { MatchResult result (λ _. Unit {0}) (λ e. fault_named e ≡ true) }
     {
         let mut left = settle(alloc, a, self.bindings.as_slice(), &self.places)?;
         let mut right = settle(alloc, b, self.bindings.as_slice(), &self.places)?;
@@ -117,10 +123,12 @@ impl Store {
     fn solve_and_note(&mut self, alloc: Global, a: &Ty, b: &Ty) -> Result<(), UnifyFault>
         requires sound { IsSound self.old }
         requires within { HasBoth self.old (mean a.now) (mean b.now) }
+        requires named { are_named a.now b.now ≡ true }
         ensures kept { IsKept self.old self.new }
         ensures solved { MatchResult result
             (λ _. IsSound self.new × IsSolved self.old self.new (mean a.now) (mean b.now))
             (λ e. IsRefused e self.old.issued (bound_in self.old) (mean a.now) (mean b.now)) }
+        ensures clash { MatchResult result (λ _. Unit {0}) (λ e. fault_named e ≡ true) }
     {
         let mark = self.bindings.len();
         self.solve(alloc, a, b)?;
@@ -132,11 +140,13 @@ impl Store {
     fn unify(&mut self, alloc: Global, a: &Ty, b: &Ty) -> Result<(), UnifyFault>
         requires sound { IsSound self.old }
         requires within { HasBoth self.old (mean a.now) (mean b.now) }
+        requires named { are_named a.now b.now ≡ true }
         ensures sound { IsSound self.new }
         ensures unified { MatchResult result
             (λ _. IsSolved self.old self.new (mean a.now) (mean b.now))
             (λ e. (self.new.bindings.items ≡ self.old.bindings.items) × (self.new.issued ≡ self.old.issued)
             × IsRefused e self.old.issued (bound_in self.old) (mean a.now) (mean b.now)) }
+        ensures clash { MatchResult result (λ _. Unit {0}) (λ e. fault_named e ≡ true) }
     {
         let mark = self.bindings.len();
         let count = self.issued;
@@ -195,9 +205,11 @@ impl Subst {
         Ty::Var(v)
     }
 
-    /// The type under the substitution. It can be handed on to [`unify`](Subst::unify) where the given type can.
+    /// The type under the substitution; in each record of it the field names differ where they do so in the given
+    /// type. It can be handed on to [`unify`](Subst::unify) where the given type can.
     pub fn resolved(&self, alloc: Global, t: &Ty) -> Result<Ty, AllocError>
         ensures mean { IfOk result (λ r. mean r ≡ apply (stands_for self.now) (mean t.now)) }
+        ensures named { names_differ t.now ≡ true → IfOk result (λ r. names_differ r ≡ true) }
         ensures within { (n : ℕ) → issued_of self.now ≤ n → Within n (mean t.now)
             → IfOk result (λ r. Within n (mean r)) }
     {
@@ -206,8 +218,9 @@ impl Subst {
     }
 
     /// Makes the types equal by the most general substitution that extends this one. Each variable of
-    /// the types is one that this substitution issued ([`is_within`](crate::is_within) tells), and
-    /// each row variable stands after the same field names wherever it stands.
+    /// the types is one that this substitution issued ([`is_within`](crate::is_within) tells), in
+    /// each record the field names differ ([`has_distinct_names`](crate::has_distinct_names) tells), and each
+    /// row variable stands after the same field names wherever it stands.
     ///
     /// A field that one record lacks goes into the row of that record's variable; where both lack
     /// one, a new row variable follows in both, and no other variable is issued. The fault `Clash`
@@ -217,12 +230,14 @@ impl Subst {
     pub fn unify(&mut self, a: &Ty, b: &Ty) -> Result<(), UnifyFault>
         requires left { Within (issued_of self.old) (mean a.now) }
         requires right { Within (issued_of self.old) (mean b.now) }
+        requires names { (names_differ a.now ≡ true) × (names_differ b.now ≡ true) }
         ensures more { issued_of self.old ≤ issued_of self.new }
         ensures ok { OnOk result (IsMade (issued_of self.old) (issued_of self.new)
             (kept_by self.old) (kept_by self.new) (mean a.now) (mean b.now)) }
         ensures err { MatchResult result (λ _. Unit {0})
             (λ e. (issued_of self.new ≡ issued_of self.old) × (kept_by self.new ≡ kept_by self.old)
             × IsRefused e (issued_of self.old) (kept_by self.old) (mean a.now) (mean b.now)) }
+        ensures names { MatchResult result (λ _. Unit {0}) (λ e. HasNames e) }
     {
         self.store.unify(self.alloc, a, b)
     }

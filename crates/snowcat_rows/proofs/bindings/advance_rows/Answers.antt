@@ -11,12 +11,12 @@ returns-then-is_same_end-clause-ok c =
 
 pub returns-in_ok-bound-in-Some-clause-ok : goal.returns-in_ok-bound-in-Some-clause-ok
 returns-in_ok-bound-in-Some-clause-ok c =
-    bound_right (has c.args.fs.now) (has c.args.gs.now) (has c.in_ok-right-in-Some.right.items) c.args.k c.args.j c.in-Some.q c.args.issued.now (bindings_of c.args.bindings.now.items) _ c.if-is_same_end.ensures c.in_ok-right-in-Some.ensures
+    bound_right (has c.args.fs.now) (has c.args.gs.now) (has c.in_ok-right-in-Some.right.items) c.args.k c.args.j c.in-Some.q c.args.issued.now (bindings_of c.args.bindings.now.items) _ c.if-is_same_end.ensures c.in_ok-right-in-Some.ensures.has
     c.if-covers.ensures c.in-Some.is c.in_ok-bound-in-Some.bound c.in_ok-bound-in-Some.ensures.ok
 
 pub returns-in_ok-bound-in-Some-k-clause-ok : goal.returns-in_ok-bound-in-Some-k-clause-ok
 returns-in_ok-bound-in-Some-k-clause-ok c =
-    bound_left (has c.args.gs.now) (has c.args.fs.now) (has c.in_ok-left-in-Some-k.left.items) c.args.j c.args.k c.in-Some-k.r c.args.issued.now (bindings_of c.args.bindings.now.items) _ (λ e. c.if-is_same_end.ensures (sym e)) c.in_ok-left-in-Some-k.ensures
+    bound_left (has c.args.gs.now) (has c.args.fs.now) (has c.in_ok-left-in-Some-k.left.items) c.args.j c.args.k c.in-Some-k.r c.args.issued.now (bindings_of c.args.bindings.now.items) _ (λ e. c.if-is_same_end.ensures (sym e)) c.in_ok-left-in-Some-k.ensures.has
     c.if-covers-2.ensures c.in-Some-k.is c.in_ok-bound-in-Some-k.bound c.in_ok-bound-in-Some-k.ensures.ok
 
 pub returns-else-covers-2-clause-ok : goal.returns-else-covers-2-clause-ok
@@ -29,7 +29,7 @@ returns-in-None-k-2-clause-ok c =
 
 pub returns-in_ok-bound-in-Some-k-2-clause-ok : goal.returns-in_ok-bound-in-Some-k-2-clause-ok
 returns-in_ok-bound-in-Some-k-2-clause-ok c =
-    bound_left (has c.args.gs.now) (has c.args.fs.now) (has c.in_ok-left-in-Some-k-2.left.items) c.args.j c.args.k c.in-Some-k-2.r c.args.issued.now (bindings_of c.args.bindings.now.items) _ (λ e. c.if-is_same_end.ensures (sym e)) c.in_ok-left-in-Some-k-2.ensures
+    bound_left (has c.args.gs.now) (has c.args.fs.now) (has c.in_ok-left-in-Some-k-2.left.items) c.args.j c.args.k c.in-Some-k-2.r c.args.issued.now (bindings_of c.args.bindings.now.items) _ (λ e. c.if-is_same_end.ensures (sym e)) c.in_ok-left-in-Some-k-2.ensures.has
     c.if-covers-3.ensures c.in-Some-k-2.is c.in_ok-bound-in-Some-k-2.bound c.in_ok-bound-in-Some-k-2.ensures.ok
 
 pub returns-in-None-j-clause-ok : goal.returns-in-None-j-clause-ok

@@ -34,100 +34,100 @@ tup_is a xs us e k = ap mean e ∙ mean-Tup xs ∙ ap (λ l. app (con TupHead) (
 oper_is : (a v : Ty) (xs us : List Ty) (y : Box Ty Global) → a ≡ Oper xs y → us ≡ xs → v ≡ y.value → mean a ≡ app (con OperHead) (app (row (map mean us)) (mean v))
 oper_is a v xs us y e k l = ap mean e ∙ mean-Oper xs y ∙ ap (λ m. app (con OperHead) (app (row (map mean m)) (mean y.value))) (sym k) ∙ ap (λ t. app (con OperHead) (app (row (map mean us)) (mean t))) (sym l)
 
-pub difference-returns-in_default : goal.difference-returns-in_default
-difference-returns-in_default t c = differ-Bool _ _ c.in-Bool.is c.in_default.not-Bool
+pub difference-returns-in_default-clause-differ : goal.difference-returns-in_default-clause-differ
+difference-returns-in_default-clause-differ t c = differ-Bool _ _ c.in-Bool.is c.in_default.not-Bool
 
-pub difference-returns-in_default-b : goal.difference-returns-in_default-b
-difference-returns-in_default-b t c = differ-Int _ _ c.in-Int.is c.in_default-b.not-Int
+pub difference-returns-in_default-b-clause-differ : goal.difference-returns-in_default-b-clause-differ
+difference-returns-in_default-b-clause-differ t c = differ-Int _ _ c.in-Int.is c.in_default-b.not-Int
 
-pub difference-returns-in_default-b-2 : goal.difference-returns-in_default-b-2
-difference-returns-in_default-b-2 t c = differ-Str _ _ c.in-Str.is c.in_default-b-2.not-Str
+pub difference-returns-in_default-b-2-clause-differ : goal.difference-returns-in_default-b-2-clause-differ
+difference-returns-in_default-b-2-clause-differ t c = differ-Str _ _ c.in-Str.is c.in_default-b-2.not-Str
 
-pub difference-returns-else-eq : goal.difference-returns-else-eq
-difference-returns-else-eq t c = differ_names _ _ c.in-Named.x c.in-Named-b.y c.in-Named.is c.in-Named-b.is (λ e. different _ _ (ap (λ (l : List ℕ). l) (c.bytes.ensures ∙ e ∙ sym c.bytes-in-Named-b.ensures)) (sym c.if-eq.ensures))
+pub difference-returns-else-eq-clause-differ : goal.difference-returns-else-eq-clause-differ
+difference-returns-else-eq-clause-differ t c = differ_names _ _ c.in-Named.x c.in-Named-b.y c.in-Named.is c.in-Named-b.is (λ e. different _ _ (ap (λ (l : List ℕ). l) (c.bytes.ensures ∙ e ∙ sym c.bytes-in-Named-b.ensures)) (sym c.if-eq.ensures))
 
-pub difference-returns-in_default-b-3 : goal.difference-returns-in_default-b-3
-difference-returns-in_default-b-3 t c = differ-Named _ _ _ c.in-Named.is c.in_default-b-3.not-Named
+pub difference-returns-in_default-b-3-clause-differ : goal.difference-returns-in_default-b-3-clause-differ
+difference-returns-in_default-b-3-clause-differ t c = differ-Named _ _ _ c.in-Named.is c.in_default-b-3.not-Named
 
-pub difference-returns-else-v-w : goal.difference-returns-else-v-w
-difference-returns-else-v-w t c = differ_vars _ _ c.in-Var.v c.in-Var-b.w c.in-Var.is c.in-Var-b.is c.if-v-w.false
+pub difference-returns-else-v-w-clause-differ : goal.difference-returns-else-v-w-clause-differ
+difference-returns-else-v-w-clause-differ t c = differ_vars _ _ c.in-Var.v c.in-Var-b.w c.in-Var.is c.in-Var-b.is c.if-v-w.false
 
-pub difference-returns-in_default-b-4 : goal.difference-returns-in_default-b-4
-difference-returns-in_default-b-4 t c = differ-Var _ _ _ c.in-Var.is c.in_default-b-4.not-Var
+pub difference-returns-in_default-b-4-clause-differ : goal.difference-returns-in_default-b-4-clause-differ
+difference-returns-in_default-b-4-clause-differ t c = differ-Var _ _ _ c.in-Var.is c.in_default-b-4.not-Var
 
-pub difference-returns-in-Set-b : goal.difference-returns-in-Set-b
-difference-returns-in-Set-b t c =
+pub difference-returns-in-Set-b-clause-differ : goal.difference-returns-in-Set-b-clause-differ
+difference-returns-in-Set-b-clause-differ t c =
     through_right c.difference.result (λ p. mean p.0.now) (λ p. mean p.1.now) (mean c.args.a.now) (mean c.args.b.now) (con SetHead) (mean c.deref.result.now) (mean c.deref-in-Set-b.result.now)
-    (set_is _ _ _ c.in-Set.is c.deref.ensures) (set_is _ _ _ c.in-Set-b.is c.deref-in-Set-b.ensures) c.difference.ensures
+    (set_is _ _ _ c.in-Set.is c.deref.ensures) (set_is _ _ _ c.in-Set-b.is c.deref-in-Set-b.ensures) c.difference.ensures.differ
 
-pub difference-returns-in_default-b-5 : goal.difference-returns-in_default-b-5
-difference-returns-in_default-b-5 t c = differ-Set _ _ _ c.in-Set.is c.in_default-b-5.not-Set
+pub difference-returns-in_default-b-5-clause-differ : goal.difference-returns-in_default-b-5-clause-differ
+difference-returns-in_default-b-5-clause-differ t c = differ-Set _ _ _ c.in-Set.is c.in_default-b-5.not-Set
 
-pub difference-returns-in_default-b-6 : goal.difference-returns-in_default-b-6
-difference-returns-in_default-b-6 t c = differ-Seq _ _ _ c.in-Seq.is c.in_default-b-6.not-Seq
+pub difference-returns-in_default-b-6-clause-differ : goal.difference-returns-in_default-b-6-clause-differ
+difference-returns-in_default-b-6-clause-differ t c = differ-Seq _ _ _ c.in-Seq.is c.in_default-b-6.not-Seq
 
-pub difference-returns-in_default-b-7 : goal.difference-returns-in_default-b-7
-difference-returns-in_default-b-7 t c = differ-Fun _ _ _ _ c.in-Fun.is c.in_default-b-7.not-Fun
+pub difference-returns-in_default-b-7-clause-differ : goal.difference-returns-in_default-b-7-clause-differ
+difference-returns-in_default-b-7-clause-differ t c = differ-Fun _ _ _ _ c.in-Fun.is c.in_default-b-7.not-Fun
 
-pub difference-returns-in_default-b-8 : goal.difference-returns-in_default-b-8
-difference-returns-in_default-b-8 t c = differ-Tup _ _ _ c.in-Tup.is c.in_default-b-8.not-Tup
+pub difference-returns-in_default-b-8-clause-differ : goal.difference-returns-in_default-b-8-clause-differ
+difference-returns-in_default-b-8-clause-differ t c = differ-Tup _ _ _ c.in-Tup.is c.in_default-b-8.not-Tup
 
-pub difference-returns-in_default-b-9 : goal.difference-returns-in_default-b-9
-difference-returns-in_default-b-9 t c = differ-Oper _ _ _ _ c.in-Oper.is c.in_default-b-9.not-Oper
+pub difference-returns-in_default-b-9-clause-differ : goal.difference-returns-in_default-b-9-clause-differ
+difference-returns-in_default-b-9-clause-differ t c = differ-Oper _ _ _ _ c.in-Oper.is c.in_default-b-9.not-Oper
 
-pub difference-returns-in-Seq-b : goal.difference-returns-in-Seq-b
-difference-returns-in-Seq-b t c =
+pub difference-returns-in-Seq-b-clause-differ : goal.difference-returns-in-Seq-b-clause-differ
+difference-returns-in-Seq-b-clause-differ t c =
     through_right c.difference-in-Seq-b.result (λ p. mean p.0.now) (λ p. mean p.1.now) (mean c.args.a.now) (mean c.args.b.now) (con SeqHead) (mean c.deref-in-Seq-b.result.now) (mean c.deref-in-Seq-b-2.result.now)
-    (seq_is _ _ _ c.in-Seq.is c.deref-in-Seq-b.ensures) (seq_is _ _ _ c.in-Seq-b.is c.deref-in-Seq-b-2.ensures) c.difference-in-Seq-b.ensures
+    (seq_is _ _ _ c.in-Seq.is c.deref-in-Seq-b.ensures) (seq_is _ _ _ c.in-Seq-b.is c.deref-in-Seq-b-2.ensures) c.difference-in-Seq-b.ensures.differ
 
-pub difference-returns-in-Some : goal.difference-returns-in-Some
-difference-returns-in-Some t c =
+pub difference-returns-in-Some-clause-differ : goal.difference-returns-in-Some-clause-differ
+difference-returns-in-Some-clause-differ t c =
     through_first (mean c.args.a.now) (mean c.args.b.now) (con FunHead) (mean c.deref-in-Fun-b.result.now) (mean c.deref-in-Fun-b-2.result.now) (mean c.in-Fun.z.value) (mean c.in-Fun-b.w.value) _ _
-    (fun_is _ _ _ _ _ c.in-Fun.is c.deref-in-Fun-b.ensures refl) (fun_is _ _ _ _ _ c.in-Fun-b.is c.deref-in-Fun-b-2.ensures refl) c.in-Some.ensures
+    (fun_is _ _ _ _ _ c.in-Fun.is c.deref-in-Fun-b.ensures refl) (fun_is _ _ _ _ _ c.in-Fun-b.is c.deref-in-Fun-b-2.ensures refl) c.in-Some.ensures.differ
 
-pub difference-returns-in-None : goal.difference-returns-in-None
-difference-returns-in-None t c =
+pub difference-returns-in-None-clause-differ : goal.difference-returns-in-None-clause-differ
+difference-returns-in-None-clause-differ t c =
     through_second c.difference-in-None.result (λ p. mean p.0.now) (λ p. mean p.1.now) (mean c.args.a.now) (mean c.args.b.now) (con FunHead)
     (mean c.deref-in-Fun-b.result.now) (mean c.deref-in-Fun-b-2.result.now) (mean c.deref-in-None.result.now) (mean c.deref-in-None-2.result.now)
     (fun_is _ _ _ _ _ c.in-Fun.is c.deref-in-Fun-b.ensures c.deref-in-None.ensures) (fun_is _ _ _ _ _ c.in-Fun-b.is c.deref-in-Fun-b-2.ensures c.deref-in-None-2.ensures)
-    c.in-None.ensures c.difference-in-None.ensures
+    c.in-None.ensures.differ c.difference-in-None.ensures.differ
 
-pub difference-returns-then-len : goal.difference-returns-then-len
-difference-returns-then-len t c =
+pub difference-returns-then-len-clause-differ : goal.difference-returns-then-len-clause-differ
+difference-returns-then-len-clause-differ t c =
     through_right c.difference_all.result (λ p. mean p.0.now) (λ p. mean p.1.now) (mean c.args.a.now) (mean c.args.b.now) (con TupHead) (row (map mean c.as_slice.result.now)) (row (map mean c.as_slice-then-len.result.now))
-    (tup_is _ _ _ c.in-Tup.is c.as_slice.ensures) (tup_is _ _ _ c.in-Tup-b.is c.as_slice-then-len.ensures) c.difference_all.ensures
+    (tup_is _ _ _ c.in-Tup.is c.as_slice.ensures) (tup_is _ _ _ c.in-Tup-b.is c.as_slice-then-len.ensures) c.difference_all.ensures.differ
 
-pub difference-returns-else-len : goal.difference-returns-else-len
-difference-returns-else-len t c =
+pub difference-returns-else-len-clause-differ : goal.difference-returns-else-len-clause-differ
+difference-returns-else-len-clause-differ t c =
     differ_tuples _ _ c.in-Tup.xs c.in-Tup-b.ys c.in-Tup.is c.in-Tup-b.is (λ e. c.if-len.false (c.len.ensures ∙ e ∙ sym c.len-in-Tup-b.ensures))
 
-pub difference-returns-in-Some-difference_all : goal.difference-returns-in-Some-difference_all
-difference-returns-in-Some-difference_all t c =
+pub difference-returns-in-Some-difference_all-clause-differ : goal.difference-returns-in-Some-difference_all-clause-differ
+difference-returns-in-Some-difference_all-clause-differ t c =
     through_first (mean c.args.a.now) (mean c.args.b.now) (con OperHead) (row (map mean c.as_slice-then-len-2.result.now)) (row (map mean c.as_slice-then-len-2-2.result.now)) (mean c.in-Oper.z.value) (mean c.in-Oper-b.w.value) _ _
-    (oper_is _ _ _ _ _ c.in-Oper.is c.as_slice-then-len-2.ensures refl) (oper_is _ _ _ _ _ c.in-Oper-b.is c.as_slice-then-len-2-2.ensures refl) c.in-Some-difference_all.ensures
+    (oper_is _ _ _ _ _ c.in-Oper.is c.as_slice-then-len-2.ensures refl) (oper_is _ _ _ _ _ c.in-Oper-b.is c.as_slice-then-len-2-2.ensures refl) c.in-Some-difference_all.ensures.differ
 
-pub difference-returns-in-None-difference_all : goal.difference-returns-in-None-difference_all
-difference-returns-in-None-difference_all t c =
+pub difference-returns-in-None-difference_all-clause-differ : goal.difference-returns-in-None-difference_all-clause-differ
+difference-returns-in-None-difference_all-clause-differ t c =
     through_second c.difference-in-None-difference_all.result (λ p. mean p.0.now) (λ p. mean p.1.now) (mean c.args.a.now) (mean c.args.b.now) (con OperHead)
     (row (map mean c.as_slice-then-len-2.result.now)) (row (map mean c.as_slice-then-len-2-2.result.now)) (mean c.deref-in-None-difference_all.result.now) (mean c.deref-in-None-difference_all-2.result.now)
     (oper_is _ _ _ _ _ c.in-Oper.is c.as_slice-then-len-2.ensures c.deref-in-None-difference_all.ensures) (oper_is _ _ _ _ _ c.in-Oper-b.is c.as_slice-then-len-2-2.ensures c.deref-in-None-difference_all-2.ensures)
-    c.in-None-difference_all.ensures c.difference-in-None-difference_all.ensures
+    c.in-None-difference_all.ensures.differ c.difference-in-None-difference_all.ensures.differ
 
-pub difference-returns-else-len-2 : goal.difference-returns-else-len-2
-difference-returns-else-len-2 t c =
+pub difference-returns-else-len-2-clause-differ : goal.difference-returns-else-len-2-clause-differ
+difference-returns-else-len-2-clause-differ t c =
     differ_opers _ _ c.in-Oper.xs c.in-Oper-b.ys c.in-Oper.z c.in-Oper-b.w c.in-Oper.is c.in-Oper-b.is (λ e. c.if-len-2.false (c.len-in-Oper-b.ensures ∙ e ∙ sym c.len-in-Oper-b-2.ensures))
 
-pub difference_all-returns-in-Some : goal.difference_all-returns-in-Some
-difference_all-returns-in-Some t c =
+pub difference_all-returns-in-Some-clause-differ : goal.difference_all-returns-in-Some-clause-differ
+difference_all-returns-in-Some-clause-differ t c =
     let lx : c.loop-i.i < length c.args.xs.now = omega arith in
     let ly : c.loop-i.i < length c.args.ys.now = omega arith in
-    rest_found c.args.xs.now c.args.ys.now c.loop-i.i c.index-xs-i.result c.index-ys-i.result lx ly c.index-xs-i.is c.index-ys-i.is c.loop-i.invariant _ _ c.in-Some.ensures
+    rest_found c.args.xs.now c.args.ys.now c.loop-i.i c.index-xs-i.result c.index-ys-i.result lx ly c.index-xs-i.is c.index-ys-i.is c.loop-i.invariant _ _ c.in-Some.ensures.differ
 
 pub difference_all-loop-i-preserved : goal.difference_all-loop-i-preserved
 difference_all-loop-i-preserved t c =
     let lx : c.loop-i.i < length c.args.xs.now = omega arith in
     let ly : c.loop-i.i < length c.args.ys.now = omega arith in
-    rest_more c.args.xs.now c.args.ys.now c.loop-i.i c.index-xs-i.result c.index-ys-i.result lx ly c.index-xs-i.is c.index-ys-i.is c.loop-i.invariant (c.loop-i.i + 1) (omega arith) c.in_default.ensures
+    rest_more c.args.xs.now c.args.ys.now c.loop-i.i c.index-xs-i.result c.index-ys-i.result lx ly c.index-xs-i.is c.index-ys-i.is c.loop-i.invariant (c.loop-i.i + 1) (omega arith) c.in_default.ensures.differ
 
 rec_is : (a : Ty) (xs us : List (List ℕ × Ty)) (k : Option ℕ) → a ≡ Rec xs k → us ≡ xs → mean a ≡ fields (has us) k
 rec_is a xs us k e h = ap mean e ∙ mean-Rec xs k ∙ ap (λ l. fields (has l) k) (sym h)
@@ -135,28 +135,28 @@ rec_is a xs us k e h = ap mean e ∙ mean-Rec xs k ∙ ap (λ l. fields (has l) 
 moved_common : (fs gs us vs : List (List ℕ × Ty)) → us ≡ fs → vs ≡ gs → Common (has us) (has vs) → Common (has fs) (has gs)
 moved_common fs gs us vs e h c n t u p q = c n t u (ap (λ l. has l n) e ∙ p) (ap (λ l. has l n) h ∙ q)
 
-pub difference-returns-in-Some-difference_fields : goal.difference-returns-in-Some-difference_fields
-difference-returns-in-Some-difference_fields t c =
-    let w = c.in-Some-difference_fields.ensures in
+pub difference-returns-in-Some-difference_fields-clause-differ : goal.difference-returns-in-Some-difference_fields-clause-differ
+difference-returns-in-Some-difference_fields-clause-differ t c =
+    let w = c.in-Some-difference_fields.ensures.differ in
     through_field (mean c.args.a.now) (mean c.args.b.now) (has c.as_slice-in-Rec-b.result.now) (has c.as_slice-in-Rec-b-2.result.now) c.in-Rec.k c.in-Rec-b.j w.name w.first w.second _ _
     (rec_is _ _ _ _ c.in-Rec.is c.as_slice-in-Rec-b.ensures) (rec_is _ _ _ _ c.in-Rec-b.is c.as_slice-in-Rec-b-2.ensures) w.left w.right w.differ
 
-pub difference-returns-then-is_alike : goal.difference-returns-then-is_alike
-difference-returns-then-is_alike t c =
+pub difference-returns-then-is_alike-clause-differ : goal.difference-returns-then-is_alike-clause-differ
+difference-returns-then-is_alike-clause-differ t c =
     equal_records (mean c.args.a.now) (mean c.args.b.now) (has c.as_slice-in-None-difference_fields.result.now) (has c.as_slice-in-None-difference_fields-2.result.now) c.in-Rec.k c.in-Rec-b.j
     (rec_is _ _ _ _ c.in-Rec.is c.as_slice-in-None-difference_fields.ensures) (rec_is _ _ _ _ c.in-Rec-b.is c.as_slice-in-None-difference_fields-2.ensures)
-    (moved_common _ _ c.as_slice-in-Rec-b.result.now c.as_slice-in-Rec-b-2.result.now (c.as_slice-in-Rec-b.ensures ∙ sym c.as_slice-in-None-difference_fields.ensures) (c.as_slice-in-Rec-b-2.ensures ∙ sym c.as_slice-in-None-difference_fields-2.ensures) c.in-None-difference_fields.ensures)
+    (moved_common _ _ c.as_slice-in-Rec-b.result.now c.as_slice-in-Rec-b-2.result.now (c.as_slice-in-Rec-b.ensures ∙ sym c.as_slice-in-None-difference_fields.ensures) (c.as_slice-in-Rec-b-2.ensures ∙ sym c.as_slice-in-None-difference_fields-2.ensures) c.in-None-difference_fields.ensures.differ)
     c.if-is_alike.ensures
 
-pub difference-returns-else-is_alike : goal.difference-returns-else-is_alike
-difference-returns-else-is_alike t c =
+pub difference-returns-else-is_alike-clause-differ : goal.difference-returns-else-is_alike-clause-differ
+difference-returns-else-is_alike-clause-differ t c =
     differ_records (mean c.args.a.now) (mean c.args.b.now) (has c.as_slice-in-None-difference_fields.result.now) (has c.as_slice-in-None-difference_fields-2.result.now) c.in-Rec.k c.in-Rec-b.j
     (rec_is _ _ _ _ c.in-Rec.is c.as_slice-in-None-difference_fields.ensures) (rec_is _ _ _ _ c.in-Rec-b.is c.as_slice-in-None-difference_fields-2.ensures)
-    (moved_common _ _ c.as_slice-in-Rec-b.result.now c.as_slice-in-Rec-b-2.result.now (c.as_slice-in-Rec-b.ensures ∙ sym c.as_slice-in-None-difference_fields.ensures) (c.as_slice-in-Rec-b-2.ensures ∙ sym c.as_slice-in-None-difference_fields-2.ensures) c.in-None-difference_fields.ensures)
+    (moved_common _ _ c.as_slice-in-Rec-b.result.now c.as_slice-in-Rec-b-2.result.now (c.as_slice-in-Rec-b.ensures ∙ sym c.as_slice-in-None-difference_fields.ensures) (c.as_slice-in-Rec-b-2.ensures ∙ sym c.as_slice-in-None-difference_fields-2.ensures) c.in-None-difference_fields.ensures.differ)
     c.if-is_alike.ensures
 
-pub difference-returns-in_default-b-10 : goal.difference-returns-in_default-b-10
-difference-returns-in_default-b-10 t c = differ-Rec _ _ _ _ c.in-Rec.is c.in_default-b-10.not-Rec
+pub difference-returns-in_default-b-10-clause-differ : goal.difference-returns-in_default-b-10-clause-differ
+difference-returns-in_default-b-10-clause-differ t c = differ-Rec _ _ _ _ c.in-Rec.is c.in_default-b-10.not-Rec
 
 pub difference_fields-loop-f-preserved : goal.difference_fields-loop-f-preserved
 difference_fields-loop-f-preserved t c =
@@ -164,11 +164,11 @@ difference_fields-loop-f-preserved t c =
     compared_next c.args.fs.now c.args.gs.now c.loop-f.f-index (c.loop-f.f-index + 1) c.f-item.result lt c.f-item.is (omega arith)
     (elim c.match-find.branch [
       | difference_fields-in-Some+in-Some-find+in_default-difference w ↦
-          same_both c.args.fs.now c.args.gs.now c.f-item.result.0 _ _ (w.in-Some.ensures.1 w.index-fs-i.result) (w.in-Some-find.ensures.1 w.index-gs-j.result) w.in_default-difference.ensures
+          same_both c.args.fs.now c.args.gs.now c.f-item.result.0 _ _ (w.in-Some.ensures.1 w.index-fs-i.result) (w.in-Some-find.ensures.1 w.index-gs-j.result) w.in_default-difference.ensures.differ
       | difference_fields-in-Some+in_default-find w ↦ same_none (has c.args.fs.now c.f-item.result.0) (has c.args.gs.now c.f-item.result.0) w.in_default-find.ensures
       | difference_fields-in_default w ↦ same_first (has c.args.fs.now c.f-item.result.0) (has c.args.gs.now c.f-item.result.0) w.in_default.ensures
     ])
     c.loop-f.invariant
 
-pub difference_fields-returns : goal.difference_fields-returns
-difference_fields-returns t c = compared_end c.args.fs.now c.args.gs.now c.loop-f.f-index (omega arith) c.loop-f.invariant
+pub difference_fields-returns-clause-differ : goal.difference_fields-returns-clause-differ
+difference_fields-returns-clause-differ t c = compared_end c.args.fs.now c.args.gs.now c.loop-f.f-index (omega arith) c.loop-f.invariant
