@@ -1,13 +1,13 @@
 -- Field names that differ, as fields are added and left out.
-use Rattle.std.proofs.Common.{◌≡◌, ℕ, zero, suc, ◌+◌, ◌<◌, Bool, true, false, ◌&&◌, List, [], ◌∷◌, ◌++◌, length, take, drop, get_or, refl, ap, sym, ◌∙◌, subst, inl, inr, Option, Some, None, IfSome, arith}
+use Rattle.std.proofs.Common.{◌≡◌, ℕ, zero, suc, ◌+◌, ◌-◌, ◌<◌, ◌≤◌, Bool, true, false, ◌&&◌, List, [], ◌∷◌, ◌++◌, length, take, drop, drop-cons, get_or, refl, ap, sym, ◌∙◌, subst, inl, inr, Option, Some, None, IfSome, arith}
 use Rattle.std.specs.Prelude.{bytes_eq, not, ◌||◌}
 use Rattle.std.specs.List.{list_all}
 use Rattle.std.proofs.lemmas.Bool.{cases_Bool}
-use Rattle.std.proofs.lemmas.List.{take_more}
+use Rattle.std.proofs.lemmas.List.{take_more, take_all, length-drop}
 use Rattle.std.proofs.lemmas.List.Folds.{list_all-append}
 use Rattle.std.proofs.lemmas.Slice.Eq.{bytes_eq-Decides}
 use Rattle.snowcat_rows.specs.declared.types.Ty.{Ty, Rec}
-use Rattle.snowcat_rows.specs.Types.{Slot, none, some, mean}
+use Rattle.snowcat_rows.specs.Types.{Term, Slot, none, some, mean}
 use Rattle.snowcat_rows.specs.TypeTexts.{is_among, are_distinct}
 use Rattle.snowcat_rows.specs.Codes.{has}
 use Rattle.snowcat_rows.specs.FieldNames.{names, names_differ}
@@ -194,3 +194,34 @@ both a b h k = and_both a b h k
 
 pub named_parts : (x y : Ty) → are_named x y ≡ true → (names_differ x ≡ true) × (names_differ y ≡ true)
 named_parts x y h = (and_left (names_differ x) (names_differ y) h, and_right (names_differ x) (names_differ y) h)
+
+-- ---- tests
+
+-- a name that the record has
+has_it : (fs : Fields) (n : List ℕ) (t : Term) → has fs n ≡ some t → is_among n (names fs) ≡ true
+has_it [] n t e = absurd (cc)
+has_it (f ∷ fs) n t e = elim (cases_Bool (bytes_eq f.0 n)) [
+  | inl h ↦ (let k : bytes_eq n f.0 ≡ true = (bytes_eq-Decides n f.0).1 (sym ((bytes_eq-Decides f.0 n).0 h)) in ap (λ b. b || is_among n (names fs)) k)
+  | inr h ↦ or_true (bytes_eq n f.0) (is_among n (names fs)) (has_it fs n t (sym (rw h refl) ∙ e))
+]
+  where
+    or_true : (a b : Bool) → b ≡ true → (a || b) ≡ true
+    or_true true b k = refl
+    or_true false b k = k
+
+opened_at : {X : Type 0} (xs : List X) (i j : ℕ) (x : X) → i < length xs → x ≡ get_or xs i x → j ≡ suc i → drop i xs ≡ x ∷ drop j xs
+opened_at xs i j x lt e q = drop-cons xs i x lt ∙ ap (λ z. z ∷ drop (suc i) xs) (sym e) ∙ ap (λ z. x ∷ drop z xs) (sym q)
+
+pub again_at : (fs : Fields) (i j : ℕ) (f : List ℕ × Ty) (t : Term) → i < length fs → f ≡ get_or fs i f → j ≡ suc i → has (drop j fs) f.0 ≡ some t →
+    are_distinct (names fs) ≡ are_distinct (names (drop i fs)) → false ≡ are_distinct (names fs)
+again_at fs i j f t lt e q k h =
+    sym (h ∙ ap (λ l. are_distinct (names l)) (opened_at fs i j f lt e q) ∙ ap (λ b. not b && are_distinct (names (drop j fs))) (has_it (drop j fs) f.0 t k))
+
+pub new_at : (fs : Fields) (i j : ℕ) (f : List ℕ × Ty) → i < length fs → f ≡ get_or fs i f → j ≡ suc i → has (drop j fs) f.0 ≡ none →
+    are_distinct (names fs) ≡ are_distinct (names (drop i fs)) → are_distinct (names fs) ≡ are_distinct (names (drop j fs))
+new_at fs i j f lt e q k h =
+    h ∙ ap (λ l. are_distinct (names l)) (opened_at fs i j f lt e q) ∙ ap (λ b. not b && are_distinct (names (drop j fs))) (lacks (drop j fs) f.0 k)
+
+-- what a slice behind a place holds
+pub all_behind_it : {X : Type 0} (xs : List X) (j k : ℕ) → k ≡ length xs - j → take k (drop j xs) ≡ drop j xs
+all_behind_it xs j k e = take_all k (drop j xs) (let l : length (drop j xs) ≡ length xs - j = length-drop j xs in omega (arith, l, e))

@@ -30,6 +30,7 @@ mod types;
 pub use faults::TypeTextFault;
 pub use occurrences::is_within;
 pub use reading::read_type;
+pub use records::has_distinct_names;
 pub use showing::{
     said_types_are_spellable, show_type, shown_types_are_read_back, shown_types_are_spelled,
 };

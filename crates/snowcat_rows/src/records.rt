@@ -1,9 +1,12 @@
 // Fields of records by their names.
 ghost use Rattle.std.specs.Prelude.{ℕ, ◌≡◌, ◌<◌, List as Items, IfOk, MatchOption, get_or, length, true};
 ghost use Rattle.std.specs.Bool.{MatchBool};
+ghost use Rattle.std.specs.List.{list_all};
 ghost use Rattle.snowcat_rows.specs.Types.{mean, none, some};
 ghost use Rattle.snowcat_rows.specs.Codes.{has};
-ghost use Rattle.snowcat_rows.specs.inner.Naming.{record_named};
+ghost use Rattle.snowcat_rows.specs.FieldNames.{names, names_differ};
+ghost use Rattle.snowcat_rows.specs.TypeTexts.{are_distinct};
+ghost use Rattle.snowcat_rows.specs.inner.Naming.{fields_named, record_named};
 ghost use Rattle.snowcat_rows.specs.inner.Rounds.{Covers, Lacks, SameNames, only};
 
 use crate::types::{Ty, copy_type};
@@ -76,4 +79,63 @@ pub(crate) fn is_same_end(k: Option<u32>, j: Option<u32>) -> bool
         },
         None => j.is_none(),
     }
+}
+
+// Whether the names of the fields differ.
+fn are_distinct(fs: &[(Text, Ty)]) -> bool
+    ensures { result ≡ are_distinct (names fs.now) }
+{
+    for i in 0..fs.len() {
+        if find(&fs[i + 1..], &fs[i].0).is_some() {
+            return false;
+        }
+    }
+    true
+}
+
+/// Whether in each record of the type the field names differ, as [`Subst::unify`](crate::Subst::unify) asks.
+#[tactic(auto, using(crate::proofs::Naming::differs))]
+#[cycle(distinct)]
+pub fn has_distinct_names(t: &Ty) -> bool
+    ensures { result ≡ names_differ t.now }
+{
+    match t {
+        Ty::Bool => true,
+        Ty::Int => true,
+        Ty::Str => true,
+        Ty::Named(_) => true,
+        Ty::Var(_) => true,
+        Ty::Set(a) => has_distinct_names(a),
+        Ty::Seq(a) => has_distinct_names(a),
+        Ty::Fun(a, b) => has_distinct_names(a) && has_distinct_names(b),
+        Ty::Tup(ts) => all_distinct(ts.as_slice()),
+        Ty::Rec(fs, _) => are_distinct(fs.as_slice()) && fields_distinct(fs.as_slice()),
+        Ty::Oper(ts, b) => all_distinct(ts.as_slice()) && has_distinct_names(b),
+    }
+}
+
+#[tactic(auto, using(crate::proofs::Naming::differs))]
+#[cycle(distinct)]
+fn all_distinct(ts: &[Ty]) -> bool
+    ensures { result ≡ list_all names_differ ts.now }
+{
+    for i in 0..ts.len() {
+        if !has_distinct_names(&ts[i]) {
+            return false;
+        }
+    }
+    true
+}
+
+#[tactic(auto, using(crate::proofs::Naming::differs))]
+#[cycle(distinct)]
+fn fields_distinct(fs: &[(Text, Ty)]) -> bool
+    ensures { result ≡ fields_named fs.now }
+{
+    for i in 0..fs.len() {
+        if !has_distinct_names(&fs[i].1) {
+            return false;
+        }
+    }
+    true
 }

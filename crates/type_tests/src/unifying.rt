@@ -2,7 +2,7 @@
 
 use crate::cases::STEPS;
 use crate::postfix::type_of;
-use snowcat_rows::{Subst, Ty, UnifyFault, is_within, show_type};
+use snowcat_rows::{Subst, Ty, UnifyFault, has_distinct_names, is_within, show_type};
 use std::alloc::{AllocError, Global};
 use std::test::Fail;
 
@@ -33,6 +33,9 @@ fn show_both(
 fn step(alloc: Global, s: &mut Subst, a: &Ty, b: &Ty, out: &mut Vec<u8>) -> Result<(), AllocError> {
     if !is_within(a, s.issued()) || !is_within(b, s.issued()) {
         return out.extend_from_slice(b"not issued");
+    }
+    if !has_distinct_names(a) || !has_distinct_names(b) {
+        return out.extend_from_slice(b"a name twice");
     }
     match s.unify(a, b) {
         Ok(()) => {
