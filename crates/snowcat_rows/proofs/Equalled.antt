@@ -191,7 +191,11 @@ needed_next n m p x y cs ds (both_rows f g r q e i a lf lg fr fq) h v le lt =
           let other : IsBound q (extra_after f g r m) ns = inr (inl (refl, refl)) in
           let P : ℕ → Type 0 = λ z. IsNeeded (cs ++ ns) z in
           subst P (sym k.1) (
-            r, q, others f g m, extra_after f g r m, a,
+            r,
+            q,
+            others f g m,
+            extra_after f g r m,
+            a,
             (bound_behind r (others f g m) cs ns one, bound_behind q (extra_after f g r m) cs ns other),
             (((lf.0, left.0, left.1), refl), ((lg.0, right.0, right.1), refl)),
             λ n t u. one_only s (g n) (f n) t u,

@@ -1,5 +1,5 @@
 -- What is shown of a type is read back.
-use Rattle.std.proofs.Common.{◌≡◌, ◌<◌, length, arith, ℕ, suc, true, inl, inr, List, [], ◌∷◌, ◌++◌, map, refl, ap, sym, ◌∙◌, subst, codes, Option, Some, None, append_assoc}
+use Rattle.std.proofs.Common.{◌≡◌, ℕ, suc, true, inl, inr, List, [], ◌∷◌, ◌++◌, map, refl, ap, sym, ◌∙◌, subst, codes, Option, Some, None, append_assoc}
 use Rattle.std.specs.Prelude.{decimal, option_map, bytes_eq}
 use Rattle.std.proofs.lemmas.Bool.{cases_Bool}
 use Rattle.std.proofs.lemmas.List.{append-nil}

@@ -1,5 +1,5 @@
 -- A type with other numbers for its variables. Source: the Apalache manual, "Type System 1.2" (type variables).
-use Rattle.std.specs.Prelude.{ℕ, ◌≡◌, List, option_map}
+use Rattle.std.specs.Prelude.{ℕ, ◌≡◌, option_map}
 use Rattle.snowcat_rows.specs.Types.{Term, Slot, var, con, app, fields, none, some}
 
 -- the numbers of type variables and those of row variables

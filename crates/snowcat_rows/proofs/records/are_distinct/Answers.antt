@@ -1,4 +1,4 @@
-use Rattle.std.proofs.Common.{◌≡◌, ◌+◌, ◌-◌, ◌<◌, ◌∙◌, ap, sym, refl, length, drop, take, arith, ℕ, List, Option, Some, None, MatchOption, get_or, true, false}
+use Rattle.std.proofs.Common.{◌≡◌, ◌+◌, ◌-◌, ◌<◌, ◌∙◌, ap, sym, refl, length, drop, take, arith, ℕ, List, Option, Some, None, MatchOption, get_or, true}
 use Rattle.std.specs.Option.{is_some}
 use Rattle.snowcat_rows.specs.declared.types.Ty.{Ty}
 use Rattle.snowcat_rows.specs.declared.types.Ty.TheVariants.{Int}
