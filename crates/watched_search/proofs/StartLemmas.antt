@@ -1,21 +1,15 @@
-use Rattle.std.proofs.Common.{◌≡◌, ℕ, zero, suc, ◌+◌, ◌-◌, ◌<◌, ◌≤◌, inl, inr, Bool, true, false, not, List, [], ◌∷◌, ◌++◌, length, take, filter, All, Option, Some, None, get_or, refl, sym, ◌∙◌, ap, arith, append_assoc}
-use Rattle.std.specs.Prelude.{AllPairs, slice_get, nat_lt}
+use Rattle.std.proofs.Common.{◌≡◌, ℕ, zero, suc, ◌+◌, ◌-◌, ◌<◌, ◌≤◌, inl, inr, Bool, true, false, not, List, [], ◌∷◌, ◌++◌, length, take, filter, All, Option, Some, get_or, refl, sym, ◌∙◌, ap, arith, append_assoc}
+use Rattle.std.specs.Prelude.{AllPairs, Contains, slice_get, nat_lt}
 use Rattle.std.proofs.lemmas.Bool.{lt-ltb, ltb-true, cases_lt}
-use Rattle.std.proofs.lemmas.List.{append-nil, length_push, length-take, take_more, take_all, get_or_push, get_or_append_left}
+use Rattle.std.proofs.lemmas.List.{append-nil, length_push, length-take, take_more, take_all, get_or_default, get_or_push, get_or_append_left}
 use Rattle.std.proofs.lemmas.List.Quantifiers.{all_pairs_push}
-use Rattle.std.proofs.lemmas.List.Elements.{All-push, All-tail, All-weaker, All-filter, filter-append, filter_passes}
+use Rattle.std.proofs.lemmas.List.Elements.{All-push, All-tail, All-weaker, All-contains, All-contains_itself, Contains-get_or, Contains-append_left, Contains-append_right, Contains-append_cases, All-filter, filter-append, filter_passes}
 use Rattle.std.proofs.lemmas.List.Kept.{AllPairs-filter}
-use Rattle.std.proofs.lemmas.Option.{get_or_from_slice_get, slice_get_within, slice_get-get_or, none-some}
+use Rattle.std.proofs.lemmas.Option.{get_or_from_slice_get, slice_get_within, slice_get-get_or}
 use Rattle.watched_search.specs.Trail.{AreStarts, starts_below, starts_from}
 
 abbrev pub Rising : List ℕ → Type 0
 Rising starts = AllPairs (λ s t. s < t) starts
-
-pub AreStarts-none : (n : ℕ) → AreStarts n []
-AreStarts-none n = record {
-  rising = λ i j d lt at. absurd (omega arith);
-  within = λ i d at. absurd (omega arith);
-}
 
 -- with more entries they stay starts
 pub AreStarts-more : (n m : ℕ) (starts : List ℕ) → n ≤ m → AreStarts n starts → AreStarts m starts
@@ -85,15 +79,6 @@ pub record Cut (limit : ℕ) (all left : List ℕ) (first : Option ℕ) : Type 0
   pub below : starts_below limit all ≡ starts_below limit left
   pub head : first ≡ slice_get gone 0
   pub rising : Rising left
-
-pub Cut-start : (limit : ℕ) (all : List ℕ) → Rising all → Cut limit all all None
-Cut-start limit all h = record {
-  gone = [];
-  from = sym (append-nil (starts_from limit all));
-  below = refl;
-  head = refl;
-  rising = h;
-}
 
 kept_one : (b : Bool) (s : ℕ) → b ≡ true → (filter (λ (x : ℕ). b) (s ∷ []) ≡ s ∷ []) × (filter (λ (x : ℕ). not b) (s ∷ []) ≡ [])
 kept_one true s e = (refl, refl)
@@ -179,10 +164,88 @@ Cut-end limit all left first s h e lt =
     let front = take (length left - 1) left in
     Cut-all limit all left first h (rw split (All-push (λ x. x < limit) front s (Rising-last front s limit (rw split at h.rising) lt) lt))
 
--- none is left
-pub Cut-empty : (limit : ℕ) (all left : List ℕ) (first : Option ℕ) → Cut limit all left first → slice_get left (length left - 1) ≡ None
-    → (left ≡ starts_below limit all) × (first ≡ slice_get (starts_from limit all) 0)
-Cut-empty limit all left first h e = elim (cases_lt 0 (length left)) [
-  | inl some ↦ absurd (none-some _ (sym e ∙ slice_get-get_or left (length left - 1) 0 (omega arith)))
-  | inr none ↦ Cut-all limit all left first h (λ k d at. absurd (omega arith))
-]
+-- which starts are left, and which are gone
+
+only : (x y : ℕ) → Contains (x ∷ []) y → x ≡ y
+only x y h = let lt : h.0 < 1 = h.1 in let z : h.0 ≡ 0 = omega arith in rw z at h.2
+
+passes_one : (p : ℕ → Bool) (x : ℕ) (b : Bool) → p x ≡ b → b ≡ true → filter p (x ∷ []) ≡ x ∷ []
+passes_one p x true e t = rw e refl
+passes_one p x false e t = cc
+
+-- what passes a test is left by it
+passed_in : (p : ℕ → Bool) (xs : List ℕ) (y : ℕ) → Contains xs y → p y ≡ true → Contains (filter p xs) y
+passed_in p [] y h e = let lt : h.0 < 0 = h.1 in absurd (omega arith)
+passed_in p (x ∷ xs) y h e = rw (filter-append p (x ∷ []) xs) (elim (Contains-append_cases (x ∷ []) xs y h) [
+  | inl here ↦
+      (let same = only x y here in
+      Contains-append_left (filter p (x ∷ [])) (filter p xs) y (rw (passes_one p x true (rw same e) refl) here))
+  | inr later ↦ Contains-append_right (filter p (x ∷ [])) (filter p xs) y (passed_in p xs y later e)
+])
+
+passed_from : (p : ℕ → Bool) (xs : List ℕ) (y : ℕ) → Contains (filter p xs) y → Contains xs y × (p y ≡ true)
+passed_from p xs y h = (
+  All-contains (Contains xs) (filter p xs) y (All-filter p (Contains xs) xs (All-contains_itself xs)) h,
+  All-contains (λ x. p x ≡ true) (filter p xs) y (filter_passes p xs) h,
+)
+
+not_false : (b : Bool) → not b ≡ true → b ≡ true → ⊥
+not_false true e f = cc
+not_false false e f = cc
+
+at_limit : (limit x : ℕ) → not (nat_lt x limit) ≡ true → limit ≤ x
+at_limit limit x e = elim (cases_lt x limit) [ inl less ↦ absurd (not_false (nat_lt x limit) e (lt-ltb x limit less)) | inr ge ↦ omega arith ]
+
+pub starts_below-in : (limit : ℕ) (starts : List ℕ) (s : ℕ) → Contains starts s → s < limit → Contains (starts_below limit starts) s
+starts_below-in limit starts s h lt = passed_in (λ x. nat_lt x limit) starts s h (lt-ltb s limit lt)
+
+pub in-starts_below : (limit : ℕ) (starts : List ℕ) (s : ℕ) → Contains (starts_below limit starts) s → Contains starts s × (s < limit)
+in-starts_below limit starts s h = let p = passed_from (λ x. nat_lt x limit) starts s h in (p.0, ltb-true s limit p.1)
+
+-- the first that is gone is a start
+pub in-starts_from : (limit : ℕ) (starts : List ℕ) (s : ℕ) → slice_get (starts_from limit starts) 0 ≡ Some s → Contains starts s × (limit ≤ s)
+in-starts_from limit starts s e =
+    let lt = slice_get_within (starts_from limit starts) 0 s e in
+    let has = rw (get_or_from_slice_get (starts_from limit starts) 0 s 0 e) at (Contains-get_or (starts_from limit starts) 0 0 lt) in
+    let p = passed_from (λ x. not (nat_lt x limit)) starts s has in
+    (p.0, at_limit limit s p.1)
+
+test_not : (b : Bool) → (b ≡ true → ⊥) → not b ≡ true
+test_not true h = absurd (h refl)
+test_not false h = refl
+
+not_below : (limit : ℕ) → not (nat_lt limit limit) ≡ true
+not_below limit = test_not (nat_lt limit limit) (λ e. let lt = ltb-true limit limit e in absurd (omega arith))
+
+rising_first : (starts : List ℕ) (limit : ℕ) → Rising starts → All (λ x. limit ≤ x) starts → Contains starts limit → slice_get starts 0 ≡ Some limit
+rising_first starts limit h least has =
+    let i = has.0 in
+    let lt : 0 < length starts = let at = has.1 in omega arith in
+    let here : get_or starts i limit ≡ limit = has.2 in
+    slice_get-get_or starts 0 limit lt ∙ ap (λ x. Some x) (elim (cases_lt 0 i) [
+      | inl behind ↦
+          (let before = rw here at (h 0 i limit behind has.1) in
+          let first = least 0 limit lt in
+          absurd (omega arith))
+      | inr front ↦ let zero_at : i ≡ 0 = omega arith in rw zero_at at here
+    ])
+
+-- a start at the place itself is the first that is gone
+pub starts_from-at : (limit : ℕ) (starts : List ℕ) → Rising starts → Contains starts limit → slice_get (starts_from limit starts) 0 ≡ Some limit
+starts_from-at limit starts h has =
+    let test : ℕ → Bool = λ x. not (nat_lt x limit) in
+    rising_first (starts_from limit starts) limit (AllPairs-filter (λ s t. s < t) test starts h)
+    (All-weaker (λ x. test x ≡ true) (λ x. limit ≤ x) (λ x e. at_limit limit x e) (starts_from limit starts) (filter_passes test starts))
+    (passed_in test starts limit has (not_below limit))
+
+-- none is behind the last
+pub starts-last : (starts : List ℕ) (s t : ℕ) → Rising starts → slice_get starts (length starts - 1) ≡ Some s → Contains starts t → t ≤ s
+starts-last starts s t h e has =
+    let lt = slice_get_within starts (length starts - 1) s e in
+    let last : get_or starts (length starts - 1) 0 ≡ s = get_or_from_slice_get starts (length starts - 1) s 0 e in
+    let here : get_or starts has.0 0 ≡ t = get_or_default starts has.0 0 t has.1 ∙ has.2 in
+    let at = has.1 in
+    elim (cases_lt has.0 (length starts - 1)) [
+      | inl before ↦ let less = rw (here, last) at (h has.0 (length starts - 1) 0 before lt) in omega arith
+      | inr ge ↦ let same : has.0 ≡ length starts - 1 = omega arith in let one : t ≡ s = sym here ∙ ap (λ k. get_or starts k 0) same ∙ last in omega arith
+    ]

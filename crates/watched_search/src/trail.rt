@@ -1,6 +1,6 @@
 //! What is true, in the order in which it became so.
 
-ghost use Rattle.std.specs.Prelude.{◌≡◌, ℕ, ◌+◌, ◌-◌, ◌<◌, ◌++◌, ◌∷◌, [], length, IfOk, All, AllPairs, slice_get, take};
+ghost use Rattle.std.specs.Prelude.{◌≡◌, ◌+◌, ◌-◌, ◌<◌, ◌++◌, ◌∷◌, [], length, IfOk, All, AllPairs, slice_get, take};
 ghost use Rattle.std.specs.Vec.{vec_capacity};
 ghost use Rattle.refutation_checker.specs.Marks.{TellsValue};
 ghost use Rattle.watched_search.specs.Trail.{lits_of, IsFree, IsPlaceOf, IsTrail, starts_below, starts_from};
