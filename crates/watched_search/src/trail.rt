@@ -127,7 +127,9 @@ impl Trail {
     pub fn note_start(&mut self)
         requires some { 0 < length self.old.entries }
         requires later { All (λ s. s + 1 < length self.old.entries) self.old.starts }
-        ensures { self.new ≡ record self.old { starts = self.old.starts ++ (length self.old.entries - 1) ∷ [] } }
+        ensures { self.new ≡ record self.old {
+          starts = self.old.starts ++ (length self.old.entries - 1) ∷ [];
+        } }
     {
         let last = self.entries.as_slice().len() - 1;
         self.starts.push_reserved(last);
