@@ -1,14 +1,13 @@
 -- The table of links after each change.
-use Rattle.std.proofs.Common.{◌≡◌, ◌≢◌, ℕ, ◌/◌, ◌<◌, ◌≤◌, inl, inr, List, [], ◌∷◌, ◌++◌, length, set, map, get_or, replicate, Vec, Option, Some, None, refl, sym, ◌∙◌, ap, subst, arith, length-set}
+use Rattle.std.proofs.Common.{◌≡◌, ◌≢◌, ℕ, zero, suc, ◌/◌, ◌%◌, ◌<◌, ◌≤◌, inl, inr, List, [], ◌∷◌, ◌++◌, length, set, map, get_or, replicate, Option, Some, None, refl, sym, ◌∙◌, ap, subst, arith, length-set}
 use Rattle.std.specs.Prelude.{Contains, slice_get}
 use Rattle.std.proofs.lemmas.Bool.{cases_eq}
+use Rattle.std.proofs.lemmas.Bool.Decides.{eqb_tells}
 use Rattle.std.proofs.lemmas.List.Elements.{Contains-append_right}
-use Rattle.std.proofs.lemmas.List.{get_or-set_same, get_or-set_other, get_or_default, get_or-map, length-map, same_lists, get_or-replicate, length-replicate, set-get_or, with_items_is}
-use Rattle.std.specs.declared.alloc.Global.{Global}
-use Rattle.std.specs.Vec.{with_items}
+use Rattle.std.proofs.lemmas.List.{get_or-set_same, get_or-set_other, get_or_default, get_or-map, length-map, same_lists, get_or-replicate, length-replicate, set-get_or, map-set}
 use Rattle.watch_chains.specs.declared.link.Link.{Link}
 use Rattle.watch_chains.specs.Watches.{list_at, IsSlot, IsAbsent, Apart, IsWatchTable, TakesOut, Watches}
-use Rattle.watch_chains.specs.Chains.{walk, Path, place_of, follow, LeadsOn, lists_of, Chained}
+use Rattle.watch_chains.specs.Chains.{walk, Path, place_of, follow, LeadsOn, lists_of, Chained, linked, links_in, IsPacked}
 use Rattle.watch_chains.proofs.Paths.{Contains-nil, Contains-head, Contains-tail, Contains-cases, Contains-cut, Contains-middle, Path-same, Path-link, Path-cut, Path-first, Path-next, Path-taken, Path-once, Path-split, Path-length, walk-path}
 
 -- a slot has its own place in the table
@@ -288,27 +287,32 @@ unlinked_behind firsts nexts lists code front b r l rest h lt is at =
     tail_same : (x y : Link) (xs ys : List Link) → x ∷ xs ≡ y ∷ ys → xs ≡ ys
     tail_same x y xs ys e = cc
 
--- one entry of a vector was written, through the slice that was read from it
-written : (v : Vec (Option Link) Global) (read ws : List (Option Link)) (i : ℕ) (to : Option Link) → read ≡ v.items → length read ≡ v.len → ws ≡ set read i to → (with_items v ws).items ≡ set v.items i to
-written v read ws i to same count wrote =
-    with_items_is v ws (ap (λ (xs : List (Option Link)). length xs) wrote ∙ length-set read i to ∙ count) ∙ wrote ∙ ap (λ (xs : List (Option Link)). set xs i to) same
+-- numbers and links
 
--- what the code of `unlink` makes
-pub first_out : (v : Vec (Option Link) Global) (nexts read ws others : List (Option Link)) (code : ℕ) (r l : Link) (rest : List Link) → Chained v.items nexts (lists_of v.items nexts)
-    → code < length (lists_of v.items nexts) → list_at (lists_of v.items nexts) code ≡ l ∷ rest → read ≡ v.items → length read ≡ v.len → others ≡ nexts
-    → get_or read code None ≡ Some r → ws ≡ set read code (follow others r) → Unlinked (with_items v ws).items nexts (lists_of v.items nexts) code None r
-first_out v nexts read ws others code r l rest h lt is same count table at wrote =
-    let wrote' : ws ≡ set read code (follow nexts r) = wrote ∙ ap (λ (ns : List (Option Link)). set read code (follow ns r)) table in
-    subst (λ (fs : List (Option Link)). Unlinked fs nexts (lists_of v.items nexts) code None r) (sym (written v read ws code (follow nexts r) same count wrote'))
-    (unlinked_first v.items nexts (lists_of v.items nexts) code r l rest h lt is (sym (ap (λ (fs : List (Option Link)). get_or fs code None) same) ∙ at))
+same_link : (c s : ℕ) (l : Link) → c ≡ l.clause → s ≡ l.slot → (let made : Link = record { clause = c; slot = s } in made ≡ l)
+same_link c s l ec es =
+    let with_clause : ℕ → Link = λ n. record { clause = n; slot = s } in
+    let with_slot : ℕ → Link = λ n. record { clause = l.clause; slot = n } in
+    ap with_clause ec ∙ ap with_slot es
 
-pub behind_out : (firsts : List (Option Link)) (v : Vec (Option Link) Global) (read ws : List (Option Link)) (code : ℕ) (front : List Link) (b r l : Link) (rest : List Link) → Chained firsts v.items (lists_of firsts v.items)
-    → code < length (lists_of firsts v.items) → list_at (lists_of firsts v.items) code ≡ front ++ b ∷ l ∷ rest → read ≡ v.items → length read ≡ v.len
-    → follow read b ≡ Some r → ws ≡ set read (place_of b) (follow read r) → Unlinked firsts (with_items v ws).items (lists_of firsts v.items) code (Some b) r
-behind_out firsts v read ws code front b r l rest h lt is same count at wrote =
-    let wrote' : ws ≡ set read (place_of b) (follow v.items r) = wrote ∙ ap (λ (ns : List (Option Link)). set read (place_of b) (follow ns r)) same in
-    subst (λ (ns : List (Option Link)). Unlinked firsts ns (lists_of firsts v.items) code (Some b) r) (sym (written v read ws (place_of b) (follow v.items r) same count wrote'))
-    (unlinked_behind firsts v.items (lists_of firsts v.items) code front b r l rest h lt is (sym (ap (λ (ns : List (Option Link)). follow ns b) same) ∙ at))
+pub linked-place : (l : Link) → l.slot < 2 → place_of l < 4294967295 → linked (place_of l) ≡ Some l
+linked-place l slot lt = elim (eqb_tells (place_of l) 4294967295) [
+  | inl p ↦ let is = p.1 in absurd (omega arith)
+  | inr p ↦ rw p.0 (ap (λ (x : Link). Some x) (same_link (place_of l / 2) (place_of l % 2) l (omega arith) (omega arith)))
+]
 
-pub written_length : (v : Vec (Option Link) Global) (read ws : List (Option Link)) (i : ℕ) (to : Option Link) → read ≡ v.items → length read ≡ v.len → ws ≡ set read i to → length (with_items v ws).items ≡ length v.items
-written_length v read ws i to same count wrote = ap (λ (xs : List (Option Link)). length xs) (written v read ws i to same count wrote) ∙ length-set v.items i to
+pub linked_packed : (n : ℕ) → n < 4294967296 → IsPacked (linked n)
+linked_packed n lt = elim (eqb_tells n 4294967295) [
+  | inl p ↦ rw p.0 tt
+  | inr p ↦ rw p.0 (let ne = p.1 in (omega arith, omega arith))
+]
+
+pub links-set : (numbers : List ℕ) (i n : ℕ) (o : Option Link) → linked n ≡ o → links_in (set numbers i n) ≡ set (links_in numbers) i o
+links-set numbers i n o e = map-set (λ n. linked n) numbers i n ∙ ap (λ (x : Option Link). set (links_in numbers) i x) e
+
+pub links-at : (numbers : List ℕ) (i d : ℕ) → i < length numbers → get_or (links_in numbers) i None ≡ linked (get_or numbers i d)
+links-at numbers i d lt = get_or-map (λ n. linked n) numbers i d None lt
+
+pub no_links : (n : ℕ) → links_in (replicate n 4294967295) ≡ replicate n None
+no_links zero = refl
+no_links (suc n) = ap (λ (ls : List (Option Link)). None ∷ ls) (no_links n)

@@ -1,5 +1,5 @@
 -- How lists are kept by links: where each begins, and what follows each of its items.
-use Rattle.std.specs.Prelude.{◌≡◌, ℕ, zero, suc, ◌+◌, ◌*◌, ◌/◌, ◌<◌, List, [], ◌∷◌, length, map, slice_index_or, Contains, Option, Some, None}
+use Rattle.std.specs.Prelude.{◌≡◌, ℕ, zero, suc, ◌+◌, ◌*◌, ◌/◌, ◌%◌, ◌<◌, nat_eq, if◌then◌else◌, List, [], ◌∷◌, length, map, slice_index_or, Contains, Option, Some, None}
 use Rattle.watch_chains.specs.declared.link.Link.{Link}
 use Rattle.watch_chains.specs.Watches.{list_at, IsSlot, Apart}
 
@@ -36,3 +36,20 @@ pub record Chained (firsts nexts : List (Option Link)) (lists : List (List Link)
   pub paths : (code : ℕ) → code < length lists → Path (follow nexts) (slice_index_or firsts code None) (list_at lists code)
   pub slots : (code : ℕ) (l : Link) → code < length lists → Contains (list_at lists code) l → IsSlot (length nexts / 2) l
   pub apart : Apart lists
+
+-- the link of a number, of which the greatest of 32 bits stands for none
+abbrev pub linked : ℕ → Option Link
+linked n = if nat_eq n 4294967295 then None else Some (record { clause = n / 2; slot = n % 2 })
+
+abbrev pub links_in : List ℕ → List (Option Link)
+links_in numbers = map (λ n. linked n) numbers
+
+-- there is a number for it
+abbrev pub IsPacked : Option Link → Type 0
+IsPacked None = Unit {0}
+IsPacked (Some l) = (l.slot < 2) × (place_of l < 4294967295)
+
+-- places were added
+pub record IsLonger (n : ℕ) (old new : List (Option Link)) : Type 0 where
+  pub size : length new ≡ n
+  pub same : (k : ℕ) → k < length old → slice_index_or new k None ≡ slice_index_or old k None

@@ -1,9 +1,10 @@
 // The lists, kept as a first link for each code and a next link for each slot.
-ghost use Rattle.std.specs.Prelude.{◌≡◌, ◌<◌, ◌∷◌, ◌++◌, [], List, length, max, replicate, IfOk, OnOk, OnErr, Contains, slice_get, slice_set, slice_index_or};
-ghost use Rattle.watch_chains.specs.Chains.{place_of, follow, LeadsOn};
+ghost use Rattle.std.specs.Prelude.{◌≡◌, ◌^◌, ◌<◌, ◌∷◌, ◌++◌, [], List, length, max, replicate, IfOk, OnOk, OnErr, Contains, slice_get, slice_set, slice_index_or};
+ghost use Rattle.watch_chains.specs.Chains.{place_of, follow, LeadsOn, IsPacked};
 ghost use Rattle.watch_chains.specs.Watches.{list_at, IsSlot, IsAbsent, IsWatchTable, IsFollowed, TakesOut};
 
 use crate::Link;
+use crate::table::LinkTable;
 use std::alloc::{AllocError, Global};
 use std::marker::Model;
 
@@ -11,9 +12,9 @@ use std::marker::Model;
 #[derive(Drop)]
 pub struct WatchChains {
     // The first link of each list, by code.
-    firsts: Vec<Option<Link>>,
+    firsts: LinkTable,
     // The link behind each slot, by place. What a slot in no list has is not read.
-    nexts: Vec<Option<Link>>,
+    nexts: LinkTable,
 }
 
 impl Model for WatchChains {
@@ -24,11 +25,11 @@ impl Model for WatchChains {
     ghost Value = { Watches };
 
     ghost view = { λ c. record {
-      room = length c.nexts.items / 2;
-      lists = lists_of c.firsts.items c.nexts.items;
+      room = length c.nexts / 2;
+      lists = lists_of c.firsts c.nexts;
     } };
 
-    ghost invariant = { λ c. Chained c.firsts.items c.nexts.items (lists_of c.firsts.items c.nexts.items) };
+    ghost invariant = { λ c. Chained c.firsts c.nexts (lists_of c.firsts c.nexts) };
 }
 
 impl WatchChains {
@@ -36,15 +37,15 @@ impl WatchChains {
     pub fn new(alloc: Global, codes: usize) -> Result<WatchChains, AllocError>
         ensures { IfOk result (λ c. c ≡ record { room = 0; lists = replicate codes [] }) }
     {
-        let firsts = vec![in alloc; None; codes]?;
+        let firsts = LinkTable::with_places(alloc, codes)?;
         Ok(WatchChains {
             firsts,
-            nexts: Vec::new(alloc),
+            nexts: LinkTable::new(alloc),
         })
     }
 
     /// Makes room for the clauses below `clauses`, whose links can then be linked. A refusal, which
-    /// comes only for want of memory, changes nothing.
+    /// comes only for want of memory or from 2^31 clauses on, changes nothing.
     pub fn reserve(&mut self, clauses: usize) -> Result<(), AllocError>
         ensures grown { OnOk result (self.new ≡ record self.old { room = max self.old.room clauses }) }
         ensures refused { OnErr result (self.new ≡ self.old) }
@@ -53,7 +54,7 @@ impl WatchChains {
             return Err(AllocError);
         };
         if self.nexts.len() < slots {
-            self.nexts.resize(slots, None)?;
+            self.nexts.grow(slots)?;
         }
         Ok(())
     }
@@ -67,9 +68,10 @@ impl WatchChains {
           lists = slice_set self.old.lists code (l ∷ list_at self.old.lists code);
         } }
     {
-        let first = self.firsts[code];
-        self.nexts[l.place()] = first;
-        self.firsts[code] = Some(l);
+        let first = self.firsts.get(code);
+        let _ = self.nexts.len();
+        self.nexts.set(l.place(), first);
+        self.firsts.set(code, Some(l));
     }
 
     /// Takes the link behind `before`, or the first, out of the list of `code`, and answers it.
@@ -94,7 +96,7 @@ impl WatchChains {
         ensures front { result ≡ slice_get (list_at self.now.lists code) 0 }
         ensures table { IsWatchTable self.now.room self.now.lists }
     {
-        self.firsts[code]
+        self.firsts.get(code)
     }
 
     /// The link behind `l` in the list of `code`, and `None` exactly where `l` is the last.
@@ -109,27 +111,30 @@ impl WatchChains {
 }
 
 // The link behind `l`.
-fn next_link(nexts: &[Option<Link>], l: Link) -> Option<Link>
+fn next_link(nexts: &LinkTable, l: Link) -> Option<Link>
     requires { place_of l < length nexts.now }
-    ensures { result ≡ follow nexts.now l }
+    ensures same { result ≡ follow nexts.now l }
+    ensures packed { IsPacked result }
+    ensures small { length nexts.now < 2 ^ 32 }
 {
-    nexts[l.place()]
+    let _ = nexts.len();
+    nexts.get(l.place())
 }
 
 // Takes out the first link of the list of `code`.
-fn take_first(firsts: &mut [Option<Link>], nexts: &[Option<Link>], code: usize) -> Link
+fn take_first(firsts: &mut LinkTable, nexts: &LinkTable, code: usize) -> Link
     requires code { code < length firsts.old }
     requires first { LeadsOn nexts.now (slice_index_or firsts.old code None) }
     ensures taken { slice_index_or firsts.old code None ≡ Some result }
     ensures firsts { firsts.new ≡ slice_set firsts.old code (follow nexts.now result) }
 {
-    let taken = firsts[code].unwrap();
-    firsts[code] = next_link(nexts, taken);
+    let taken = firsts.get(code).unwrap();
+    firsts.set(code, next_link(nexts, taken));
     taken
 }
 
 // Takes out the link behind `before`.
-fn take_behind(nexts: &mut [Option<Link>], before: Link) -> Link
+fn take_behind(nexts: &mut LinkTable, before: Link) -> Link
     requires before { place_of before < length nexts.old }
     requires next { LeadsOn nexts.old (follow nexts.old before) }
     ensures taken { follow nexts.old before ≡ Some result }
@@ -137,6 +142,6 @@ fn take_behind(nexts: &mut [Option<Link>], before: Link) -> Link
 {
     let taken = next_link(nexts, before).unwrap();
     let behind = next_link(nexts, taken);
-    nexts[before.place()] = behind;
+    nexts.set(before.place(), behind);
     taken
 }

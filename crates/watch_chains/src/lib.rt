@@ -7,6 +7,7 @@
 
 mod chains;
 mod link;
+mod table;
 
 pub use chains::WatchChains;
 pub use link::Link;

@@ -1,3 +1,14 @@
+pub mod AddLemmas
 pub mod CodeLemmas
+pub mod Examples
+pub mod HeldLemmas
+pub mod KeepLemmas
+pub mod LevelLemmas
+pub mod MoveLemmas
+pub mod PairLemmas
+pub mod SettleLemmas
+pub mod SpanLemmas
 pub mod StartLemmas
 pub mod TrailLemmas
+pub mod VisitLemmas
+pub mod WalkLemmas

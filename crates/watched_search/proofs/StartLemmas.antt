@@ -25,7 +25,7 @@ AreStarts-push n starts some later h = record {
   within = All-push (λ s. s < n) starts (n - 1) h.within (omega arith);
 }
 
-below_all : (limit : ℕ) (starts : List ℕ) → All (λ s. s < limit) (starts_below limit starts)
+pub below_all : (limit : ℕ) (starts : List ℕ) → All (λ s. s < limit) (starts_below limit starts)
 below_all limit starts = All-weaker (λ s. nat_lt s limit ≡ true) (λ s. s < limit) (λ s e. ltb-true s limit e) (starts_below limit starts) (filter_passes (λ s. nat_lt s limit) starts)
 
 -- the starts before a place stay starts

@@ -14,13 +14,13 @@ use Rattle.watched_search.specs.declared.entry.Entry.{Entry}
 use Rattle.watched_search.specs.Trail.{lits_of, IsFree, DistinctVars, IsPlaceOf}
 use Rattle.watched_search.specs.inner.Tables.{Marks, Marked, Placed, Tabled}
 
-lits-append : (xs ys : List Entry) → lits_of (xs ++ ys) ≡ lits_of xs ++ lits_of ys
+pub lits-append : (xs ys : List Entry) → lits_of (xs ++ ys) ≡ lits_of xs ++ lits_of ys
 lits-append xs ys = map-append (λ (e : Entry). e.lit) xs ys
 
 some≢none : (b : Bool) (A : Type 0) → None ≡ Some b → A
 some≢none b A e = cc
 
-not_itself : (b : Bool) → b ≡ not b → ⊥
+pub not_itself : (b : Bool) → b ≡ not b → ⊥
 not_itself true e = cc
 not_itself false e = cc
 

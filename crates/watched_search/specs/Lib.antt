@@ -1,3 +1,5 @@
 pub mod Codes
+pub mod Searching
 pub mod Trail
+pub mod Watching
 pub mod inner

@@ -1,1 +1,5 @@
+pub mod Keeping
+pub mod Moving
+pub mod Spans
 pub mod Tables
+pub mod Visiting

@@ -1,6 +1,5 @@
-use Rattle.std.proofs.Common.{◌≡◌, ◌∙◌, ◌<◌, List, length, Option, None, subst}
+use Rattle.std.proofs.Common.{◌≡◌, ◌∙◌, ◌<◌, List, length, Option, subst}
 use Rattle.std.specs.Prelude.{slice_get}
-use Rattle.std.proofs.lemmas.List.{get_or_read}
 use Rattle.watch_chains.specs.declared.link.Link.{Link}
 use Rattle.watch_chains.specs.Watches.{Watches, list_at, IsWatchTable}
 use Rattle.watch_chains.specs.Chains.{lists_of}
@@ -9,12 +8,11 @@ use Rattle.watch_chains.proofs.chains.WatchChains.first.Goals as goal
 
 pub returns-clause-front : goal.returns-clause-front
 returns-clause-front c =
-    let F : List (Option Link) = c.self.inside.firsts.items in
-    let N : List (Option Link) = c.self.inside.nexts.items in
+    let F : List (Option Link) = c.self.inside.firsts in
+    let N : List (Option Link) = c.self.inside.nexts in
     let code : c.args.code < length (lists_of F N) = rw (← c.self.view_is) at c.requires in
-    let within : c.args.code < length F = rw c.self.invariant.size at code in
-    subst (λ (t : Watches). c.index.result.now ≡ slice_get (list_at t.lists c.args.code) 0) c.self.view_is
-    (get_or_read F c.args.code c.index.result.now within c.index.ensures None ∙ first_told F N (lists_of F N) c.args.code c.self.invariant code)
+    subst (λ (t : Watches). c.get.result ≡ slice_get (list_at t.lists c.args.code) 0) c.self.view_is
+    (c.get.ensures.same ∙ first_told F N (lists_of F N) c.args.code c.self.invariant code)
 
 pub returns-clause-table : goal.returns-clause-table
 returns-clause-table c = subst (λ (t : Watches). IsWatchTable t.room t.lists) c.self.view_is (table_of _ _ _ c.self.invariant)

@@ -8,16 +8,16 @@ use Rattle.watch_chains.proofs.chains.WatchChains.next_of.Goals as goal
 
 pub next_link-requires : goal.next_link-requires
 next_link-requires c =
-    let F : List (Option Link) = c.self.inside.firsts.items in
-    let N : List (Option Link) = c.self.inside.nexts.items in
+    let F : List (Option Link) = c.self.inside.firsts in
+    let N : List (Option Link) = c.self.inside.nexts in
     let code : c.args.code < length (lists_of F N) = rw (← c.self.view_is) at c.requires.code in
-    rw c.deref.ensures.value (place_in_list F N (lists_of F N) c.args.code c.args.l c.self.invariant code (rw (← c.self.view_is) at c.requires.linked))
+    place_in_list F N (lists_of F N) c.args.code c.args.l c.self.invariant code (rw (← c.self.view_is) at c.requires.linked)
 
 pub returns : goal.returns
 returns c =
-    let F : List (Option Link) = c.self.inside.firsts.items in
-    let N : List (Option Link) = c.self.inside.nexts.items in
+    let F : List (Option Link) = c.self.inside.firsts in
+    let N : List (Option Link) = c.self.inside.nexts in
     let code : c.args.code < length (lists_of F N) = rw (← c.self.view_is) at c.requires.code in
-    let answer : c.next_link.result ≡ follow N c.args.l = rw c.deref.ensures.value at c.next_link.ensures in
+    let answer : c.next_link.result ≡ follow N c.args.l = c.next_link.ensures.same in
     subst (λ (t : Watches). (front rest : List Link) → list_at t.lists c.args.code ≡ front ++ c.args.l ∷ rest → c.next_link.result ≡ slice_get rest 0) c.self.view_is
     (λ front rest is. answer ∙ next_told F N (lists_of F N) c.args.code front c.args.l rest c.self.invariant code is)

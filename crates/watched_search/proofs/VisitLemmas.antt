@@ -1,0 +1,93 @@
+use Rattle.std.proofs.Common.{◌≡◌, ℕ, ◌+◌, ◌-◌, ◌<◌, ◌≤◌, ◌⊎◌, inl, inr, Bool, true, false, All, List, [], ◌∷◌, ◌++◌, length, Option, Some, None, refl, sym, ◌∙◌, ap, subst, arith}
+use Rattle.std.specs.Prelude.{Contains, nat_lt}
+use Rattle.std.proofs.lemmas.Bool.{cases_lt, lt-ltb, ltb-true}
+use Rattle.std.proofs.lemmas.List.{get_or_default}
+use Rattle.std.proofs.lemmas.List.Elements.{All-weaker, Contains-push}
+use Rattle.sat_formula.specs.declared.lit.Lit.{Lit}
+use Rattle.sat_formula.specs.Lit.{top_lit}
+use Rattle.refutation_checker.specs.Follows.{negation, IsFalse, IsUnit}
+use Rattle.watch_chains.specs.declared.link.Link.{Link}
+use Rattle.watch_chains.specs.Watches.{IsSlot}
+use Rattle.watched_search.specs.declared.entry.Entry.{Entry}
+use Rattle.watched_search.specs.Trail.{TrailView, lits_of, IsFree}
+use Rattle.watched_search.specs.Searching.{clause_at, lit_at, HasTrue, IsForced}
+use Rattle.watched_search.specs.inner.Keeping.{Watched, other_of, watch_at, IsPaired, IsKept}
+use Rattle.watched_search.specs.inner.Moving.{IsAt, IsStanding, IsMoved}
+use Rattle.watched_search.specs.inner.Visiting.{IsReplacement, turned_by, Advances}
+use Rattle.watched_search.proofs.TrailLemmas.{lits-append}
+use Rattle.watched_search.proofs.PairLemmas.{pair_of, some_same}
+use Rattle.watched_search.proofs.MoveLemmas.{at_in}
+use Rattle.watched_search.proofs.WalkLemmas.{IsDriven-refl, IsDriven-push}
+use Rattle.watched_search.proofs.KeepLemmas.{IsKept-push, IsKept-move}
+
+-- what watches where the walk has come to
+module _ (w : Watched) (l : Lit) (before : Option Link) (k : Link) (other : Lit) (paired : IsPaired w) (standing : IsStanding w l before k other) where
+  pub standing_slot : IsSlot (length w.clauses) k × (watch_at w.slots k ≡ Some l)
+  standing_slot = paired.stands k l standing.below (at_in w l before k standing.front standing.rest standing.at)
+
+  pub other_member : Contains (clause_at w.clauses k.clause) other
+  other_member =
+      let p = pair_of w k l paired standing_slot.0 standing_slot.1 in
+      let same : p.0 ≡ other = some_same p.0 other (sym p.1 ∙ standing.watch) in
+      rw same at p.3
+
+-- no literal but one is not false
+pub unit_of : (T c : List Lit) (other : Lit) → IsReplacement T c other None → Contains c other → IsFree T other → IsUnit T c other
+unit_of T c other none has free = record { member = has; not_true = free.0; not_false = free.1; others = none }
+
+pub false_of : (T c : List Lit) (other : Lit) → IsReplacement T c other None → Contains T (negation other) → IsFalse T c
+false_of T c other none f =
+    All-weaker (λ m. (m ≡ other) ⊎ Contains T (negation m)) (λ m. Contains T (negation m))
+    (λ m p. elim p [ inl e ↦ subst (λ (x : Lit). Contains T (negation x)) (sym e) f | inr g ↦ g ]) c none
+
+-- a literal becomes true by a clause
+pub Advances-push : (w : Watched) (t : TrailView) (e : Entry) → IsPaired w → IsForced w.clauses (lits_of t.entries) e → Advances w w t (record t { entries = t.entries ++ e ∷ [] })
+Advances-push w t e paired h = record { vars = refl; clauses = refl; paired = paired; driven = IsDriven-push w.clauses t e h; kept = λ p k. IsKept-push w t p e k }
+
+pub pushed_true : (T c : List Lit) (l : Lit) → Contains c l → HasTrue (T ++ l ∷ []) c
+pushed_true T c l has = (l, has, Contains-push T l)
+
+pub entries_true : (es : List Entry) (e : Entry) (c : List Lit) → Contains c e.lit → HasTrue (lits_of (es ++ e ∷ [])) c
+entries_true es e c has = rw (lits-append es (e ∷ [])) (pushed_true (lits_of es) c e.lit has)
+
+-- another literal watches
+pub Advances-move : (w new : Watched) (t : TrailView) (l v : Lit) (before : Option Link) (k : Link) → IsPaired w → IsPaired new → IsSlot (length w.clauses) k → IsMoved w new l before k v
+    → (Contains (lits_of t.entries) (negation v) → ⊥) → Advances w new t t
+Advances-move w new t l v before k h paired s moved free =
+    let clause = s.clause in
+    let slot = s.slot in
+    let sized = h.slots in
+    record {
+      vars = ap (λ (x : Watched). x.vars) moved.same;
+      clauses = ap (λ (x : Watched). x.clauses) moved.same;
+      paired = paired;
+      driven = IsDriven-refl w.clauses t;
+      kept = λ p kept. subst (λ (x : Watched). IsKept x t p) (sym moved.same) (IsKept-move w t p k v new.chains (omega arith) free kept);
+    }
+
+pub standing_of : (w : Watched) (l : Lit) (before : Option Link) (k : Link) (other : Lit) → l.var < w.vars → (front : List Link) × (rest : List Link) × IsAt w l before k front rest
+    → watch_at w.slots (other_of k) ≡ Some other → IsStanding w l before k other
+standing_of w l before k other below at watch = record { below = below; front = at.0; rest = at.1; at = at.2; watch = watch }
+
+not_ltb : (b : Bool) → (b ≡ true → ⊥) → b ≡ false
+not_ltb true h = absurd (h refl)
+not_ltb false h = refl
+
+-- going round from a mark on, each place is come to
+turned_before : (mark i size : ℕ) → i < size - mark → turned_by mark i size ≡ mark + i
+turned_before mark i size lt = rw (lt-ltb i (size - mark) lt) refl
+
+turned_behind : (mark i size : ℕ) → (i < size - mark → ⊥) → turned_by mark i size ≡ i - (size - mark)
+turned_behind mark i size ge = rw (not_ltb (nat_lt i (size - mark)) (λ e. ge (ltb-true i (size - mark) e))) refl
+
+pub turned_all : (P : Lit → Type 0) (lits : List Lit) (mark size : ℕ) → mark ≤ size → size ≡ length lits → ((i : ℕ) → i < size → P (lit_at lits (turned_by mark i size))) → All P lits
+turned_all P lits mark size le long each = λ k d lt. subst P (get_or_default lits k top_lit d lt) (elim (cases_lt k mark) [
+  | inl before ↦
+      (let i = size - mark + k in
+      let at : turned_by mark i size ≡ k = turned_behind mark i size (λ bad. omega arith) ∙ omega arith in
+      subst (λ (n : ℕ). P (lit_at lits n)) at (each i (omega arith)))
+  | inr behind ↦
+      (let i = k - mark in
+      let at : turned_by mark i size ≡ k = turned_before mark i size (omega arith) ∙ omega arith in
+      subst (λ (n : ℕ). P (lit_at lits n)) at (each i (omega arith)))
+])
