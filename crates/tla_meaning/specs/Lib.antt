@@ -18,3 +18,9 @@ pub mod BooleanLayout
 pub mod Inductive
 pub mod Questions
 pub mod Widths
+pub mod Expanded
+pub mod Symbols
+pub mod Resolving
+pub mod StandardModules
+pub mod Flattening
+pub mod ReadingOrder

@@ -23,7 +23,8 @@ fn copy_lets(alloc: Global, lets: &List<(Text, usize)>) -> Result<List<(Text, us
     Ok(List::from_vec(items))
 }
 
-fn copy_op(alloc: Global, op: &Op) -> Result<Op, AllocError>
+/// An equal operator.
+pub fn copy_op(alloc: Global, op: &Op) -> Result<Op, AllocError>
     ensures { IfOk result (λ o. o ≡ op.now) }
 {
     match op {
