@@ -1,39 +1,14 @@
 -- What the effect of a tree is, for each operator at its node.
 use Rattle.std.specs.Prelude.{if◌then◌else◌}
-use Rattle.std.proofs.Common.{◌≡◌, ℕ, zero, suc, ◌<◌, ◌+◌, Bool, true, false, not, ◌||◌, List, [], ◌∷◌, ◌++◌, drop, get_or, length, map, replicate, take, Option, Some, None, option_map, Result, Err, IfOk, refl, ap, ap₂, ◌∙◌, sym, subst, arith, drop-cons, add-one}
-use Rattle.std.specs.List.{list_any}
-use Rattle.tla_values.specs.Order.{Layer}
-use Rattle.tla_values.specs.declared.value.Value.{Value, out-Value}
-use Rattle.tla_values.specs.declared.value.Value.TheVariants as value
-use Rattle.tla_values.specs.declared.value.Value.TheOpen as layer
-use Rattle.tla_meaning.specs.declared.expr.Expr.{Expr, out-Expr}
-use Rattle.tla_meaning.specs.declared.expr.Expr.TheOpen.{Expr-F}
-use Rattle.tla_meaning.specs.declared.expr.Expr.TheFolds.{fold_out-Expr}
-use Rattle.tla_meaning.specs.declared.job.State.{State}
-use Rattle.tla_meaning.specs.declared.op.Op.{Op}
+use Rattle.std.proofs.Common.{◌≡◌, ℕ, zero, suc, ◌<◌, ◌+◌, Bool, true, false, not, ◌||◌, List, [], ◌∷◌, ◌++◌, drop, get_or, length, map, replicate, take, Option, Some, None, option_map, Result, refl, ap, ap₂, ◌∙◌, sym, subst}
+use Rattle.tla_evaluator.proofs.Words.{Assignable, Denotation, Effect, Expr, Expr-F, Fault, IsBig, IsWrong, Meaning, NoFault, Op, Outcome, Place, State, Value, absent, all_set_items, any_mentions, both_assoc, bound_to, case_effect, child, choices, denotation_of, effect_of, effects, effects_and, effects_or, exists_effect, fails_by, false≢true, fold_out-Expr, if_effect, inner, join_faults, joined, list_any, out-Expr, outcomes, outer, role, values, view}
 use Rattle.tla_meaning.specs.declared.op.Op.TheVariants as op
-use Rattle.tla_meaning.specs.declared.place.Place.{Place}
-use Rattle.tla_meaning.specs.declared.outcome.Fault.{Fault}
-use Rattle.tla_meaning.specs.declared.outcome.Fault.TheVariants.{NoFault, IsWrong, IsBig}
-use Rattle.tla_meaning.specs.declared.outcome.Outcome.{Outcome}
-use Rattle.tla_meaning.specs.declared.outcome.Outcome.TheVariants as outcome
-use Rattle.tla_meaning.specs.Actions.{any_mentions, case_effect, effect_of, effects, effects_and, effects_or, exists_effect, fails_by, guard, guarded, if_effect, denotation_of}
-use Rattle.tla_meaning.specs.Meaning.{Meaning, by_truth, choose, inner, child, outcomes, outer, role, view}
-use Rattle.tla_meaning.specs.Operators.{yes_no}
-use Rattle.tla_meaning.specs.Outcomes.{join_faults, joined, values}
-use Rattle.tla_meaning.specs.Scopes.{Denotation, bound_to, absent}
-use Rattle.tla_meaning.specs.Shapes.{all_set_items, choices}
-use Rattle.tla_meaning.proofs.Joins.{both_assoc}
-use Rattle.tla_meaning.specs.declared.actions.Assignable.{Assignable}
-use Rattle.tla_meaning.specs.declared.actions.Effect.{Effect}
 use Rattle.tla_evaluator.specs.inner.Readings.{Reading, effect_in, value_in}
-use Rattle.tla_evaluator.proofs.NodeLemmas.{false≢true}
 use Rattle.tla_evaluator.specs.inner.Effects.{act_in, acts, behind, body_effect, either, exists_at, first_effect}
-use Rattle.std.proofs.lemmas.Result.{IfOk-weaker}
-use Rattle.std.specs.declared.alloc.AllocError.{AllocError}
-use Rattle.tla_evaluator.specs.declared.stops.Stop.{Stop}
-use Rattle.tla_evaluator.specs.declared.stops.Stop.TheVariants.{Wrong, Big, Memory}
-use Rattle.tla_evaluator.specs.inner.Gives.{FailsBy, Gives}
+use Rattle.tla_evaluator.specs.declared.answers.Stop.{Stop}
+use Rattle.tla_evaluator.specs.inner.Gives.{GivesEffect}
+use Rattle.tla_evaluator.proofs.BranchLemmas.{effect_by_case, effect_by_if}
+use Rattle.tla_evaluator.proofs.EvalSteps.{map_next}
 use Rattle.tla_evaluator.specs.inner.Mentions.{mentions}
 use Rattle.tla_evaluator.specs.Trees.{effect_at, effects_at, expanded_meaning, expanded_node, outcomes_at, scope_at, is_expanded_op, value_at}
 use Rattle.tla_evaluator.proofs.MentionLaws.{holds_as}
@@ -161,8 +136,8 @@ module _ (r : Reading) (m : Assignable) (e : Expr) where
       by op.Exists is k = sym (at_exists r.width m e r.bound r.state r.next is)
       by (op.Noted x) is k = sym (at_noted r.width m e r.bound r.state r.next x is)
       by op.Or is k = sym (at_or r.width m e r.bound r.state r.next is k)
-      by op.If is k = sym (at_if r.width m e r.bound r.state r.next is k)
-      by (op.Case other) is k = sym (at_case r.width m e r.bound r.state r.next other is k)
+      by op.If is k = effect_by_if r (out-Expr e).place m (out-Expr e).args ∙ sym (at_if r.width m e r.bound r.state r.next is k)
+      by (op.Case other) is k = effect_by_case r (out-Expr e).place m (out-Expr e).args ∙ sym (at_case r.width m e r.bound r.state r.next other is k)
       by o is k = absurd (false≢true k)
 
   abbrev node : Op → Denotation
@@ -193,11 +168,6 @@ module _ (r : Reading) (m : Assignable) (e : Expr) where
       by (op.Case other) is k = unless (op.Case other) (case_effect (out-Expr e).place (outcomes children r.state r.next) (effects m children r.state r.next)) is refl k
       by o is k = plain o is refl
 
--- ---- results
-
-pub is_now : {E : Type 0} (r : Result Effect E) (a b : Effect) → a ≡ b → IfOk r (λ f. f ≡ a) → IfOk r (λ f. f ≡ b)
-is_now r a b e h = subst (λ c. IfOk r (λ f. f ≡ c)) e h
-
 -- ---- members of the domains
 
 module _ (q : Place) (at_choice : List Value → Effect) where
@@ -225,33 +195,29 @@ module _ (q : Place) (at_choice : List Value → Effect) where
   at_choices None cs e = absurd (cc)
   at_choices (Some xss) cs e = let same : choices xss ≡ cs = cc in ap (λ yss. effects_or (map at_choice yss)) same
 
--- ---- what stops a part
+-- ---- what is given
 
-pub value_fails : (r : Result Effect AllocError) (s : Stop) (o : Outcome) → Gives o (Err s) → IfOk r (FailsBy s) → IfOk r (λ f. f ≡ effect_of o)
-value_fails r (Wrong p) o h k = IfOk-weaker r (FailsBy (Wrong p)) (λ f. f ≡ effect_of o) (λ f e. e ∙ ap effect_of (sym h)) k
-value_fails r (Big p) o h k = IfOk-weaker r (FailsBy (Big p)) (λ f. f ≡ effect_of o) (λ f e. e ∙ ap effect_of (sym h)) k
-value_fails r (Memory e) o h k = IfOk-weaker r (FailsBy (Memory e)) (λ f. f ≡ effect_of o) (λ f e. absurd e) k
-
--- the outcome of every choice by a guard that is stopped
-pub choice_fails : (s : Stop) (q : Place) (o : Outcome) → ((x y : Outcome) → Gives (choose q o x y) (Err s)) → (f : Effect) → FailsBy s f →
-    (z : Outcome) × ((x y : Outcome) → choose q o x y ≡ z) × (f ≡ effect_of z)
-choice_fails (Wrong p) q o h f k = (outcome.Wrong p, h, k)
-choice_fails (Big p) q o h f k = (outcome.Big p, h, k)
-choice_fails (Memory e) q o h f k = absurd k
+pub effect_gives_as : (r : Result Effect Stop) {f g : Effect} → f ≡ g → GivesEffect f r → GivesEffect g r
+effect_gives_as r e h = subst (λ f. GivesEffect f r) e h
 
 -- ---- several effects
 
 pub behind_twice : (f g : Fault) (x : Effect) → behind (join_faults f g) x ≡ behind f (behind g x)
 behind_twice f g x = ap (λ h. record { holds = x.holds; fault = h }) (both_assoc f g x.fault)
 
+pub is_not : (b : Bool) → not b ≡ true → b ≡ false
+is_not true e = absurd (cc)
+is_not false e = refl
+
 pub not_not : (b : Bool) → not b ≡ false → b ≡ true
 not_not true e = refl
 not_not false e = absurd (cc)
 
-and_holds : (one : Effect) (more : List Effect) → one.holds ≡ true → effects_and (one ∷ more) ≡ behind one.fault (effects_and more)
-and_holds one more h =
-    let rest : Effect = effects_and more in
-    ap (λ (b : Bool). elim b as (λ _. Effect) [ true ↦ record { holds = rest.holds; fault = join_faults one.fault rest.fault } | false ↦ one ]) h
+pub and_holds : (one : Effect) (more : List Effect) → one.holds ≡ true → effects_and (one ∷ more) ≡ behind one.fault (effects_and more)
+and_holds one more h = ap (λ (b : Bool). elim b as (λ _. Effect) [ true ↦ behind one.fault (effects_and more) | false ↦ one ]) h
+
+pub and_stops : (one : Effect) (more : List Effect) → one.holds ≡ false → effects_and (one ∷ more) ≡ one
+and_stops one more h = ap (λ (b : Bool). elim b as (λ _. Effect) [ true ↦ behind one.fault (effects_and more) | false ↦ one ]) h
 
 or_or : (a b c : Bool) → ((a || b) || c) ≡ (a || (b || c))
 or_or true b c = refl
@@ -260,141 +226,20 @@ or_or false b c = refl
 either_twice : (f g h : Effect) → either (either f g) h ≡ either f (either g h)
 either_twice f g h = λ i. record { holds = or_or f.holds g.holds h.holds i; fault = both_assoc f.fault g.fault h.fault i }
 
-module _ (w : ℕ) (m : Assignable) (vars : List (List ℕ × Value)) (s t : State) (args : List Expr) where
-  effects_from : (i : ℕ) (e : Expr) (one : Effect) → i < length args → e ≡ get_or args i e → one ≡ effect_at w m e vars s t →
-      effects_at w m (drop i args) vars s t ≡ one ∷ effects_at w m (drop (i + 1) args) vars s t
-  effects_from i e one lt is h =
-      ap (λ es. effects_at w m es vars s t) (drop-cons args i e lt)
-      ∙ ap (λ x. effect_at w m x vars s t ∷ effects_at w m (drop (suc i) args) vars s t) (sym is)
-      ∙ ap (λ x. x ∷ effects_at w m (drop (suc i) args) vars s t) (sym h)
-      ∙ ap (λ n. one ∷ effects_at w m (drop n args) vars s t) (sym (add-one i))
+module _ {X : Type 0} (f : X → Effect) (xs : List X) (i : ℕ) where
+  pub and_next : (x : X) (one : Effect) (g k : Fault) (all : Effect) → i < length xs → x ≡ get_or xs i x → one ≡ f x → not one.holds ≡ false → k ≡ join_faults g one.fault →
+      behind g (effects_and (map f (drop i xs))) ≡ all → behind k (effects_and (map f (drop (i + 1) xs))) ≡ all
+  and_next x one g k all lt is h holds new old =
+      let more : List Effect = map f (drop (i + 1) xs) in
+      ap (λ z. behind z (effects_and more)) new ∙ behind_twice g one.fault (effects_and more)
+      ∙ ap (behind g) (sym (and_holds one more (not_not one.holds holds)) ∙ ap effects_and (sym (map_next f xs i x one lt is h))) ∙ old
 
-  pub and_next : (i : ℕ) (e : Expr) (one : Effect) (f g : Fault) (all : Effect) → i < length args → e ≡ get_or args i e →
-      one ≡ effect_at w m e vars s t → not one.holds ≡ false → g ≡ join_faults f one.fault →
-      behind f (effects_and (effects_at w m (drop i args) vars s t)) ≡ all →
-      behind g (effects_and (effects_at w m (drop (i + 1) args) vars s t)) ≡ all
-  and_next i e one f g all lt is h holds new old =
-      let more : List Effect = effects_at w m (drop (i + 1) args) vars s t in
-      ap (λ x. behind x (effects_and more)) new ∙ behind_twice f one.fault (effects_and more)
-      ∙ ap (behind f) (sym (and_holds one more (not_not one.holds holds))) ∙ sym (ap (λ fs. behind f (effects_and fs)) (effects_from i e one lt is h)) ∙ old
-
-  pub or_next : (i : ℕ) (e : Expr) (one f g all : Effect) → i < length args → e ≡ get_or args i e →
-      one ≡ effect_at w m e vars s t → g ≡ either f one →
-      either f (effects_or (effects_at w m (drop i args) vars s t)) ≡ all →
-      either g (effects_or (effects_at w m (drop (i + 1) args) vars s t)) ≡ all
-  or_next i e one f g all lt is h new old =
-      let more : List Effect = effects_at w m (drop (i + 1) args) vars s t in
-      ap (λ x. either x (effects_or more)) new ∙ either_twice f one (effects_or more)
-      ∙ sym (ap (λ fs. either f (effects_or fs)) (effects_from i e one lt is h)) ∙ old
-
-module _ (w : ℕ) (m : Assignable) (q : Place) (body : List Expr) (names : List (List ℕ)) (vars : List (List ℕ × Value)) (s t : State) (cs : List (List Value)) where
-  abbrev at : List Value → Effect
-  at = body_effect w m q body names vars s t
-
-  effects_behind : (i : ℕ) (c c' : List Value) (long : List (List ℕ × Value)) (one : Effect) → i < length cs → c ≡ get_or cs i c → c' ≡ c →
-      long ≡ vars ++ bound_to names c' → one ≡ first_effect w m q body long s t →
-      map at (drop i cs) ≡ one ∷ map at (drop (i + 1) cs)
-  effects_behind i c c' long one lt is same long_is h =
-      ap (map at) (drop-cons cs i c lt)
-      ∙ ap (λ x. at x ∷ map at (drop (suc i) cs)) (sym is ∙ sym same)
-      ∙ ap (λ x. x ∷ map at (drop (suc i) cs)) (sym (h ∙ ap (λ v. first_effect w m q body v s t) long_is))
-      ∙ ap (λ n. one ∷ map at (drop n cs)) (sym (add-one i))
-
-  pub bodies_next : (i : ℕ) (c c' : List Value) (long : List (List ℕ × Value)) (one f g all : Effect) → i < length cs → c ≡ get_or cs i c → c' ≡ c →
-      long ≡ vars ++ bound_to names c' → one ≡ first_effect w m q body long s t → g ≡ either f one →
-      either f (effects_or (map at (drop i cs))) ≡ all →
-      either g (effects_or (map at (drop (i + 1) cs))) ≡ all
-  bodies_next i c c' long one f g all lt is same long_is h new old =
-      let more : List Effect = map at (drop (i + 1) cs) in
-      ap (λ x. either x (effects_or more)) new ∙ either_twice f one (effects_or more)
-      ∙ sym (ap (λ fs. either f (effects_or fs)) (effects_behind i c c' long one lt is same long_is h)) ∙ old
-
--- ---- places in a list
-
-pub get_or-default : {X : Type 0} (xs : List X) (i : ℕ) (a b : X) → i < length xs → get_or xs i a ≡ get_or xs i b
-get_or-default [] i a b lt = absurd (omega arith)
-get_or-default (x ∷ xs) zero a b lt = refl
-get_or-default (x ∷ xs) (suc i) a b lt = get_or-default xs i a b (omega arith)
-
--- ---- guards
-
-pub guard_true : (q : Place) (a b : Effect) → guarded q (yes_no true) a b ≡ a
-guard_true q a b = ap (λ l. guard q l a b) (value.outs-Bool true)
-
-pub guard_false : (q : Place) (a b : Effect) → guarded q (yes_no false) a b ≡ b
-guard_false q a b = ap (λ l. guard q l a b) (value.outs-Bool false)
-
--- an outcome that chooses neither of any two is a fault
-pub guard_fault : (q : Place) (o f : Outcome) (a b : Effect) → ((x y : Outcome) → choose q o x y ≡ f) → effect_of f ≡ guarded q o a b
-guard_fault q (outcome.Val v) f a b h = go (out-Value v) h
-  where
-    differ : outcome.Wrong q ≡ outcome.Big q → ⊥
-    differ e = cc
-
-    go : (l : Layer Value) → ((x y : Outcome) → by_truth q l x y ≡ f) → effect_of f ≡ guard q l a b
-    go (layer.Bool true) k = absurd (differ (k (outcome.Wrong q) (outcome.Wrong q) ∙ sym (k (outcome.Big q) (outcome.Big q))))
-    go (layer.Bool false) k = absurd (differ (k (outcome.Wrong q) (outcome.Wrong q) ∙ sym (k (outcome.Big q) (outcome.Big q))))
-    go l k = ap effect_of (sym (k (outcome.Wrong q) (outcome.Wrong q)))
-guard_fault q (outcome.Wrong r) f a b h = ap effect_of (sym (h (outcome.Wrong r) (outcome.Wrong r)))
-guard_fault q (outcome.Big r) f a b h = ap effect_of (sym (h (outcome.Wrong r) (outcome.Wrong r)))
-
--- IF is a CASE of three trees
-pub if_case : (w : ℕ) (m : Assignable) (q : Place) (vars : List (List ℕ × Value)) (s t : State) (args : List Expr) → length args ≡ 3 →
-    case_effect q (outcomes_at w args vars s t) (effects_at w m args vars s t) ≡ if_effect q (outcomes_at w args vars s t) (effects_at w m args vars s t)
-if_case w m q vars s t [] h = absurd (omega (arith, h))
-if_case w m q vars s t (a ∷ []) h = absurd (omega (arith, h))
-if_case w m q vars s t (a ∷ b ∷ []) h = absurd (omega (arith, h))
-if_case w m q vars s t (a ∷ b ∷ c ∷ []) h = refl
-if_case w m q vars s t (a ∷ b ∷ c ∷ d ∷ es) h = absurd (omega (arith, h))
-
-pub if_none : (w : ℕ) (m : Assignable) (q : Place) (vars : List (List ℕ × Value)) (s t : State) (args : List Expr) → (length args ≡ 3 → ⊥) →
-    fails_by (IsWrong q) ≡ if_effect q (outcomes_at w args vars s t) (effects_at w m args vars s t)
-if_none w m q vars s t [] h = refl
-if_none w m q vars s t (a ∷ []) h = refl
-if_none w m q vars s t (a ∷ b ∷ []) h = refl
-if_none w m q vars s t (a ∷ b ∷ c ∷ []) h = absurd (h refl)
-if_none w m q vars s t (a ∷ b ∷ c ∷ d ∷ es) h = refl
-
-module _ (w : ℕ) (m : Assignable) (q : Place) (vars : List (List ℕ × Value)) (s t : State) (args : List Expr) where
-  -- the cases from the i-th tree on
-  abbrev cases : List Expr → Effect
-  cases es = case_effect q (outcomes_at w es vars s t) (effects_at w m es vars s t)
-
-  two_more : (i : ℕ) (e d : Expr) → i + 1 < length args → e ≡ get_or args i e → d ≡ get_or args (i + 1) d → drop i args ≡ e ∷ d ∷ drop (i + 2) args
-  two_more i e d lt is is' =
-      let next : i + 1 ≡ suc i = omega arith in
-      let after : suc (i + 1) ≡ i + 2 = omega arith in
-      drop-cons args i e (omega arith)
-      ∙ ap₂ (λ x es. x ∷ es) (sym is) (ap (λ n. drop n args) (sym next) ∙ drop-cons args (i + 1) d lt ∙ ap₂ (λ x n. x ∷ drop n args) (sym is') after)
-
-  case_here : (i : ℕ) (e d : Expr) (o : Outcome) (all : Effect) → i + 1 < length args → e ≡ get_or args i e → d ≡ get_or args (i + 1) d →
-      o ≡ value_at w e vars s t → cases (drop i args) ≡ all → guarded q o (effect_at w m d vars s t) (cases (drop (i + 2) args)) ≡ all
-  case_here i e d o all lt is is' h old =
-      ap (λ x. guarded q x (effect_at w m d vars s t) (cases (drop (i + 2) args))) h ∙ sym (ap cases (two_more i e d lt is is')) ∙ old
-
-  pub case_true : (i : ℕ) (e d : Expr) (o : Outcome) (b : Bool) (all : Effect) → i + 1 < length args → e ≡ get_or args i e → d ≡ get_or args (i + 1) d →
-      o ≡ value_at w e vars s t → o ≡ yes_no b → b ≡ true → cases (drop i args) ≡ all → effect_at w m d vars s t ≡ all
-  case_true i e d o b all lt is is' h k holds old =
-      let branch : Effect = effect_at w m d vars s t in
-      let rest : Effect = cases (drop (i + 2) args) in
-      sym (guard_true q branch rest) ∙ ap (λ x. guarded q (yes_no x) branch rest) (sym holds) ∙ ap (λ x. guarded q x branch rest) (sym k)
-      ∙ case_here i e d o all lt is is' h old
-
-  pub case_false : (i : ℕ) (e : Expr) (o : Outcome) (b : Bool) (all : Effect) → i + 1 < length args → e ≡ get_or args i e →
-      o ≡ value_at w e vars s t → o ≡ yes_no b → b ≡ false → cases (drop i args) ≡ all → cases (drop (i + 2) args) ≡ all
-  case_false i e o b all lt is h k holds old =
-      let d : Expr = get_or args (i + 1) e in
-      let branch : Effect = effect_at w m d vars s t in
-      let rest : Effect = cases (drop (i + 2) args) in
-      sym (guard_false q branch rest) ∙ ap (λ x. guarded q (yes_no x) branch rest) (sym holds) ∙ ap (λ x. guarded q x branch rest) (sym k)
-      ∙ case_here i e d o all lt is (get_or-default args (i + 1) e d lt) h old
-
-  pub case_fault : (i : ℕ) (e : Expr) (o f : Outcome) (all : Effect) → i + 1 < length args → e ≡ get_or args i e →
-      o ≡ value_at w e vars s t → ((x y : Outcome) → choose q o x y ≡ f) → cases (drop i args) ≡ all → effect_of f ≡ all
-  case_fault i e o f all lt is h k old =
-      let d : Expr = get_or args (i + 1) e in
-      guard_fault q o f (effect_at w m d vars s t) (cases (drop (i + 2) args)) k
-      ∙ case_here i e d o all lt is (get_or-default args (i + 1) e d lt) h old
+  pub or_next : (x : X) (one g k all : Effect) → i < length xs → x ≡ get_or xs i x → one ≡ f x → k ≡ either g one →
+      either g (effects_or (map f (drop i xs))) ≡ all → either k (effects_or (map f (drop (i + 1) xs))) ≡ all
+  or_next x one g k all lt is h new old =
+      let more : List Effect = map f (drop (i + 1) xs) in
+      ap (λ z. either z (effects_or more)) new ∙ either_twice g one (effects_or more)
+      ∙ ap (λ l. either g (effects_or l)) (sym (map_next f xs i x one lt is h)) ∙ old
 
 module _ (w : ℕ) (m : Assignable) (q : Place) (names : List (List ℕ)) (args : List Expr) (vars : List (List ℕ × Value)) (s t : State) where
   pub exists_body : (sets rest : List Expr) (f : Fault) (vs vs' : List Value) (cs cs' : List (List Value)) →

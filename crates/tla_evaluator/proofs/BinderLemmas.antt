@@ -1,17 +1,9 @@
 -- What a filter keeps of its choices.
 use Rattle.std.proofs.Common.{◌≡◌, ℕ, ◌≤◌, Bool, List, [], ◌∷◌, ◌++◌, drop, length, refl, ap, ◌∙◌, sym, subst, Some, None, Option, append-nil, Err}
-use Rattle.std.proofs.Math.ListN.{drop_of_length-le}
-use Rattle.tla_values.specs.declared.value.Value.{Value}
-use Rattle.tla_meaning.specs.declared.op.Op.{Op}
-use Rattle.tla_meaning.specs.declared.place.Place.{Place}
-use Rattle.tla_meaning.specs.declared.outcome.Outcome.{Outcome}
-use Rattle.tla_meaning.specs.declared.outcome.Outcome.TheVariants.{Wrong}
-use Rattle.tla_meaning.specs.Meaning.{bound_table, kept, on_all_truths, truths}
-use Rattle.tla_evaluator.specs.declared.stops.Stop.{Stop}
+use Rattle.tla_evaluator.proofs.Words.{Op, Outcome, Place, Value, Wrong, bound_table, drop_of_length-le, kept, on_all_truths, truths}
+use Rattle.tla_evaluator.specs.declared.answers.Stop.{Stop}
 use Rattle.tla_evaluator.specs.inner.Gives.{Gives}
-
-some_is : {X : Type 0} (x y : X) → Some x ≡ Some y → x ≡ y
-some_is x y e = cc
+use Rattle.std.proofs.lemmas.Option.{same_Some}
 
 kept_nothing : (cs : List (List Value)) → kept cs [] ≡ []
 kept_nothing [] = refl
@@ -31,7 +23,7 @@ module _ (p : Place) (o : Op) (cs : List (List Value)) (vs ws : List Value) (g :
     where
       found : (l : Option (List Bool)) → l ≡ Some bs → elim l [ None ↦ Wrong p | Some bs ↦ g bs ] ≡ q
       found None k = absurd (cc)
-      found (Some cs) k = ap g (some_is cs bs k) ∙ h
+      found (Some cs) k = ap g (same_Some cs bs k) ∙ h
 
   pub truths_stop : (s : Stop) → ws ≡ vs → bound_table p o cs vs ≡ on_all_truths p g vs → ((f : List Bool → Outcome) → Gives (on_all_truths p f ws) (Err s)) →
       Gives (bound_table p o cs vs) (Err s)

@@ -1,20 +1,8 @@
 -- On expanded trees an evaluation computes their meaning, and its values are normal.
 use Rattle.std.proofs.Common.{◌≡◌, ℕ, Bool, true, false, IsTrue, List, [], ◌∷◌, map, refl, ap, ap₂, ◌∙◌, Some}
-use Rattle.std.proofs.lemmas.List.Elements.{recursion_from_All}
-use Rattle.tla_values.specs.Sets.{Normal}
-use Rattle.tla_values.specs.declared.value.Value.{Value}
-use Rattle.tla_meaning.specs.declared.expr.Expr.{Expr, roll-Expr}
-use Rattle.tla_meaning.specs.declared.expr.Expr.TheOpen.{Expr-F}
-use Rattle.tla_meaning.specs.declared.expr.Expr.TheFolds.{fold-roll-Expr, map-Expr}
-use Rattle.tla_meaning.specs.declared.job.State.{State}
-use Rattle.tla_meaning.specs.Actions.{meaning, node}
-use Rattle.tla_meaning.specs.Meaning.{Meaning}
-use Rattle.tla_meaning.specs.Numbers.{Width}
-use Rattle.tla_meaning.specs.Scopes.{Scope, Denotation, absent}
+use Rattle.tla_evaluator.proofs.Words.{AllAgree, Denotation, Expr, Expr-F, IsNormalOutcome, Meaning, Normal, Scope, State, Value, Width, absent, fold-roll-Expr, map-Expr, meaning, node, recursion_from_All, roll-Expr}
 use Rattle.tla_meaning.specs.Substitution.{Test}
 use Rattle.tla_meaning.proofs.Laws.{simulate}
-use Rattle.tla_meaning.proofs.Views.{AllAgree}
-use Rattle.tla_meaning.specs.Outcomes.{IsNormalOutcome}
 use Rattle.tla_meaning.proofs.NormalNodes.{NormalDenotation, absent_normal}
 use Rattle.tla_meaning.proofs.NormalLaw.{NormalMeaning, NormalMeanings, NormalScope, fold_normal, node_normal}
 use Rattle.tla_evaluator.specs.Trees.{AreNormal, is_expanded, expanded_meaning, expanded_node, scope_at, is_expanded_op, value_at}

@@ -1,24 +1,14 @@
 -- Set forms by their kinds, and what belongs to lists of them.
+use Rattle.tla_evaluator.proofs.Words.{Equal, Fun, Functions, Greater, Layer, Less, Plain, Records, Sequences, Set, SetForm, Subsets, Text, Tuples, Value, all_belong, arguments, belongs, drop_of_length-le, fields_at, function_passes, has_fields, items_of, length-map, list_all, list_any, member, out-SetForm, out-Value, outs-Fun, outs-Functions, outs-Plain, outs-Records, outs-Sequences, outs-Set, outs-Subsets, outs-Text, outs-Tuples, part_belongs, passes, results, roll-Value, roll-out-Value, rolls-Fun, rolls-Set, rolls-Text, same_set, same_value, set_passes, text_cmp, value_cmp}
 use Rattle.std.proofs.lemmas.Bool.Decides.{nat_tests}
-use Rattle.std.proofs.lemmas.List.{length-map}
 use Rattle.std.proofs.Common.{◌≡◌, ℕ, zero, suc, ◌≤◌, ◌==◌, ◌&&◌, ◌||◌, map, Bool, true, false, length, drop, arith, List, [], ◌∷◌, refl, ap, ◌∙◌, sym}
-use Rattle.tla_values.specs.Order.{Layer, same_value, text_cmp, value_cmp}
 use Rattle.tla_values.proofs.Laws.{value_back}
 use Rattle.std.specs.declared.cmp.Ordering.{Ordering}
-use Rattle.std.specs.declared.cmp.Ordering.TheVariants.{Less, Equal, Greater}
 use Rattle.std.specs.Ordering.{is_eq, ordering_reverse}
 use Rattle.tla_values.proofs.OrderLemmas.{by_kinds}
-use Rattle.tla_values.specs.declared.value.Value.{Value, out-Value, roll-Value, roll-out-Value, Text, Set, Fun}
-use Rattle.tla_values.specs.declared.value.Value.TheVariants.{outs-Text, outs-Set, outs-Fun, rolls-Text, rolls-Set, rolls-Fun}
 use Rattle.tla_values.specs.declared.value.Value.TheOpen as layer
-use Rattle.tla_meaning.specs.declared.forms.SetForm.{SetForm, out-SetForm}
-use Rattle.tla_meaning.specs.declared.forms.SetForm.TheVariants.{Plain, AllInts, AllNats, AllTexts, Sequences, Functions, Subsets, Records, Tuples, outs-Plain, outs-AllInts, outs-AllNats, outs-AllTexts, outs-Sequences, outs-Functions, outs-Subsets, outs-Records, outs-Tuples}
 use Rattle.tla_meaning.specs.declared.forms.SetForm.TheOpen as form
 use Rattle.tla_meaning.specs.declared.forms.SetForm.TheFolds.{fold_out-SetForm, map-SetForm}
-use Rattle.tla_meaning.specs.Forms.{set_passes, function_passes, belongs, all_belong, part_belongs, fields_at, has_fields, is_natural, is_number, is_text, passes, results, same_set}
-use Rattle.tla_meaning.specs.Shapes.{items_of}
-use Rattle.tla_values.specs.Sets.{arguments, member}
-use Rattle.std.specs.List.{list_all, list_any}
 
 -- tests of what is made of items
 any_map : {X Y : Type 0} (f : Y → Bool) (g : X → Y) (xs : List X) → list_any (λ x. f (g x)) xs ≡ list_any f (map g xs)
@@ -67,15 +57,6 @@ at f v x e = belongs_out f v ∙ ap (λ y. part_belongs (map-SetForm SetForm (Va
 module _ (f : SetForm) (v : Value) where
   pub at_plain : (s : Value) → f ≡ Plain s → belongs f v ≡ set_passes (member v) (out-Value s)
   at_plain s e = at f v (form.Plain s) (ap out-SetForm e ∙ outs-Plain s)
-
-  pub at_ints : f ≡ AllInts → belongs f v ≡ is_number (out-Value v)
-  at_ints e = at f v form.AllInts (ap out-SetForm e ∙ outs-AllInts)
-
-  pub at_nats : f ≡ AllNats → belongs f v ≡ is_natural (out-Value v)
-  at_nats e = at f v form.AllNats (ap out-SetForm e ∙ outs-AllNats)
-
-  pub at_texts : f ≡ AllTexts → belongs f v ≡ is_text (out-Value v)
-  at_texts e = at f v form.AllTexts (ap out-SetForm e ∙ outs-AllTexts)
 
   pub at_sequences : (g : SetForm) → f ≡ Sequences g → belongs f v ≡ function_passes (λ ps. passes (list_all (belongs g)) (items_of ps)) (out-Value v)
   at_sequences g e = at f v (form.Sequences g) (ap out-SetForm e ∙ outs-Sequences g)
@@ -157,17 +138,11 @@ none_left (f ∷ fs) zero le = grind (arith, nat_tests)
 none_left (f ∷ fs) (suc i) le =
     let e : (suc i == suc (length fs)) ≡ (i == length fs) = grind (arith, nat_tests) in e ∙ none_left fs i (omega arith)
 
-drop_past : {X : Type 0} (n : ℕ) (xs : List X) → length xs ≤ n → drop n xs ≡ []
-drop_past zero [] le = refl
-drop_past zero (x ∷ xs) le = absurd (omega arith)
-drop_past (suc n) [] le = refl
-drop_past (suc n) (x ∷ xs) le = drop_past n xs (omega arith)
-
 pub fields_done : (fs : List SetForm) (names : List (List ℕ)) (ps : List (Value × Value)) (i n : ℕ) → i ≤ length fs → length names ≤ n →
     all_belong fs (fields_at names ps) ≡ all_belong (drop i fs) (fields_at (drop n names) ps) →
     (i == length fs) ≡ all_belong fs (fields_at names ps)
 fields_done fs names ps i n le past e =
-    none_left fs i le ∙ ap (λ l. all_belong (drop i fs) (fields_at l ps)) (sym (drop_past n names past)) ∙ sym e
+    none_left fs i le ∙ ap (λ l. all_belong (drop i fs) (fields_at l ps)) (sym (drop_of_length-le names past)) ∙ sym e
 
 pub items_differ : (fs : List SetForm) (ps : List (Value × Value)) → (length fs ≡ length ps → ⊥) → false ≡ all_belong fs (results ps)
 items_differ fs ps h =

@@ -1,23 +1,10 @@
 -- Steps of the loops over forms, and the first of several trees.
 use Rattle.std.proofs.Common.{append_assoc, ◌≡◌, ℕ, ◌+◌, ◌<◌, ◌≤◌, List, [], ◌∷◌, ◌++◌, map, drop, get_or, length, refl, ap, ◌∙◌, sym, arith}
-use Rattle.tla_values.specs.declared.value.Value.{Value}
-use Rattle.tla_meaning.specs.declared.expr.Expr.{Expr}
-use Rattle.tla_meaning.specs.declared.job.State.{State}
-use Rattle.tla_meaning.specs.declared.outcome.Fault.{Fault}
-use Rattle.tla_meaning.specs.declared.place.Place.{Place}
-use Rattle.tla_meaning.specs.Forms.{Formed, form_fault, form_faults}
-use Rattle.tla_meaning.specs.Meaning.{case_chosen, function_form, if_chosen}
-use Rattle.tla_meaning.specs.Outcomes.{join_faults}
+use Rattle.tla_evaluator.proofs.Words.{Expr, Formed, Place, State, Value, function_form}
 use Rattle.tla_evaluator.specs.Trees.{form_at, forms_at, outcomes_at, value_at}
 use Rattle.tla_evaluator.proofs.EvalSteps.{map_next}
-use Rattle.tla_evaluator.proofs.FormSteps.{form_fault_step}
 
 module _ {X : Type 0} (f : X → Formed) (xs : List X) (i : ℕ) where
-  pub form_fault_next : (x : X) (g h : Fault) → i < length xs → x ≡ get_or xs i x → h ≡ join_faults g (form_fault (f x)) →
-      join_faults g (form_faults (map f (drop i xs))) ≡ form_faults (map f xs) → join_faults h (form_faults (map f (drop (i + 1) xs))) ≡ form_faults (map f xs)
-  form_fault_next x g h lt is e k =
-      form_fault_step g h (f x) (map f (drop (i + 1) xs)) (map f xs) e (ap (λ os. join_faults g (form_faults os)) (sym (map_next f xs i x (f x) lt is refl)) ∙ k)
-
   -- the forms so far with those of the rest
   pub forms_next : (x : X) (ds es : List Formed) → i < length xs → x ≡ get_or xs i x → es ≡ ds ++ f x ∷ [] →
       ds ++ map f (drop i xs) ≡ map f xs → es ++ map f (drop (i + 1) xs) ≡ map f xs
@@ -36,12 +23,3 @@ function_parts w vars s t p es rest x le is back =
     split : (es : List Expr) (x : Expr) → 1 ≤ length es → x ≡ get_or es 0 x → x ∷ drop 1 es ≡ es
     split [] x le is = absurd (omega (arith, le))
     split (e ∷ es) x le is = ap (λ z. z ∷ es) is
-
--- IF is a CASE of three trees
-pub if_case : (w : ℕ) (p : Place) (es : List Expr) (vars : List (List ℕ × Value)) (s t : State) → length es ≡ 3 →
-    case_chosen p (outcomes_at w es vars s t) ≡ if_chosen p (outcomes_at w es vars s t)
-if_case w p [] vars s t h = absurd (omega (arith, h))
-if_case w p (a ∷ []) vars s t h = absurd (omega (arith, h))
-if_case w p (a ∷ b ∷ []) vars s t h = absurd (omega (arith, h))
-if_case w p (a ∷ b ∷ c ∷ []) vars s t h = refl
-if_case w p (a ∷ b ∷ c ∷ d ∷ es) vars s t h = absurd (omega (arith, h))

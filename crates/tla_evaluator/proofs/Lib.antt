@@ -1,10 +1,10 @@
 pub mod ActionNodes
 pub mod BinderLemmas
+pub mod BranchLemmas
 pub mod EvalSteps
 pub mod FormLemmas
 pub mod FormLoops
 pub mod FormNodes
-pub mod FormSteps
 pub mod FunctionLemmas
 pub mod ListLemmas
 pub mod ListSteps
@@ -16,8 +16,8 @@ pub mod NodeLemmas
 pub mod NormalBinds
 pub mod RowLemmas
 pub mod NumberLemmas
-pub mod OutcomeLemmas
 pub mod TopLemmas
 pub mod TreeLemmas
 pub mod TreeSizes
 pub mod StopLemmas
+pub mod Words

@@ -1,13 +1,7 @@
 -- Steps of the loops that build lists of lists.
 use Rattle.std.proofs.Common.{◌≡◌, ℕ, suc, ◌+◌, ◌-◌, ◌<◌, ◌≤◌, List, [], ◌∷◌, ◌++◌, map, drop, length, get_or, refl, ap, ◌∙◌, sym, arith, append_assoc, drop-cons, add-one, true, zero, take, ℤ, pos, cond, nat_le, zip, subst}
+use Rattle.tla_evaluator.proofs.Words.{Place, Val, Value, Wrong, drop-map, each_to, length-map, part_of, results, sequence, sublists, take-map, with_each}
 use Rattle.std.proofs.lemmas.Bool.{le-leb}
-use Rattle.std.proofs.lemmas.List.{length-map}
-use Rattle.tla_meaning.specs.declared.place.Place.{Place}
-use Rattle.tla_meaning.specs.declared.outcome.Outcome.TheVariants.{Val, Wrong}
-use Rattle.tla_meaning.specs.Operators.{part_of}
-use Rattle.tla_meaning.specs.Forms.{results}
-use Rattle.tla_values.specs.declared.value.Value.{Value}
-use Rattle.tla_meaning.specs.Shapes.{sublists, each_to, with_each, sequence}
 
 -- the list from a place on
 at_place : (xs : List Value) (i : ℕ) (x : Value) → 0 < i → i ≤ length xs → x ≡ get_or xs (i - 1) x → drop (i - 1) xs ≡ x ∷ drop i xs
@@ -43,16 +37,8 @@ with_each_more xs yss all new whole i x lt is h e =
 
 -- ---- parts of sequences
 
-map-range : {X Y : Type 0} (f : X → Y) (i n : ℕ) (xs : List X) → map f (take n (drop i xs)) ≡ take n (drop i (map f xs))
-map-range f zero zero xs = refl
-map-range f zero (suc n) [] = refl
-map-range f zero (suc n) (x ∷ xs) = ap (λ l. f x ∷ l) (map-range f zero n xs)
-map-range f (suc i) zero xs = refl
-map-range f (suc i) (suc n) [] = refl
-map-range f (suc i) (suc n) (x ∷ xs) = map-range f i (suc n) xs
-
 pub results_range : (ps : List (Value × Value)) (i j : ℕ) → results (take (j - i) (drop i ps)) ≡ take (j - i) (drop i (results ps))
-results_range ps i j = map-range (λ (p : Value × Value). p.1) i (j - i) ps
+results_range ps i j = sym (take-map (λ p. p.1) (j - i) (drop i ps)) ∙ ap (take (j - i)) (sym (drop-map (λ p. p.1) i ps))
 
 pub part_is : (p : Place) (xs : List Value) (m n : ℤ) (i j : ℕ) → m ≡ pos (1 + i) → n ≡ pos j → i < j → j ≤ length xs →
     part_of p xs m n ≡ Val (sequence (take (j - i) (drop i xs)))

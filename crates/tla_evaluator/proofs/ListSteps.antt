@@ -1,26 +1,10 @@
 -- Steps of the loops over indexes, updates and folds.
 use Rattle.std.proofs.Common.{◌≡◌, ℕ, zero, suc, ◌+◌, ◌<◌, ◌≤◌, List, [], ◌∷◌, ◌++◌, take, drop, get_or, length, refl, ap, ◌∙◌, sym, subst, Some, arith, drop-cons, add-one, append_assoc, option_map, Err}
-use Rattle.std.specs.List.{All, AllByRecursion}
-use Rattle.std.proofs.lemmas.List.Elements.{All-from_recursion, recursion_from_All}
-use denote.Param.Weighed.{most}
-use Rattle.tla_values.specs.Sets.{Normal}
-use Rattle.tla_values.specs.declared.value.Value.{Value}
+use Rattle.tla_evaluator.proofs.Words.{All, All-from_recursion, AllByRecursion, At, Expr, Fault, IsNormalOutcome, NoFunction, Normal, Outcome, Outside, Place, Reached, State, Update, Val, Value, Wrong, all_set_items, at_path, both_assoc, choices, folded, join_faults, joined, joined_append, map-append, most, recursion_from_All, results, set_path, updated, values, with_value}
 use Rattle.tla_values.specs.declared.value.Value.TheVariants as value
 use Rattle.tla_values.proofs.NormalLemmas.{fun_pairs}
-use Rattle.tla_meaning.specs.declared.expr.Expr.{Expr}
-use Rattle.tla_meaning.specs.declared.job.State.{State}
-use Rattle.tla_meaning.specs.declared.outcome.Fault.{Fault}
-use Rattle.tla_meaning.specs.declared.outcome.Outcome.{Outcome}
-use Rattle.tla_meaning.specs.declared.outcome.Outcome.TheVariants.{Val, Wrong}
-use Rattle.tla_meaning.specs.declared.place.Place.{Place}
-use Rattle.tla_meaning.specs.Forms.{results}
-use Rattle.tla_meaning.specs.Meaning.{At, NoFunction, Outside, Reached, Update, at_path, folded, set_path, updated}
-use Rattle.tla_meaning.specs.Shapes.{all_set_items, choices}
-use Rattle.tla_meaning.specs.Outcomes.{join_faults, joined, values, with_value}
-use Rattle.tla_meaning.proofs.Joins.{both_assoc, joined_append}
-use Rattle.tla_meaning.specs.Outcomes.{IsNormalOutcome}
 use Rattle.tla_meaning.proofs.NormalNodes.{NormalOutcomes, NormalReached, at_path_normal, values_normal}
-use Rattle.tla_evaluator.specs.declared.stops.Stop.{Stop}
+use Rattle.tla_evaluator.specs.declared.answers.Stop.{Stop}
 use Rattle.tla_evaluator.specs.inner.Gives.{Gives}
 use Rattle.tla_evaluator.specs.inner.Nodes.{index_trees, paths_at, update_at, updates_at}
 use Rattle.tla_evaluator.specs.Trees.{AreNormal, first_at, outcomes_at, value_at}
@@ -68,11 +52,6 @@ drop_again zero xs = refl
 drop_again (suc n) [] = refl
 drop_again (suc n) (x ∷ xs) = drop_again n xs
 
-pub outcomes_both : (w : ℕ) (es fs : List Expr) (vars : List (List ℕ × Value)) (s t : State) →
-    outcomes_at w (es ++ fs) vars s t ≡ outcomes_at w es vars s t ++ outcomes_at w fs vars s t
-outcomes_both w [] fs vars s t = refl
-outcomes_both w (e ∷ es) fs vars s t = ap (λ (os : List Outcome). value_at w e vars s t ∷ os) (outcomes_both w es fs vars s t)
-
 -- ---- the indexes of the next update
 
 module _ (w : ℕ) (vars : List (List ℕ × Value)) (s t : State) (counts : List ℕ) (i n : ℕ) (rest : List Expr) where
@@ -88,7 +67,7 @@ module _ (w : ℕ) (vars : List (List ℕ × Value)) (s t : State) (counts : Lis
       ∙ both_assoc g part (joined (outcomes_at w more vars s t))
       ∙ ap (join_faults g) (ap (λ x. join_faults x (joined (outcomes_at w more vars s t))) ep
       ∙ sym (joined_append (outcomes_at w (take n rest) vars s t) (outcomes_at w more vars s t))
-      ∙ ap joined (sym (outcomes_both w (take n rest) more vars s t))
+      ∙ ap joined (sym (map-append (λ e. value_at w e vars s t) (take n rest) more))
       ∙ ap (λ m. joined (outcomes_at w (take n rest ++ index_trees (drop m counts) behind) vars s t)) (add-one i)
       ∙ ap (λ b. joined (outcomes_at w (take n rest ++ index_trees (drop (suc i) counts) b) vars s t)) (drop_again n rest)
       ∙ ap (λ m. joined (outcomes_at w (index_trees (m ∷ drop (suc i) counts) rest) vars s t)) is

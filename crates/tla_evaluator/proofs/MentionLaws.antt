@@ -1,18 +1,7 @@
 -- The meaning of an expanded tree tells whether it holds a name that counts.
 use Rattle.std.proofs.Common.{◌≡◌, ℕ, Bool, true, false, ◌||◌, List, [], ◌∷◌, ◌++◌, map, length, replicate, refl, ap, ap₂, ◌∙◌, sym, subst}
-use Rattle.std.specs.List.{list_any}
-use Rattle.tla_values.specs.declared.value.Value.{Value}
-use Rattle.tla_meaning.specs.declared.actions.Assignable.{Assignable}
-use Rattle.tla_meaning.specs.declared.expr.Expr.{Expr, roll-Expr}
-use Rattle.tla_meaning.specs.declared.expr.Expr.TheOpen.{Expr-F}
-use Rattle.tla_meaning.specs.declared.expr.Expr.TheFolds.{fold-roll-Expr, map-Expr, ind-Expr}
-use Rattle.tla_meaning.specs.declared.op.Op.{Op}
+use Rattle.tla_evaluator.proofs.Words.{Assignable, Expr, Expr-F, Meaning, Op, Place, Value, Width, any_mentions, bind, bound_to, denotations, except_marks, fold-roll-Expr, ind-Expr, inner, list_any, map-Expr, outer, roll-Expr}
 use Rattle.tla_meaning.specs.declared.op.Op.TheVariants as op
-use Rattle.tla_meaning.specs.declared.place.Place.{Place}
-use Rattle.tla_meaning.specs.Actions.{any_mentions}
-use Rattle.tla_meaning.specs.Meaning.{Meaning, denotations, except_marks, outer, inner}
-use Rattle.tla_meaning.specs.Numbers.{Width}
-use Rattle.tla_meaning.specs.Scopes.{bind, bound_to}
 use Rattle.tla_evaluator.specs.inner.Mentions.{mentioned_at, mentions}
 use Rattle.tla_evaluator.specs.Trees.{expanded_meaning, expanded_node, scope_at}
 

@@ -1,10 +1,6 @@
 -- Whether a tree holds a name that counts, by its node.
 use Rattle.std.proofs.Common.{◌≡◌, ℕ, Bool, true, ◌&&◌, ◌||◌, List, [], ◌∷◌, map, refl, ap, ◌∙◌, sym}
-use Rattle.std.specs.List.{list_any}
-use Rattle.tla_meaning.specs.declared.actions.Assignable.{Assignable}
-use Rattle.tla_meaning.specs.declared.expr.Expr.{Expr, out-Expr}
-use Rattle.tla_meaning.specs.declared.expr.Expr.TheFolds.{fold_out-Expr}
-use Rattle.tla_meaning.specs.declared.op.Op.{Op}
+use Rattle.tla_evaluator.proofs.Words.{Assignable, Expr, Op, fold_out-Expr, list_any, out-Expr}
 use Rattle.tla_meaning.specs.declared.op.Op.TheVariants as op
 use Rattle.tla_evaluator.specs.Trees.{is_expanded_op}
 use Rattle.tla_evaluator.specs.inner.Mentions.{mentioned_at, mentions}

@@ -1,29 +1,13 @@
 -- What an evaluation computes at each node, by the outcomes of its children.
 use Rattle.std.proofs.Common.{◌≡◌, ℕ, suc, Bool, true, false, IsTrue, List, [], ◌∷◌, ◌++◌, map, take, drop, replicate, length, refl, ap, ap₂, ◌∙◌, sym, Some, ℤ, if◌then◌else◌}
-use Rattle.tla_values.specs.declared.value.Value.{Value}
+use Rattle.tla_evaluator.proofs.Words.{Denotation, Expr, Formed, Meaning, Op, Outcome, Place, Scope, State, Update, Val, Value, Wrong, all_indexes, bind, bound_table, bound_to, case_chosen, child, choices, conjoined, denotation_of, denotations, disjoined, drop-map, except, except_marks, find_last, first_updated, fold_over, forms, if_chosen, implied, in_form, inner, map-append, number, on_all_sets, out-Expr, outcomes, outer, over_members, read, role, strict, table, take-map, updates, value_found, values, view}
 use Rattle.tla_values.specs.declared.value.Value.TheVariants as value
-use Rattle.tla_meaning.specs.declared.expr.Expr.{Expr, out-Expr}
-use Rattle.tla_meaning.specs.declared.job.State.{State}
-use Rattle.tla_meaning.specs.declared.op.Op.{Op}
 use Rattle.tla_meaning.specs.declared.op.Op.TheVariants as op
-use Rattle.tla_meaning.specs.declared.outcome.Outcome.{Outcome}
-use Rattle.tla_meaning.specs.declared.outcome.Outcome.TheVariants.{Val, Wrong}
-use Rattle.tla_meaning.specs.declared.place.Place.{Place}
-use Rattle.tla_meaning.specs.Actions.{denotation_of}
-use Rattle.tla_meaning.specs.Meaning.{Meaning, Update, all_indexes, bound_table, case_chosen, conjoined, disjoined, except, except_marks, first_updated, fold_over, forms, if_chosen, implied, in_form, inner, child, outcomes, outer, over_members, read, role, denotations, updates, view}
-use Rattle.tla_meaning.specs.Numbers.{number}
-use Rattle.tla_meaning.specs.Operators.{on_all_sets, table}
-use Rattle.tla_meaning.specs.Outcomes.{strict, values}
-use Rattle.tla_meaning.specs.Scopes.{Scope, Denotation, bind, bound_to, find_last, value_found}
-use Rattle.tla_meaning.specs.Shapes.{choices}
-use Rattle.tla_meaning.specs.Forms.{Formed}
 use Rattle.tla_evaluator.specs.inner.Nodes.{bound_at, except_at, fold_at, index_trees, membership_test, node_in, paths_at, updates_at}
 use Rattle.tla_evaluator.specs.inner.Readings.{Reading, value_in}
 use Rattle.tla_evaluator.specs.Trees.{first_at, first_form_at, forms_at, expanded_meaning, outcomes_at, scope_at, is_expanded_op, value_at}
-use Rattle.tla_evaluator.proofs.TreeLemmas.{first_given, forms_given, here_given, inner_back, inner_child, outcomes_given, outer_back, outer_front, sense_at, sense_gone, take_map, drop_map}
-
-pub false≢true : false ≡ true → ⊥
-false≢true e = cc
+use Rattle.tla_evaluator.proofs.BranchLemmas.{case_value, if_value}
+use Rattle.tla_evaluator.proofs.TreeLemmas.{first_given, forms_given, here_given, inner_back, inner_child, outcomes_given, outer_back, outer_front, sense_at, sense_gone}
 
 module _ (w : ℕ) (p : Place) (xs : List (List ℕ)) (vars : List (List ℕ × Value)) (s t : State) where
   abbrev pub children : List Expr → List Meaning
@@ -51,25 +35,17 @@ module _ (w : ℕ) (p : Place) (xs : List (List ℕ)) (vars : List (List ℕ × 
       (child p n (inner p (replicate n false ++ true ∷ ms) (children es) (bind xs vs scope))).value s t ≡ first_at w p (drop n es) (vars ++ bound_to xs vs) s t
   under_value n ms vs es =
       ap (λ (a : Denotation). a.value s t) (inner_child p n ms (children es) (bind xs vs scope)
-      ∙ ap (λ (ks : List Meaning). child p 0 (denotations ks (bind xs vs scope))) (drop_map (expanded_meaning (Some w)) n es))
+      ∙ ap (λ (ks : List Meaning). child p 0 (denotations ks (bind xs vs scope))) (drop-map (expanded_meaning (Some w)) n es))
       ∙ first_given w (vars ++ bound_to xs vs) s t p (drop n es)
 
   front_outcomes : (n : ℕ) (ms : List Bool) (es : List Expr) →
       outcomes (take n (outer p (replicate n false ++ true ∷ ms) (children es) scope)) s t ≡ outcomes_at w (take n es) vars s t
   front_outcomes n ms es =
       ap (λ (as' : List Denotation). outcomes as' s t) (outer_front p n ms (children es) scope
-      ∙ ap (λ (ks : List Meaning). denotations ks scope) (take_map (expanded_meaning (Some w)) n es))
+      ∙ ap (λ (ks : List Meaning). denotations ks scope) (take-map (expanded_meaning (Some w)) n es))
       ∙ outcomes_given w vars s t (take n es)
 
   -- ---- EXCEPT
-
-  outcomes_plus : (as' bs : List Denotation) → outcomes (as' ++ bs) s t ≡ outcomes as' s t ++ outcomes bs s t
-  outcomes_plus [] bs = refl
-  outcomes_plus (a ∷ as') bs = ap (λ (os : List Outcome). a.value s t ∷ os) (outcomes_plus as' bs)
-
-  outcomes_both : (es fs : List Expr) → outcomes_at w es vars s t ++ outcomes_at w fs vars s t ≡ outcomes_at w (es ++ fs) vars s t
-  outcomes_both [] fs = refl
-  outcomes_both (e ∷ es) fs = ap (λ (os : List Outcome). value_at w e vars s t ∷ os) (outcomes_both es fs)
 
   indexes_given : (ns : List ℕ) (es : List Expr) →
       outcomes (all_indexes ns (outer p (except_marks ns) (children es) scope)) s t ≡ outcomes_at w (index_trees ns es) vars s t
@@ -77,12 +53,12 @@ module _ (w : ℕ) (p : Place) (xs : List (List ℕ)) (vars : List (List ℕ × 
   indexes_given (n ∷ ns) es =
       let all : List Denotation = outer p (except_marks (n ∷ ns)) (children es) scope in
       let rest : List Denotation = outer p (except_marks ns) (children (drop (suc n) es)) scope in
-      outcomes_plus (take n all) (all_indexes ns (drop (suc n) all))
+      map-append (λ a. a.value s t) (take n all) (all_indexes ns (drop (suc n) all))
       ∙ ap₂ (λ (os qs : List Outcome). os ++ qs) (front_outcomes n (except_marks ns) es)
       (ap (λ (as' : List Denotation). outcomes (all_indexes ns as') s t) (outer_back p n (except_marks ns) (children es) scope
-      ∙ ap (λ (ks : List Meaning). outer p (except_marks ns) ks scope) (drop_map (expanded_meaning (Some w)) (suc n) es))
+      ∙ ap (λ (ks : List Meaning). outer p (except_marks ns) ks scope) (drop-map (expanded_meaning (Some w)) (suc n) es))
       ∙ indexes_given ns (drop (suc n) es))
-      ∙ outcomes_both (take n es) (index_trees ns (drop (suc n) es))
+      ∙ sym (map-append (λ e. value_at w e vars s t) (take n es) (index_trees ns (drop (suc n) es)))
 
   abbrev underneath : List Bool → List Expr → List Value → List Denotation
   underneath ms es vs = inner p ms (children es) (bind xs vs scope)
@@ -95,8 +71,8 @@ module _ (w : ℕ) (p : Place) (xs : List (List ℕ)) (vars : List (List ℕ × 
       ap₂ (λ (u : Update) (us : List Update). u ∷ us)
       (ap₂ (λ (vs : List Value) (f : Value → Outcome). (vs, f)) (ap values (front_outcomes n ms es)) (λ i. λ old. under_value n ms (old ∷ []) es i))
       (ap₂ (λ (as' : List Denotation) (f : List Value → List Denotation). updates p ns as' f s t)
-      (outer_back p n ms (children es) scope ∙ ap (λ (ks : List Meaning). outer p ms ks scope) (drop_map (expanded_meaning (Some w)) (suc n) es))
-      (λ i. λ vs. (inner_back p n ms (children es) (bind xs vs scope) ∙ ap (λ (ks : List Meaning). inner p ms ks (bind xs vs scope)) (drop_map (expanded_meaning (Some w)) (suc n) es)) i)
+      (outer_back p n ms (children es) scope ∙ ap (λ (ks : List Meaning). outer p ms ks scope) (drop-map (expanded_meaning (Some w)) (suc n) es))
+      (λ i. λ vs. (inner_back p n ms (children es) (bind xs vs scope) ∙ ap (λ (ks : List Meaning). inner p ms ks (bind xs vs scope)) (drop-map (expanded_meaning (Some w)) (suc n) es)) i)
       ∙ updates_given ns (drop (suc n) es))
 
   except_given : (ns : List ℕ) (es : List Expr) →
@@ -114,7 +90,7 @@ module _ (w : ℕ) (p : Place) (xs : List (List ℕ)) (vars : List (List ℕ × 
       (fold_over p (λ a b. (child p 0 (inner p (true ∷ []) (children es) (bind xs (a ∷ b ∷ []) scope))).value s t))
   fold_given es =
       sym (ap₂ (λ (os : List Outcome) (f : Value → Value → Outcome). strict os (fold_over p f))
-      (ap (λ (as' : List Denotation). outcomes as' s t) (outer_back p 0 [] (children es) scope ∙ ap (λ (ks : List Meaning). outer p [] ks scope) (drop_map (expanded_meaning (Some w)) 1 es))
+      (ap (λ (as' : List Denotation). outcomes as' s t) (outer_back p 0 [] (children es) scope ∙ ap (λ (ks : List Meaning). outer p [] ks scope) (drop-map (expanded_meaning (Some w)) 1 es))
       ∙ here_outcomes (drop 1 es))
       (λ i. λ a b. under_value 0 [] (a ∷ b ∷ []) es i))
 
@@ -193,8 +169,8 @@ node_is r e = by (out-Expr e).op refl
     by op.And is = by_children r.width e r.bound r.state r.next op.And is refl (λ os fs. conjoined (out-Expr e).place os) refl
     by op.Or is = by_children r.width e r.bound r.state r.next op.Or is refl (λ os fs. disjoined (out-Expr e).place os) refl
     by op.Implies is = by_children r.width e r.bound r.state r.next op.Implies is refl (λ os fs. implied (out-Expr e).place os) refl
-    by op.If is = by_children r.width e r.bound r.state r.next op.If is refl (λ os fs. if_chosen (out-Expr e).place os) refl
-    by (op.Case other) is = by_children r.width e r.bound r.state r.next (op.Case other) is refl (λ os fs. case_chosen (out-Expr e).place os) refl
+    by op.If is = if_value r (out-Expr e).place (out-Expr e).args ∙ by_children r.width e r.bound r.state r.next op.If is refl (λ os fs. if_chosen (out-Expr e).place os) refl
+    by (op.Case other) is = case_value r (out-Expr e).place (out-Expr e).args ∙ by_children r.width e r.bound r.state r.next (op.Case other) is refl (λ os fs. case_chosen (out-Expr e).place os) refl
     by op.In is = by_children r.width e r.bound r.state r.next op.In is refl (in_form (out-Expr e).place (membership_test op.In (out-Expr e).place)) refl
     by op.NotIn is = by_children r.width e r.bound r.state r.next op.NotIn is refl (in_form (out-Expr e).place (membership_test op.NotIn (out-Expr e).place)) refl
     by op.SubsetEq is = by_children r.width e r.bound r.state r.next op.SubsetEq is refl (in_form (out-Expr e).place (membership_test op.SubsetEq (out-Expr e).place)) refl

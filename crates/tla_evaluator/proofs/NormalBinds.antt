@@ -1,12 +1,6 @@
 -- Bound names have normal values, where the domains are normal.
 use Rattle.std.proofs.Common.{◌≡◌, ℕ, false, List, [], ◌∷◌, ◌++◌, Option, Some, None, option_map, subst, sym}
-use Rattle.std.specs.List.{All, AllByRecursion}
-use Rattle.std.proofs.lemmas.List.Elements.{All-from_recursion, recursion_from_All, All-append, All-weaker}
-use Rattle.tla_values.specs.Sets.{Normal}
-use Rattle.tla_values.specs.declared.value.Value.{Value}
-use Rattle.tla_meaning.specs.declared.job.State.{State}
-use Rattle.tla_meaning.specs.Scopes.{bound_to}
-use Rattle.tla_meaning.specs.Shapes.{choices, all_set_items}
+use Rattle.tla_evaluator.proofs.Words.{All, All-append, All-from_recursion, All-weaker, AllByRecursion, Normal, State, Value, all_set_items, bound_to, choices, recursion_from_All}
 use Rattle.tla_meaning.proofs.NormalShapes.{Normals, NormalSet, NormalLists, IfSomes, truth_normal, all_items_normal, choices_normal, lists_of}
 use Rattle.tla_evaluator.specs.Trees.{AreNormal}
 

@@ -1,5 +1,6 @@
 -- Numbers outside a width, and powers.
 use Rattle.std.proofs.Common.{◌≡◌, ℕ, zero, suc, ◌+◌, ◌-◌, ◌*◌, ◌^◌, ◌<◌, ◌≤◌, true, false, nat_lt, ℤ, pos, negsuc, ◌*ℤ◌, ◌+ℤ◌, ◌≤ℤ◌, nat_abs, Some, refl, ap, ◌∙◌, sym, subst, arith, FitsSigned, cond, min, Bool, add-one, ◌-ℤ◌, ◌<ℤ◌, int_le, if◌then◌else◌, ◌%◌, ◌/◌, to_z, of_z}
+use Rattle.tla_evaluator.proofs.Words.{Big, Place, Val, in_width, number, power_of}
 use mir.Syntax.{w128}
 use Rattle.std.proofs.lemmas.Bool.{le-ltb, lt-ltb, ltb-false, ltb-true}
 use Rattle.std.proofs.lemmas.Int.{ints, to_z-of_z, unsigned_abs-mul}
@@ -7,10 +8,7 @@ use Rattle.std.proofs.Math.Pow.{pow_mono}
 use Rattle.std.proofs.Math.Nat.{one-le-pow}
 use Rattle.std.specs.Int.RustNames.{unsigned_abs}
 use Rattle.std.specs.Int.{saturate_signed}
-use Rattle.tla_meaning.specs.declared.place.Place.{Place}
-use Rattle.tla_meaning.specs.declared.outcome.Outcome.TheVariants.{Big, Val}
 use Rattle.tla_values.specs.declared.value.Value.TheVariants as value
-use Rattle.tla_meaning.specs.Numbers.{in_width, power_of, number}
 
 -- the number of 128 bits that is nearest to z is in the same widths
 module _ (w : ℕ) (le : w ≤ 64) where

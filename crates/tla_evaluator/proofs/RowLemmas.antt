@@ -1,28 +1,17 @@
 -- What the rows of sets, ranges and sequences make.
 use Rattle.std.proofs.Common.{◌≡◌, ℕ, zero, suc, ◌+◌, ◌≤◌, List, [], ◌∷◌, ◌++◌, length, refl, ap, ◌∙◌, sym, subst, ℤ, pos, ◌+ℤ◌, arith, ◌<ℤ◌, add-one, Option, Some, None, option_map, Result, Ok, Err}
 use Rattle.std.specs.Prelude.{IfOk}
-use Rattle.std.specs.List.{All}
+use Rattle.tla_evaluator.proofs.Words.{All, Int, IsNormalOutcome, Normal, Op, Outcome, Place, Set, Value, Width, Wrong, all_set_items, from_on, items_of, numbered, on_all_sets, on_items, range, recursion_from_All, results, set_of, table, union_all, union_of}
 use Rattle.std.proofs.lemmas.Int.{ints}
-use Rattle.std.proofs.lemmas.List.Elements.{recursion_from_All}
-use Rattle.tla_values.specs.Sets.{Normal, set_of, union_of}
-use Rattle.tla_values.specs.declared.value.Value.{Value, Int, Set}
 use Rattle.tla_values.proofs.SetLaws.{set_of-append}
-use Rattle.tla_meaning.specs.declared.op.Op.{Op}
-use Rattle.tla_meaning.specs.Shapes.{items_of, numbered, union_all, all_set_items}
-use Rattle.tla_meaning.specs.Numbers.{Width, from_on, range}
-use Rattle.tla_meaning.specs.declared.place.Place.{Place}
-use Rattle.tla_meaning.specs.declared.outcome.Outcome.{Outcome}
-use Rattle.tla_meaning.specs.declared.outcome.Outcome.TheVariants.{Wrong}
-use Rattle.tla_meaning.specs.Operators.{on_all_sets, on_items, table}
-use Rattle.tla_meaning.specs.Outcomes.{IsNormalOutcome}
 use Rattle.tla_meaning.proofs.NormalTable.{table_normal}
 use Rattle.tla_evaluator.proofs.NumberLemmas.{size, out_size}
 use Rattle.std.specs.Option.{ok_or}
-use Rattle.tla_evaluator.specs.declared.stops.Stop.{Stop}
-use Rattle.tla_evaluator.specs.declared.stops.Stop.TheVariants as stop
+use Rattle.tla_evaluator.specs.declared.answers.Stop.{Stop}
+use Rattle.tla_evaluator.specs.declared.answers.Stop.TheVariants as stop
 use Rattle.tla_evaluator.specs.inner.Gives.{Gives}
 use Rattle.tla_evaluator.specs.inner.Results.{all_of}
-use Rattle.tla_meaning.specs.Forms.{results}
+use Rattle.std.proofs.lemmas.Option.{same_Some}
 
 abbrev Pair : Type 0
 Pair = Value × Value
@@ -47,9 +36,6 @@ pub union_all_is : (xss : List (List Value)) → union_all xss ≡ set_of (all_o
 union_all_is [] = refl
 union_all_is (xs ∷ xss) = ap (union_of xs) (union_all_is xss) ∙ sym (set_of-append xs (all_of xss))
 
-some_is : {X : Type 0} (x y : X) → Some x ≡ Some y → x ≡ y
-some_is x y e = cc
-
 -- what is made of the items of all sets, where there are such, and what stops it else
 module _ {X Y : Type 0} (h : List (List Value) → X) (g : Y → X) (p : Place) (f : List (List Value) → Outcome) (vs : List Value) (o : Option Y) where
   pub sets_give : (y : Y) (q : Outcome) → option_map h (all_set_items vs) ≡ option_map g o → o ≡ Some y →
@@ -58,7 +44,7 @@ module _ {X Y : Type 0} (h : List (List Value) → X) (g : Y → X) (p : Place) 
     where
       found : (l : Option (List (List Value))) → option_map h l ≡ Some (g y) → elim l [ None ↦ Wrong p | Some xss ↦ f xss ] ≡ q
       found None k = absurd (cc)
-      found (Some xss) k = go xss (some_is (h xss) (g y) k)
+      found (Some xss) k = go xss (same_Some (h xss) (g y) k)
 
   pub sets_stop : (s : Stop) → option_map h (all_set_items vs) ≡ option_map g o → Err s ≡ ok_or o (stop.Wrong p) → Gives (on_all_sets p f vs) (Err s)
   sets_stop s e is = lost o (all_set_items vs) e is

@@ -1,29 +1,14 @@
 -- What stops an evaluation.
-use Rattle.std.proofs.Common.{◌≡◌, ℕ, ◌++◌, append-nil, ap₂, cond, option_and_then, if◌then◌else◌, ◌+◌, ◌*◌, ◌<◌, ◌≤◌, Bool, true, false, List, [], ◌∷◌, map, drop, get_or, length, refl, ap, ◌∙◌, sym, subst, Result, Ok, Err, arith}
+use Rattle.std.proofs.Common.{◌≡◌, ℕ, ◌++◌, append-nil, ap₂, option_and_then, if◌then◌else◌, ◌+◌, ◌<◌, ◌≤◌, Bool, true, false, List, [], ◌∷◌, map, drop, get_or, length, refl, ap, ◌∙◌, sym, subst, Result, Ok, Err, arith}
 use Rattle.std.specs.Prelude.{IfOk}
-use Rattle.std.specs.List.{All}
-use Rattle.tla_values.specs.Sets.{Normal}
-use Rattle.tla_values.specs.declared.value.Value.{Value}
-use Rattle.tla_meaning.specs.declared.outcome.Fault.{Fault}
-use Rattle.tla_meaning.specs.declared.outcome.Fault.TheVariants.{NoFault, IsWrong, IsBig}
-use Rattle.tla_meaning.specs.declared.outcome.Outcome.{Outcome}
+use Rattle.tla_evaluator.proofs.Words.{All, Broken, Expr, Fault, Formed, IsBig, IsWrong, Made, NoFault, Normal, Outcome, Place, SetForm, Update, Value, all_set_forms, both_unit, choose, conjoined, disjoined, fault_of, fault_or, fault_or_form, first_updated, form_fault, form_faults, form_of_all, function_form, functions_from, implied, in_form, is_set_form, join_faults, joined, layer_of, made, map-append, out-Value, set_items, strict, updated, values, yes_no}
 use Rattle.tla_meaning.specs.declared.outcome.Outcome.TheVariants as outcome
-use Rattle.tla_meaning.specs.declared.place.Place.{Place}
-use Rattle.tla_values.specs.declared.value.Value.{out-Value}
-use Rattle.tla_meaning.specs.declared.forms.SetForm.{SetForm}
-use Rattle.tla_meaning.specs.Forms.{Broken, Formed, Made, all_set_forms, fault_or_form, form_fault, form_faults, is_set_form, made}
-use Rattle.tla_meaning.specs.Shapes.{set_items}
-use Rattle.tla_meaning.proofs.Joins.{both_unit}
-use Rattle.tla_meaning.specs.Meaning.{Update, form_of_all, form_of_one, plain, function_form, functions_from, in_form, layer_of, case_chosen, choose, conjoined, disjoined, first_updated, implied, updated}
-use Rattle.tla_meaning.specs.Operators.{yes_no}
-use Rattle.tla_meaning.specs.Outcomes.{fault_of, fault_or, join_faults, joined, strict, values}
-use Rattle.tla_evaluator.specs.declared.stops.Stop.{Stop}
-use Rattle.tla_evaluator.specs.declared.stops.Stop.TheVariants.{Wrong, Big, Memory}
+use Rattle.tla_evaluator.specs.declared.answers.Stop.{Stop}
+use Rattle.tla_evaluator.specs.declared.answers.Stop.TheVariants.{Wrong, Big, Memory}
 use Rattle.tla_evaluator.specs.inner.Gives.{Gives, GivesAll, GivesForm, GivesForms, Joins, both}
-use Rattle.tla_meaning.specs.declared.expr.Expr.{Expr}
 use Rattle.tla_evaluator.specs.inner.Nodes.{except_in, index_trees, junction, paths_in, updates_in}
 use Rattle.tla_evaluator.specs.inner.Readings.{Reading, outcomes_in, value_in}
-use Rattle.tla_evaluator.proofs.EvalSteps.{chosen, map_next, same_item, two_next}
+use Rattle.tla_evaluator.proofs.EvalSteps.{chosen, map_next}
 
 pub gives_as : (r : Result Value Stop) {x y : Outcome} → x ≡ y → Gives x r → Gives y r
 gives_as r e h = subst (λ o. Gives o r) e h
@@ -42,15 +27,6 @@ module _ {X : Type 0} (f : X → Outcome) (xs : List X) where
       by : (d : Bool) → Gives (junction d p (f x ∷ map f (drop (i + 1) xs))) (Err s)
       by true = h (yes_no true) (disjoined p (map f (drop (i + 1) xs)))
       by false = h (conjoined p (map f (drop (i + 1) xs))) (yes_no false)
-
-  pub case_stops : (s : Stop) (p : Place) (i : ℕ) (x : X) → 2 * i + 1 < length xs → x ≡ get_or xs (2 * i) x →
-      ((y z : Outcome) → Gives (choose p (f x) y z) (Err s)) → case_chosen p (map f (drop (2 * i) xs)) ≡ case_chosen p (map f xs) →
-      Gives (case_chosen p (map f xs)) (Err s)
-  case_stops s p i x lt is h k =
-      let y : X = get_or xs (2 * i + 1) x in
-      let rest : List Outcome = map f (drop (2 * (i + 1)) xs) in
-      subst (λ o. Gives o (Err s)) (ap (case_chosen p) (sym (two_next f xs i x y lt is (same_item xs (2 * i + 1) x lt))) ∙ k)
-      (h (f y) (case_chosen p rest))
 
 -- ---- what joins its operands
 
@@ -99,11 +75,14 @@ value_fault (Err (Wrong p)) o h = ap fault_of h
 value_fault (Err (Big p)) o h = ap fault_of h
 value_fault (Err (Memory e)) o h = tt
 
-pub no_form_faults : (gs : List SetForm) → form_faults (map (λ g. Made g) gs) ≡ NoFault
+abbrev pub formed : List SetForm → List Formed
+formed gs = map (λ g. Made g) gs
+
+pub no_form_faults : (gs : List SetForm) → form_faults (formed gs) ≡ NoFault
 no_form_faults [] = refl
 no_form_faults (g ∷ gs) = no_form_faults gs
 
-pub made_all : (gs : List SetForm) → made (map (λ g. Made g) gs) ≡ gs
+pub made_all : (gs : List SetForm) → made (formed gs) ≡ gs
 made_all [] = refl
 made_all (g ∷ gs) = ap (λ l. g ∷ l) (made_all gs)
 
@@ -124,23 +103,6 @@ gives_all_as a {f = f} {ys = ys} e d h = subst (λ k. GivesAll k ys a) e (subst 
 pub given_normal : (a : Result (List Value) Stop) (f : Fault) (xs : List Value) → GivesAll f xs a → All Normal xs → IfOk a (λ vs. All Normal vs)
 given_normal (Ok vs) f xs h k = subst (λ l. All Normal l) h.1 k
 given_normal (Err s) f xs h k = tt
-
--- ---- one form
-
-pub only_item : {X : Type 0} (xs : List X) (a : X) → 1 ≤ length xs → length xs < 2 → a ≡ get_or xs 0 a → xs ≡ a ∷ []
-only_item [] a low high is = absurd (omega (arith, low))
-only_item (x ∷ []) a low high is = ap (λ z. z ∷ []) (sym is)
-only_item (x ∷ y ∷ xs) a low high is = absurd (omega (arith, high))
-
-pub plain_stops : (s : Stop) (o : Outcome) → Gives o (Err s) → GivesForm (plain o) (Err s)
-plain_stops (Wrong p) o h = ap plain h
-plain_stops (Big p) o h = ap plain h
-plain_stops (Memory e) o h = tt
-
-pub one_form_stops : (s : Stop) (p : Place) (make : SetForm → SetForm) (f : Formed) → GivesForm f (Err s) → GivesForm (form_of_one p make (f ∷ [])) (Err s)
-one_form_stops (Wrong q) p make f h = ap (λ g. form_of_one p make (g ∷ [])) h
-one_form_stops (Big q) p make f h = ap (λ g. form_of_one p make (g ∷ [])) h
-one_form_stops (Memory e) p make f h = tt
 
 -- ---- memberships
 
@@ -176,12 +138,9 @@ module _ (p : Place) (os : List Outcome) (d : Formed) (a : Result Value Stop) (b
 
 -- ---- forms that are each a set form
 
-pub set_forms_are : (p : Place) (fs : List Formed) (gs : List SetForm) (b : Bool) → fs ≡ map (λ g. Made g) gs → b ≡ all_set_forms gs → (make : List SetForm → SetForm) →
-    form_of_all p make fs ≡ (if b then Made (make gs) else Broken (IsWrong p))
-set_forms_are p fs gs b e h make =
-    ap (form_of_all p make) e
-    ∙ ap₂ (λ f hs. fault_or_form f (if all_set_forms hs then Made (make hs) else Broken (IsWrong p))) (no_form_faults gs) (made_all gs)
-    ∙ ap (λ b. cond b (Made (make gs)) (Broken (IsWrong p))) (sym h)
+pub several_are : (p : Place) (make : List SetForm → SetForm) (gs : List SetForm) →
+    form_of_all p make (map (λ g. Made g) gs) ≡ (if all_set_forms gs then Made (make gs) else Broken (IsWrong p))
+several_are p make gs = ap₂ (λ f hs. fault_or_form f (if all_set_forms hs then Made (make hs) else Broken (IsWrong p))) (no_form_faults gs) (made_all gs)
 
 -- ---- two operands
 
@@ -267,20 +226,13 @@ never_none (IsBig q) NoFault h e = h refl
 never_none (IsBig q) (IsWrong r) h e = cc
 never_none (IsBig q) (IsBig r) h e = cc
 
-abbrev pub formed : List SetForm → List Formed
-formed gs = map (λ g. Made g) gs
-
 -- without a fault every form so far was made
 pub joins_form : (a : Result SetForm Stop) (d : Formed) (f g : Fault) (xs ys : List SetForm) → GivesForm d a → Joins f xs a g ys →
     (g ≡ join_faults f (form_fault d)) × (g ≡ NoFault → (f ≡ NoFault) × (formed ys ≡ formed xs ++ d ∷ []))
 joins_form (Ok v) d f g xs ys h k = (
   k.0 ∙ sym (both_unit f) ∙ ap (λ q. join_faults f (form_fault q)) (sym h),
-  λ none. (sym k.0 ∙ none, ap formed k.1 ∙ more xs v ∙ ap (λ q. formed xs ++ q ∷ []) (sym h)),
+  λ none. (sym k.0 ∙ none, ap formed k.1 ∙ map-append (λ g. Made g) xs (v ∷ []) ∙ ap (λ q. formed xs ++ q ∷ []) (sym h)),
 )
-  where
-    more : (xs : List SetForm) (v : SetForm) → formed (xs ++ v ∷ []) ≡ formed xs ++ Made v ∷ []
-    more [] v = refl
-    more (x ∷ xs) v = ap (λ l. Made x ∷ l) (more xs v)
 joins_form (Err (Wrong p)) d f g xs ys h k =
     (k.0 ∙ ap (λ q. join_faults f (form_fault q)) (sym h), λ none. absurd (never_none f (IsWrong p) (λ e. cc) (sym k.0 ∙ none)))
 joins_form (Err (Big p)) d f g xs ys h k =

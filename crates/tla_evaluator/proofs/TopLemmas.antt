@@ -1,30 +1,14 @@
 -- What a whole job's parts give, by the effects and outcomes of its expanded trees.
 use Rattle.std.specs.Prelude.{IfOk, IfSome, option_copied, unwrap_or}
-use Rattle.tla_values.specs.Sets.{Normal}
-use Rattle.std.proofs.Common.{Bor, Option, None, Result, Ok, Err, ◌≡◌, ℕ, Bool, true, false, IsTrue, List, [], ◌∷◌, ◌++◌, Some, suc, ◌+◌, ◌<◌, add-one, drop, drop-cons, get_or, length, map, take, refl, ap, ap₂, ◌∙◌, sym, subst}
-use Rattle.std.specs.List.{All}
-use Rattle.std.proofs.lemmas.List.Elements.{All-more}
-use Rattle.tla_meaning.specs.declared.expr.Expr.{Expr}
-use Rattle.tla_values.specs.declared.value.Value.{Value}
+use Rattle.std.proofs.Common.{Bor, Option, None, Result, Ok, Err, ◌≡◌, ℕ, Bool, true, false, not, IsTrue, List, [], ◌∷◌, Some, ◌+◌, ◌<◌, drop, get_or, length, map, take, refl, ap, ◌∙◌, sym, subst}
+use Rattle.tla_evaluator.proofs.Words.{All, All-more, Assignable, Big, Constants, Denotation, Effect, Expr, IsNormalOutcome, IsYes, Normal, Outcome, PrimedVariables, State, Val, Value, Variables, Wrong, act, both_unit, constants, effect_of, effects_and, false≢true, first_not_yes, get_or_default, in_cinit, in_init, is_yes, meaning, next, no_scope, outcome_of, scope_of, start, val}
 use Rattle.tla_meaning.specs.declared.job.Env.{Env}
 use Rattle.tla_meaning.specs.declared.job.Job.{Job}
-use Rattle.tla_meaning.specs.declared.job.State.{State}
-use Rattle.tla_meaning.specs.declared.outcome.Fault.{Fault}
-use Rattle.tla_meaning.specs.declared.outcome.Outcome.{Outcome}
-use Rattle.tla_meaning.specs.declared.outcome.Outcome.TheVariants.{Val, Wrong, Big}
-use Rattle.tla_meaning.specs.Actions.{act, effect_of, effects_and, meaning, outcome_of, val}
-use Rattle.tla_meaning.specs.Executions.{IsYes, constants, first_not_yes, in_cinit, in_init, is_yes, next, no_scope, scope_of, start}
-use Rattle.tla_meaning.specs.Scopes.{Denotation}
-use Rattle.tla_meaning.proofs.Joins.{both_unit}
-use Rattle.tla_meaning.proofs.Views.{false≢true}
-use Rattle.tla_meaning.specs.declared.actions.Assignable.{Assignable}
-use Rattle.tla_meaning.specs.declared.actions.Assignable.TheVariants.{Constants, PrimedVariables, Variables}
-use Rattle.tla_meaning.specs.declared.actions.Effect.{Effect}
 use Rattle.tla_evaluator.specs.inner.Effects.{behind}
 use Rattle.tla_evaluator.specs.Trees.{AreNormal, effect_at, is_expanded, value_at}
-use Rattle.tla_evaluator.proofs.ActionNodes.{behind_twice, get_or-default}
+use Rattle.tla_evaluator.proofs.ActionNodes.{and_holds, and_stops, is_not, not_not}
+use Rattle.tla_evaluator.proofs.EvalSteps.{map_next}
 use Rattle.tla_evaluator.proofs.ExpandedLaws.{expanded_is, value_normal}
-use Rattle.tla_meaning.specs.Outcomes.{IsNormalOutcome}
 
 -- ---- one tree
 
@@ -65,92 +49,46 @@ next_is w n job s t is h =
 
 -- ---- the start
 
--- one effect, and the next where it holds
-abbrev chain : Effect → Effect → Effect
-chain f g = elim f.holds [ true ↦ behind f.fault g | false ↦ f ]
-
-chain_on : (f g : Effect) → f.holds ≡ true → chain f g ≡ behind f.fault g
-chain_on f g h = ap (λ (b : Bool). elim b as (λ _. Effect) [ true ↦ behind f.fault g | false ↦ f ]) h
-
-chain_off : (f g : Effect) → f.holds ≡ false → chain f g ≡ f
-chain_off f g h = ap (λ (b : Bool). elim b as (λ _. Effect) [ true ↦ behind f.fault g | false ↦ f ]) h
-
-chain_behind : (h : Fault) (f g : Effect) → behind h (chain f g) ≡ chain (behind h f) g
-chain_behind h f g = go f.holds refl
-  where
-    go : (b : Bool) → f.holds ≡ b → behind h (chain f g) ≡ chain (behind h f) g
-    go true e = ap (behind h) (chain_on f g e) ∙ sym (behind_twice h f.fault g) ∙ sym (chain_on (behind h f) g e)
-    go false e = ap (behind h) (chain_off f g e) ∙ sym (chain_off (behind h f) g e)
-
-chain_twice : (f g h : Effect) → chain f (chain g h) ≡ chain (chain f g) h
-chain_twice f g h = go f.holds refl
-  where
-    go : (b : Bool) → f.holds ≡ b → chain f (chain g h) ≡ chain (chain f g) h
-    go true e = chain_on f (chain g h) e ∙ chain_behind f.fault g h ∙ ap (λ x. chain x h) (sym (chain_on f g e))
-    go false e = chain_off f (chain g h) e ∙ sym (chain_off f h e) ∙ ap (λ x. chain x h) (sym (chain_off f g e))
-
-and_append : (fs gs : List Effect) → effects_and (fs ++ gs) ≡ chain (effects_and fs) (effects_and gs)
-and_append [] gs = refl
-and_append (f ∷ fs) gs = ap (chain f) (and_append fs gs) ∙ chain_twice f (effects_and fs) (effects_and gs)
-
 and_one : (f : Effect) → effects_and (f ∷ []) ≡ f
 and_one f = go f.holds refl
   where
     go : (b : Bool) → f.holds ≡ b → effects_and (f ∷ []) ≡ f
-    go true e = chain_on f (effects_and []) e ∙ (λ i. record { holds = sym e i; fault = both_unit f.fault i })
-    go false e = chain_off f (effects_and []) e
+    go true e = and_holds f [] e ∙ (λ i. record { holds = sym e i; fault = both_unit f.fault i })
+    go false e = and_stops f [] e
 
-module _ (w : ℕ) (s : State) where
-  abbrev assumed : Expr → Effect
-  assumed e = effect_of (value_at w e [] s s)
+module _ (w : ℕ) (s : State) (job : Job) (n : ℕ) where
+  abbrev pub first : Effect
+  first = effect_at w (Constants n) job.cinit [] s s
 
-  assumed_is : (e : Expr) → IsTrue (is_expanded e) → effect_of (val (Some w) e no_scope s s) ≡ assumed e
-  assumed_is e h = ap effect_of (sym (val_is w e s s h))
+  abbrev pub second : Effect
+  second = effect_of (value_at w job.assume [] s s)
 
-  module _ (job : Job) (n : ℕ) where
-    abbrev pub first : Effect
-    first = effect_at w (Constants n) job.cinit [] s s
+  abbrev pub third : Effect
+  third = effect_at w (Variables n) job.init [] s s
 
-    abbrev pub second : Effect
-    second = assumed job.assume
-
-    abbrev pub third : Effect
-    third = effect_at w (Variables n) job.init [] s s
-
-    start_chain : n ≡ constants job → IsTrue (is_expanded job.cinit) → IsTrue (is_expanded job.assume) → IsTrue (is_expanded job.init) →
-        start (Some w) job s ≡ outcome_of (chain (chain first second) third)
-    start_chain is c a i =
+  module _ (is : n ≡ constants job) (c : IsTrue (is_expanded job.cinit)) (a : IsTrue (is_expanded job.assume)) (i : IsTrue (is_expanded job.init)) where
+    start_from : (f g r : Effect) → f ≡ first → g ≡ second → r ≡ third → outcome_of (effects_and (f ∷ g ∷ r ∷ [])) ≡ start (Some w) job s
+    start_from f g r ef eg er =
         let one = effect_is w (Constants n) (in_cinit job) job.cinit s s c (ap (λ k. (Constants k)) is) in
+        let two = ap effect_of (val_is w job.assume s s a) in
         let last = effect_is w (Variables n) (in_init job) job.init s s i (ap (λ k. (Variables k)) is) in
-        let middle = assumed_is job.assume a in
-        ap (λ f. outcome_of (effects_and (f ∷ effect_of (val (Some w) job.assume no_scope s s) ∷ (meaning (Some w) job.init no_scope).act (in_init job) s s ∷ []))) one
-        ∙ ap (λ f. outcome_of (effects_and (first ∷ f ∷ (meaning (Some w) job.init no_scope).act (in_init job) s s ∷ []))) middle
-        ∙ ap (λ f. outcome_of (effects_and (first ∷ second ∷ f ∷ []))) last
-        ∙ ap outcome_of (and_append (first ∷ second ∷ []) (third ∷ []))
-        ∙ ap₂ (λ f g. outcome_of (chain (chain first f) g)) (and_one second) (and_one third)
+        λ j. outcome_of (effects_and ((ef ∙ sym one) j ∷ (eg ∙ two) j ∷ (er ∙ sym last) j ∷ []))
 
-    module _ (is : n ≡ constants job) (c : IsTrue (is_expanded job.cinit)) (a : IsTrue (is_expanded job.assume)) (i : IsTrue (is_expanded job.init)) where
-      -- CInit does not hold
-      pub stops_first : (f : Effect) → f ≡ first → f.holds ≡ false → outcome_of f ≡ start (Some w) job s
-      stops_first f e h =
-          let off : first.holds ≡ false = sym (ap (λ (x : Effect). x.holds) e) ∙ h in
-          ap outcome_of (e ∙ sym (chain_off first third off) ∙ ap (λ x. chain x third) (sym (chain_off first second off))) ∙ sym (start_chain is c a i)
+    -- CInit does not hold
+    pub stops_first : (f : Effect) → f ≡ first → not f.holds ≡ true → outcome_of f ≡ start (Some w) job s
+    stops_first f e off = ap outcome_of (sym (and_stops f (second ∷ third ∷ []) (is_not f.holds off))) ∙ start_from f second third e refl refl
 
-      -- an assumption does not hold
-      pub stops_second : (f g : Effect) → f ≡ first → f.holds ≡ true → g ≡ behind f.fault second → g.holds ≡ false →
-          outcome_of g ≡ start (Some w) job s
-      stops_second f g e h k off =
-          let on : first.holds ≡ true = sym (ap (λ (x : Effect). x.holds) e) ∙ h in
-          let so_far : g ≡ chain first second = k ∙ ap (λ (x : Effect). behind x.fault second) e ∙ sym (chain_on first second on) in
-          ap outcome_of (sym (chain_off g third off) ∙ ap (λ x. chain x third) so_far) ∙ sym (start_chain is c a i)
+    -- an assumption does not hold
+    pub stops_second : (f g : Effect) → f ≡ first → not f.holds ≡ false → g ≡ second → not g.holds ≡ true → outcome_of (behind f.fault g) ≡ start (Some w) job s
+    stops_second f g e on k off =
+        ap outcome_of (sym (and_holds f (g ∷ third ∷ []) (not_not f.holds on) ∙ ap (behind f.fault) (and_stops g (third ∷ []) (is_not g.holds off)))) ∙ start_from f g third e k refl
 
-      -- all goes on up to Init
-      pub goes_on : (f g r : Effect) → f ≡ first → f.holds ≡ true → g ≡ behind f.fault second → g.holds ≡ true →
-          r ≡ behind g.fault third → outcome_of r ≡ start (Some w) job s
-      goes_on f g r e h k on last =
-          let on_first : first.holds ≡ true = sym (ap (λ (x : Effect). x.holds) e) ∙ h in
-          let so_far : g ≡ chain first second = k ∙ ap (λ (x : Effect). behind x.fault second) e ∙ sym (chain_on first second on_first) in
-          ap outcome_of (last ∙ sym (chain_on g third on) ∙ ap (λ x. chain x third) so_far) ∙ sym (start_chain is c a i)
+    -- all goes on up to Init
+    pub goes_on : (f g r : Effect) → f ≡ first → not f.holds ≡ false → g ≡ second → not g.holds ≡ false → r ≡ third →
+        outcome_of (behind f.fault (behind g.fault r)) ≡ start (Some w) job s
+    goes_on f g r e on k also l =
+        ap outcome_of (sym (and_holds f (g ∷ r ∷ []) (not_not f.holds on) ∙ ap (behind f.fault) (and_holds g (r ∷ []) (not_not g.holds also) ∙ ap (behind g.fault) (and_one r))))
+        ∙ start_from f g r e k l
 
 -- ---- invariants
 
@@ -170,11 +108,7 @@ module _ (w : ℕ) (s : State) (invs : List (List ℕ × Expr)) where
     outcome_is = e ∙ val_is w x.1 s s (subst (λ (y : List ℕ × Expr). IsTrue (is_expanded y.1)) (sym is) (expanded i x lt))
 
     from_here : map at (drop i invs) ≡ o ∷ map at (drop (i + 1) invs)
-    from_here =
-        ap (map at) (drop-cons invs i x lt)
-        ∙ ap (λ y. at y ∷ map at (drop (suc i) invs)) (sym is)
-        ∙ ap (λ y. y ∷ map at (drop (suc i) invs)) (sym outcome_is)
-        ∙ ap (λ n. o ∷ map at (drop n invs)) (sym (add-one i))
+    from_here = map_next at invs i x o lt is outcome_is
 
     pub yes_before : is_yes o ≡ true → All (λ e. IsYes (at e)) (take i invs) → All (λ e. IsYes (at e)) (take (i + 1) invs)
     yes_before h k =
@@ -189,7 +123,7 @@ module _ (w : ℕ) (s : State) (invs : List (List ℕ × Expr)) where
         sym (ap first_not_yes from_here ∙ ap (λ (b : Bool). elim b as (λ _. Outcome) [ true ↦ first_not_yes (map at (drop (i + 1) invs)) | false ↦ o ]) h) ∙ k
 
     pub no_at : is_yes o ≡ false → (d : List ℕ × Expr) → i < length invs → (o ≡ at (get_or invs i d)) × (IsYes o → ⊥)
-    no_at h d lt' = (outcome_is ∙ ap at (is ∙ get_or-default invs i x d lt), λ yes. absurd (false≢true (sym h ∙ yes)))
+    no_at h d lt' = (outcome_is ∙ ap at (is ∙ get_or_default invs i x d lt), λ yes. absurd (false≢true (sym h ∙ yes)))
 
 -- ---- the next state, where there is one
 

@@ -1,19 +1,7 @@
 -- What an evaluation computes at a node, by the outcomes of its children.
-use Rattle.std.specs.List.{list_all}
+use Rattle.tla_evaluator.proofs.Words.{Denotation, Expr, Expr-F, Formed, Meaning, Op, Outcome, Place, Scope, State, Value, Width, absent, child, denotation_of, denotations, fold_out-Expr, forms, inner, list_all, map-Expr, node, out-Expr, outcomes, outer, role, view}
+use Rattle.std.proofs.lemmas.List.Folds.{list_all-map}
 use Rattle.std.proofs.Common.{◌&&◌, ◌≡◌, ℕ, zero, suc, Bool, true, false, IsTrue, List, [], ◌∷◌, ◌++◌, map, take, drop, replicate, length, refl, ap, ◌∙◌, sym, Some}
-use Rattle.tla_values.specs.declared.value.Value.{Value}
-use Rattle.tla_meaning.specs.declared.expr.Expr.{Expr, out-Expr}
-use Rattle.tla_meaning.specs.declared.expr.Expr.TheOpen.{Expr-F}
-use Rattle.tla_meaning.specs.declared.expr.Expr.TheFolds.{fold_out-Expr, map-Expr}
-use Rattle.tla_meaning.specs.declared.job.State.{State}
-use Rattle.tla_meaning.specs.declared.op.Op.{Op}
-use Rattle.tla_meaning.specs.declared.outcome.Outcome.{Outcome}
-use Rattle.tla_meaning.specs.declared.place.Place.{Place}
-use Rattle.tla_meaning.specs.Actions.{node, denotation_of}
-use Rattle.tla_meaning.specs.Forms.{Formed}
-use Rattle.tla_meaning.specs.Meaning.{Meaning, forms, inner, child, outcomes, outer, role, denotations, view}
-use Rattle.tla_meaning.specs.Numbers.{Width}
-use Rattle.tla_meaning.specs.Scopes.{Scope, Denotation, absent}
 use Rattle.tla_evaluator.specs.Trees.{first_at, forms_at, form_at, is_expanded, expanded_meaning, expanded_node, outcomes_at, scope_at, is_expanded_op, value_at}
 
 pub expanded_meaning-out : (w : Width) (e : Expr) → expanded_meaning w e ≡ expanded_node w (map-Expr Expr Meaning (expanded_meaning w) (out-Expr e))
@@ -39,17 +27,13 @@ sense_gone w e sc h =
 
 -- ---- expanded trees
 
-all_mapped : {X : Type 0} (f : X → Bool) (xs : List X) → list_all (λ b. b) (map f xs) ≡ list_all f xs
-all_mapped f [] = refl
-all_mapped f (x ∷ xs) = ap (λ b. f x && b) (all_mapped f xs)
-
 -- a node that is_expanded_op is expanded where its children are
 pub expanded_then : (e : Expr) (es : List Expr) → es ≡ (out-Expr e).args → IsTrue (is_expanded_op (out-Expr e).op) → list_all is_expanded es ≡ is_expanded e
 expanded_then e es same h =
     ap (list_all is_expanded) same
     ∙ sym (fold_out-Expr Bool (λ x. is_expanded_op x.op && list_all (λ b. b) x.args) e
     ∙ ap (λ b. b && list_all (λ b. b) (map is_expanded (out-Expr e).args)) h
-    ∙ all_mapped is_expanded (out-Expr e).args)
+    ∙ list_all-map (λ b. b) is_expanded (out-Expr e).args)
 
 -- ---- the children of a node
 
@@ -86,16 +70,6 @@ inner_child p zero ms [] sc = refl
 inner_child p zero ms (k ∷ ks) sc = refl
 inner_child p (suc n) ms [] sc = refl
 inner_child p (suc n) ms (k ∷ ks) sc = inner_child p n ms ks sc
-
-pub take_map : {X Y : Type 0} (f : X → Y) (n : ℕ) (xs : List X) → take n (map f xs) ≡ map f (take n xs)
-take_map f zero xs = refl
-take_map f (suc n) [] = refl
-take_map f (suc n) (x ∷ xs) = ap (λ l. f x ∷ l) (take_map f n xs)
-
-pub drop_map : {X Y : Type 0} (f : X → Y) (n : ℕ) (xs : List X) → drop n (map f xs) ≡ map f (drop n xs)
-drop_map f zero xs = refl
-drop_map f (suc n) [] = refl
-drop_map f (suc n) (x ∷ xs) = drop_map f n xs
 
 module _ (w : ℕ) (vars : List (List ℕ × Value)) (s t : State) where
   abbrev pub given : List Expr → List Denotation

@@ -1,6 +1,6 @@
 -- Parts of a list of trees are no deeper than the list.
 use Rattle.std.proofs.Common.{ℕ, zero, suc, ◌≤◌, List, [], ◌∷◌, drop, take, arith}
-use denote.Param.Weighed.{most}
+use Rattle.tla_evaluator.proofs.Words.{most}
 
 pub most-take : {X : Type 0} (f : X → ℕ) (n : ℕ) (xs : List X) → most f (take n xs) ≤ most f xs
 most-take f zero xs = omega arith

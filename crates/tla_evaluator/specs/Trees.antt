@@ -1,14 +1,12 @@
 -- What an evaluation computes: the meaning of expanded trees, where bound names have values and nothing is defined.
-use Rattle.std.specs.Prelude.{ℕ, Bool, true, false, ◌&&◌, List, [], ◌∷◌, map, Some}
-use Rattle.std.specs.List.{All, list_all}
+use Rattle.std.specs.Prelude.{ℕ, true, false, List, [], ◌∷◌, map, Some}
+use Rattle.std.specs.List.{All}
 use Rattle.tla_values.specs.Sets.{Normal}
 use Rattle.tla_values.specs.declared.value.Value.{Value}
 use Rattle.tla_meaning.specs.declared.expr.Expr.{Expr}
 use Rattle.tla_meaning.specs.declared.expr.Expr.TheOpen.{Expr-F}
 use Rattle.tla_meaning.specs.declared.expr.Expr.TheFolds.{fold-Expr}
 use Rattle.tla_meaning.specs.declared.job.State.{State}
-use Rattle.tla_meaning.specs.declared.op.Op.{Op}
-use Rattle.tla_meaning.specs.declared.op.Op.TheVariants as op
 use Rattle.tla_meaning.specs.declared.outcome.Fault.TheVariants.{IsWrong}
 use Rattle.tla_meaning.specs.declared.outcome.Outcome.{Outcome}
 use Rattle.tla_meaning.specs.declared.outcome.Outcome.TheVariants.{Wrong}
@@ -20,20 +18,7 @@ use Rattle.tla_meaning.specs.Forms.{Broken, Formed}
 use Rattle.tla_meaning.specs.Meaning.{Meaning}
 use Rattle.tla_meaning.specs.Numbers.{Width}
 use Rattle.tla_meaning.specs.Scopes.{Scope, absent}
-
--- the operators that are left after expansion
-abbrev pub is_expanded_op : Op → Bool
-is_expanded_op (op.Use x) = false
-is_expanded_op (op.Param x) = false
-is_expanded_op (op.Let ds) = false
-is_expanded_op op.Prime = false
-is_expanded_op op.Unchanged = false
-is_expanded_op op.Boxed = false
-is_expanded_op op.Angled = false
-is_expanded_op o = true
-
-abbrev pub is_expanded : Expr → Bool
-is_expanded = fold-Expr Bool (λ x. is_expanded_op x.op && list_all (λ b. b) x.args)
+pub use Rattle.tla_meaning.specs.Expanded.{is_expanded, is_expanded_op}
 
 -- such a node means what it means, and every other one nothing
 abbrev pub expanded_node : Width → Expr-F Meaning → Meaning

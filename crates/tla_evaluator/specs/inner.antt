@@ -1,4 +1,5 @@
 pub mod Bound
+pub mod Branches
 pub mod Effects
 pub mod Excepts
 pub mod Families
@@ -7,5 +8,4 @@ pub mod Mentions
 pub mod Nodes
 pub mod Readings
 pub mod Results
-pub mod SetForms
 pub mod Truths

@@ -2,17 +2,16 @@
 ghost use Rattle.std.specs.List.{All};
 ghost use Rattle.std.specs.Prelude.{◌≡◌, IfOk, map};
 ghost use Rattle.tla_values.specs.Sets.{Normal};
-ghost use Rattle.tla_values.specs.declared.value.Value.{out-Value};
-ghost use Rattle.tla_meaning.specs.Actions.{case_effect, effect_of, effects_and, effects_or, fails_by, if_effect, is_true};
+ghost use Rattle.tla_meaning.specs.declared.actions.Effect.{Effect as Given};
+ghost use Rattle.tla_meaning.specs.Actions.{effect_of, effects_and, effects_or, fails_by};
 ghost use Rattle.tla_evaluator.specs.inner.Effects.{act_in, acts, body_in, either, exists_in, first_effect_in};
-ghost use Rattle.tla_evaluator.specs.inner.Gives.{FailsBy};
-ghost use Rattle.tla_evaluator.specs.inner.Readings.{effect_in, effects_in, outcomes_in, value_in};
+ghost use Rattle.tla_evaluator.specs.inner.Gives.{GivesEffect};
+ghost use Rattle.tla_evaluator.specs.inner.Readings.{effect_in, effects_in, value_in};
 
+use crate::answers::{Answer, Stop, Stored, join_faults};
 use crate::context::Context;
 use crate::expressions::Site;
-use crate::outcomes::join_faults;
 use crate::sets::choices_of;
-use crate::stops::{Stop, Stored};
 use crate::trees::{after, any_mentions, front};
 use tla_meaning::{Assignable, Effect, Expr, Fault, Op, Place};
 use tla_values::{List, Value};
@@ -29,23 +28,15 @@ fn fails_by(fault: Fault) -> Effect
     effect(false, fault)
 }
 
-// The effect of what stops a part.
-fn stopped(stop: Stop) -> Stored<Effect>
-    ensures { IfOk result (FailsBy stop) }
+// The effect that is given, or that of what stops it.
+pub(crate) fn settled(answer: Answer<Effect>) -> Stored<Effect>
+    ensures { (f : Given) → GivesEffect f answer → IfOk result (λ g. g ≡ f) }
 {
-    match stop {
-        Stop::Wrong(p) => Ok(fails_by(Fault::IsWrong(p))),
-        Stop::Big(p) => Ok(fails_by(Fault::IsBig(p))),
-        Stop::Memory(e) => Err(e),
-    }
-}
-
-fn is_true(v: &Value) -> bool
-    ensures { result ≡ is_true (out-Value v.now) }
-{
-    match v {
-        Value::Bool(b) => *b,
-        _ => false,
+    match answer {
+        Ok(f) => Ok(f),
+        Err(Stop::Wrong(p)) => Ok(fails_by(Fault::IsWrong(p))),
+        Err(Stop::Big(p)) => Ok(fails_by(Fault::IsBig(p))),
+        Err(Stop::Memory(e)) => Err(e),
     }
 }
 
@@ -68,16 +59,14 @@ fn is_action(op: &Op, args: &[Expr], assigned: Assignable) -> bool
 
 impl Context<'_> {
     // By the outcome of a tree.
-    pub(crate) fn by_value(&self, e: &Expr) -> Stored<Effect>
-        ensures { IfOk result (λ f. f ≡ effect_of (value_in self.now e.now)) }
+    pub(crate) fn by_value(&self, e: &Expr) -> Answer<Effect>
+        ensures { GivesEffect (effect_of (value_in self.now e.now)) result }
     {
-        match self.value(e) {
-            Ok(v) => Ok(effect(is_true(&v), Fault::NoFault)),
-            Err(stop) => stopped(stop),
-        }
+        let value = self.value(e)?;
+        Ok(effect(matches!(value, Value::Bool(true)), Fault::NoFault))
     }
 
-    // The effect of an action.
+    // The effect of a tree.
     #[cycle(action)]
     pub(crate) fn action(&self, e: &Expr, assigned: Assignable) -> Stored<Effect>
         ensures { IfOk result (λ f. f ≡ effect_in self.now assigned e.now) }
@@ -86,39 +75,37 @@ impl Context<'_> {
         let names = e.binds.as_slice();
         let args = e.args.as_slice();
         if is_action(&e.op, args, assigned) {
-            self.act(&e.op, Site { place, names }, args, assigned)
+            settled(self.act(&e.op, Site { place, names }, args, assigned))
         } else {
-            self.by_value(e)
+            settled(self.by_value(e))
         }
     }
 
     // The effect of a node that acts by its parts.
     #[cycle(action)]
-    fn act(&self, op: &Op, site: Site<'_>, args: &[Expr], assigned: Assignable) -> Stored<Effect>
-        ensures { IfOk result
-            (λ f. f ≡ act_in self.now assigned site.entry.place op.now site.entry.names.now
-            args.now) }
+    fn act(&self, op: &Op, site: Site<'_>, args: &[Expr], assigned: Assignable) -> Answer<Effect>
+        ensures { GivesEffect (act_in self.now assigned site.entry.place op.now
+            site.entry.names.now args.now) result }
     {
         let place = site.place;
         match op {
-            Op::And => self.all_effects(args, assigned),
+            Op::And => Ok(self.all_effects(args, assigned)?),
             Op::Exists => self.exists_effect(args, site, assigned),
-            Op::Or => self.some_effect(args, assigned),
-            Op::If => self.if_effect(args, place, assigned),
-            Op::Case(_) => self.case_effect(args, place, assigned),
+            Op::Or => Ok(self.some_effect(args, assigned)?),
+            Op::If | Op::Case(_) => Ok(self.action(self.branch(op, place, args)?, assigned)?),
             Op::Noted(_) => self.first_effect(args, place, assigned),
-            _ => Ok(fails_by(Fault::IsWrong(place))),
+            _ => Err(Stop::Wrong(place)),
         }
     }
 
     // The first of these trees.
     #[cycle(action)]
-    fn first_effect(&self, trees: &[Expr], place: Place, assigned: Assignable) -> Stored<Effect>
-        ensures { IfOk result (λ f. f ≡ first_effect_in self.now assigned place trees.now) }
+    fn first_effect(&self, trees: &[Expr], place: Place, assigned: Assignable) -> Answer<Effect>
+        ensures { GivesEffect (first_effect_in self.now assigned place trees.now) result }
     {
         match trees {
-            [e, ..] => self.action(e, assigned),
-            [] => Ok(fails_by(Fault::IsWrong(place))),
+            [e, ..] => Ok(self.action(e, assigned)?),
+            [] => Err(Stop::Wrong(place)),
         }
     }
 
@@ -151,58 +138,17 @@ impl Context<'_> {
         Ok(all)
     }
 
-    // IF: a CASE of one guard with an OTHER.
-    #[cycle(action)]
-    fn if_effect(&self, args: &[Expr], place: Place, assigned: Assignable) -> Stored<Effect>
-        ensures { IfOk result
-            (λ f. f ≡ if_effect place (outcomes_in self.now args.now)
-            (effects_in self.now assigned args.now)) }
-    {
-        if args.len() == 3 {
-            self.case_effect(args, place, assigned)
-        } else {
-            Ok(fails_by(Fault::IsWrong(place)))
-        }
-    }
-
-    // The branch behind the first guard that is TRUE, or else that of OTHER.
-    #[cycle(action)]
-    fn case_effect(&self, args: &[Expr], place: Place, assigned: Assignable) -> Stored<Effect>
-        ensures { IfOk result
-            (λ f. f ≡ case_effect place (outcomes_in self.now args.now)
-            (effects_in self.now assigned args.now)) }
-    {
-        let mut i = 0;
-        while i + 1 < args.len() {
-            match self.guard(&args[i], place) {
-                Ok(true) => return self.action(&args[i + 1], assigned),
-                Ok(false) => i += 2,
-                Err(stop) => return stopped(stop),
-            }
-        }
-        match args.get(i) {
-            Some(other) => self.action(other, assigned),
-            None => Ok(fails_by(Fault::IsWrong(place))),
-        }
-    }
-
     // A fault of the domains, or else the body over all members.
     #[cycle(action)]
-    fn exists_effect(&self, args: &[Expr], site: Site<'_>, assigned: Assignable) -> Stored<Effect>
-        ensures { IfOk result
-            (λ f. f ≡ exists_in self.now assigned site.entry.place site.entry.names.now args.now) }
+    fn exists_effect(&self, args: &[Expr], site: Site<'_>, assigned: Assignable) -> Answer<Effect>
+        ensures { GivesEffect (exists_in self.now assigned site.entry.place site.entry.names.now
+            args.now) result }
     {
-        let count = site.names.len();
-        match self.operands(front(args, count)) {
-            Ok(domains) => match choices_of(self.alloc, domains.as_slice())? {
-                Some(choices) => {
-                    let trees = after(args, count);
-                    self.body_effects(site, trees, choices.as_slice(), assigned)
-                }
-                None => Ok(fails_by(Fault::IsWrong(site.place))),
-            },
-            Err(stop) => stopped(stop),
-        }
+        let domains = self.operands(front(args, site.names.len()))?;
+        let alloc = self.alloc;
+        let choices = choices_of(alloc, domains.as_slice())?.ok_or(Stop::Wrong(site.place))?;
+        let trees = after(args, site.names.len());
+        self.body_effects(site, trees, choices.as_slice(), assigned)
     }
 
     // The body at each choice of values for the names.
@@ -213,16 +159,15 @@ impl Context<'_> {
         trees: &[Expr],
         choices: &[List<Value>],
         assigned: Assignable,
-    ) -> Stored<Effect>
+    ) -> Answer<Effect>
         requires { All (λ c. All Normal c) choices.now }
-        ensures { IfOk result
-            (λ f. f ≡ effects_or (map (body_in self.now assigned site.entry.place trees.now
-            site.entry.names.now) choices.now)) }
+        ensures { GivesEffect (effects_or (map (body_in self.now assigned site.entry.place trees.now
+            site.entry.names.now) choices.now)) result }
     {
         let mut all = fails_by(Fault::NoFault);
         for choice in choices {
             let inner = (&*self).with(&*site.names, choice.as_slice())?;
-            let one = inner.first_effect(trees, site.place, assigned)?;
+            let one = settled(inner.first_effect(trees, site.place, assigned))?;
             all = either(all, one);
         }
         Ok(all)

@@ -1,16 +1,15 @@
 // What a binder gives of its choices and of the body's value at each.
 ghost use Rattle.std.specs.List.{list_all, list_any};
-ghost use Rattle.std.specs.Prelude.{◌≡◌, ◌+◌, ◌++◌, ◌∷◌, [], Bool as Truth, IfOk, List as Items, OnOk, drop, map, option_map, zip};
+ghost use Rattle.std.specs.Prelude.{◌++◌, ◌+◌, ◌∷◌, ◌≡◌, [], Bool as Truth, IfOk, List as Items, OnOk, drop, map, option_map, zip};
 ghost use Rattle.tla_meaning.specs.Meaning.{argument, bound_table, kept, truths};
 ghost use Rattle.tla_meaning.specs.Shapes.{the_function};
 ghost use Rattle.tla_evaluator.specs.inner.Gives.{Gives};
 ghost use Rattle.tla_evaluator.specs.inner.Truths.{GivesTruths};
 
-use crate::functions::function_of;
-use crate::records::paired;
+use crate::answers::{Answer, Stop, Stored};
+use crate::functions::{function_of, paired};
 use crate::sequences::sequence;
 pub(crate) use crate::sets::choices_of;
-use crate::stops::{Answer, Stop, Stored};
 use std::alloc::Global;
 use tla_meaning::{Op, Place};
 use tla_values::{List, Value, copy_onto, copy_value, set_of};

@@ -1,15 +1,15 @@
 // What an evaluation reads.
 ghost use Rattle.std.specs.List.{All};
-ghost use Rattle.std.specs.Prelude.{◌≡◌, [], ◌≤◌, ◌++◌, IfOk, OnOk, false, if◌then◌else◌, option_copied, unwrap_or};
+ghost use Rattle.std.specs.Prelude.{◌++◌, ◌≡◌, ◌≤◌, [], IfOk, OnOk, false, if◌then◌else◌, option_copied, unwrap_or};
 ghost use Rattle.tla_values.specs.Sets.{Normal};
 ghost use Rattle.tla_meaning.specs.Meaning.{read};
 ghost use Rattle.tla_meaning.specs.Scopes.{bound_to, find_last, same_text, value_found};
 ghost use Rattle.tla_evaluator.specs.Trees.{AreNormal};
 ghost use Rattle.tla_evaluator.specs.inner.Gives.{Gives};
-ghost use Rattle.tla_evaluator.specs.inner.Readings.{IsReadable, with_names};
+ghost use Rattle.tla_evaluator.specs.inner.Readings.{IsReadable, IsWidth, with_names};
 ghost use Rattle.tla_evaluator.specs.inner.Bound.{bindings};
 
-use crate::stops::{Answer, Stop, Stored};
+use crate::answers::{Answer, Stop, Stored};
 use std::alloc::Global;
 use std::marker::Model;
 use tla_meaning::{Place, State};
@@ -56,8 +56,7 @@ impl<'a> Context<'a> {
         next: &'a State,
         width: u32,
     ) -> Context<'a>
-        requires narrow { width ≤ 64 }
-        requires wide { 4 ≤ width }
+        requires sized { IsWidth width }
         requires normal { AreNormal (bindings bound.items) state.now next.now }
         ensures { result ≡ record {
           bound = bindings bound.entry.items;
@@ -77,8 +76,7 @@ impl<'a> Context<'a> {
 
     // No bound names.
     pub(crate) fn unbound(alloc: Global, state: &'a State, next: &'a State, width: u32) -> Self
-        requires narrow { width ≤ 64 }
-        requires wide { 4 ≤ width }
+        requires sized { IsWidth width }
         requires now { All Normal state.now.vals }
         requires next { All Normal next.now.vals }
         ensures { result ≡ record { bound = []; state = state.now; next = next.now; width = width } }

@@ -4,7 +4,7 @@ ghost use Rattle.tla_values.specs.Sets.{Normal};
 ghost use Rattle.tla_meaning.specs.Meaning.{at_path, set_path};
 ghost use Rattle.tla_evaluator.specs.inner.Excepts.{reached_of};
 
-use crate::stops::Stored;
+use crate::answers::Stored;
 use std::alloc::Global;
 use tla_values::{Value, apply, copy_value, override_at};
 

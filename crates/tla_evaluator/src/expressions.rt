@@ -1,31 +1,30 @@
 // Expressions, as their meaning says. An operator that is named here does not just join its operands; every other
 // one joins them and then has its row of the table.
-ghost use Rattle.std.specs.Prelude.{◌≡◌, ◌∷◌, [], IfOk, Some};
+ghost use denote.Param.Weighed.{most};
+ghost use Rattle.std.specs.Prelude.{◌∷◌, ◌≡◌, ◌≤◌, [], IfOk, Some, ℕ};
 ghost use Rattle.std.specs.List.{All};
 ghost use Rattle.tla_values.specs.Sets.{Normal};
 ghost use Rattle.tla_meaning.specs.Forms.{results};
-ghost use Rattle.tla_meaning.specs.Meaning.{case_chosen, folded, form_of_one, function_form, if_chosen, implied, in_form, updated};
+ghost use Rattle.tla_meaning.specs.Meaning.{folded, function_form, implied, in_form, updated};
 ghost use Rattle.tla_meaning.specs.Operators.{table};
 ghost use Rattle.tla_meaning.specs.Outcomes.{joined, strict, values};
+ghost use Rattle.tla_evaluator.specs.inner.Branches.{GivesBranch, branch_in, is_malformed};
 ghost use Rattle.tla_evaluator.specs.inner.Gives.{Gives, GivesAll, GivesForm, GivesForms, Guards, Updates};
-ghost use Rattle.tla_evaluator.specs.inner.SetForms.{GivesSetForms};
-ghost use Rattle.tla_evaluator.specs.inner.Nodes.{bodies_in, bound_in, except_in, fold_in, form_node, index_trees, junction, membership_test, node_in, one_form, paths_in, update_in, updates_in};
+ghost use Rattle.tla_evaluator.specs.inner.Nodes.{bodies_in, bound_in, except_in, fold_in, form_node, index_trees, junction, membership_test, node_in, paths_in, update_in, updates_in};
 ghost use Rattle.tla_evaluator.specs.inner.Readings.{first_in, form_in, forms_in, outcomes_in, value_in, with_names};
 
+use crate::answers::{Answer, Joined, Stop, Stored, all_of, both, join, join_faults, nothing};
 use crate::binders::{bound_table, choices_of};
 use crate::context::Context;
 use crate::excepts::{Reached, at_path, set_path};
+use crate::forms::{form_of_several, functions_from, one_form, tested};
 use crate::functions::Pair;
-use crate::memberships::{all_set_forms, functions_from, one_form, tested};
 use crate::numbers::number;
-use crate::operands::value_and_items;
-use crate::operators::row_of;
-use crate::outcomes::{Joined, all_of, both, join, join_faults, nothing, truth};
-use crate::stops::{Answer, Stop, Stored};
-use crate::trees::{after, front, has_form};
+use crate::operators::{row_of, value_and_items};
+use crate::trees::{after, front};
 use std::alloc::Global;
 use tla_meaning::{Expr, Fault, Op, Place, SetForm};
-use tla_values::{List, Text, Value, copy_text, copy_texts, copy_value};
+use tla_values::{List, Text, Value, copy_text, copy_value};
 
 // The place of a node and the names that it binds.
 #[derive(Clone, Copy, Drop)]
@@ -64,15 +63,17 @@ impl Context<'_> {
             Op::And => self.junction(false, place, args),
             Op::Or => self.junction(true, place, args),
             Op::Implies => self.implication(place, args),
-            Op::If => self.conditional(place, args),
-            Op::Case(_) => self.cases(place, args),
+            Op::If | Op::Case(_) => self.value(self.branch(op, place, args)?),
             Op::In | Op::NotIn | Op::SubsetEq => self.membership(op, place, args),
             Op::Exists | Op::Forall | Op::Filter | Op::MapTo | Op::Lambda => self.binder(
                 op, site, args,
             ),
             Op::Except(counts) => self.except(counts.as_slice(), site, args),
             Op::Fold => self.fold(site, args),
-            Op::Noted(_) => self.first(place, args),
+            Op::Noted(_) => match args {
+                [noted, ..] => self.value(noted),
+                [] => Err(Stop::Wrong(place)),
+            },
             Op::Use(_) | Op::Param(_) | Op::Let(_) | Op::Prime => Err(Stop::Wrong(place)),
             Op::Unchanged | Op::Boxed | Op::Angled => Err(Stop::Wrong(place)),
             _ => self.strict(op, place, args),
@@ -81,20 +82,12 @@ impl Context<'_> {
 
     // The truth value of a tree.
     #[cycle(eval)]
-    pub(crate) fn guard(&self, e: &Expr, place: Place) -> Answer<bool>
+    fn guard(&self, e: &Expr, place: Place) -> Answer<bool>
         ensures { Guards place (value_in self.now e.now) result }
     {
-        truth(self.value(e)?, place)
-    }
-
-    // The first of these trees.
-    #[cycle(eval)]
-    fn first(&self, place: Place, trees: &[Expr]) -> Answer<Value>
-        ensures { Gives (first_in self.now place trees.now) result }
-    {
-        match trees {
-            [e, ..] => self.value(e),
-            [] => Err(Stop::Wrong(place)),
+        match self.value(e)? {
+            Value::Bool(b) => Ok(b),
+            _ => Err(Stop::Wrong(place)),
         }
     }
 
@@ -106,7 +99,10 @@ impl Context<'_> {
             site.entry.place trees.now) result }
     {
         let inner = (&*self).with(&*site.names, &*values)?;
-        inner.first(site.place, trees)
+        match trees {
+            [e, ..] => inner.value(e),
+            [] => Err(Stop::Wrong(site.place)),
+        }
     }
 
     // All operands, joined.
@@ -174,31 +170,23 @@ impl Context<'_> {
         }
     }
 
-    // IF: a CASE of one guard with an OTHER.
+    // The branch behind the first guard that is TRUE, or else that of OTHER; IF has one guard and both.
     #[cycle(eval)]
-    fn conditional(&self, place: Place, trees: &[Expr]) -> Answer<Value>
-        ensures { Gives (if_chosen place (outcomes_in self.now trees.now)) result }
+    pub(crate) fn branch<'e>(&self, op: &Op, place: Place, trees: &'e [Expr]) -> Answer<&'e Expr>
+        ensures branch { GivesBranch (branch_in self.now place op.now trees.now) result }
+        ensures deep { IfOk result (λ e. (f : Expr → ℕ) → f e.now ≤ most f trees.now) }
     {
-        if trees.len() == 3 {
-            self.cases(place, trees)
-        } else {
-            Err(Stop::Wrong(place))
+        if is_malformed(op, trees) {
+            return Err(Stop::Wrong(place));
         }
-    }
-
-    // Guards in order, each with its branch; a tree alone at the end is that of OTHER.
-    #[cycle(eval)]
-    fn cases(&self, place: Place, trees: &[Expr]) -> Answer<Value>
-        ensures { Gives (case_chosen place (outcomes_in self.now trees.now)) result }
-    {
         let arms = trees.len() / 2;
         for i in 0..arms {
             let holds = self.guard(&trees[2 * i], place)?;
             if holds {
-                return self.value(&trees[2 * i + 1]);
+                return Ok(&trees[2 * i + 1]);
             }
         }
-        self.first(place, after(trees, 2 * arms))
+        trees.get(2 * arms).ok_or(Stop::Wrong(place))
     }
 
     // `\in`, `\notin` and `\subseteq`: a value and a set form.
@@ -253,15 +241,21 @@ impl Context<'_> {
         ensures { Gives (except_in self.now site.entry.place counts.now site.entry.names.now
             args.now) result }
     {
-        match args {
-            [function, ..] => {
-                self.is_readable();
-                let rest = after(args, 1);
-                let (start, found) = both(self.value(function), self.indexes(counts, rest))?;
-                self.updated(site, rest, found.as_slice(), start)
-            }
-            [] => Err(Stop::Wrong(site.place)),
+        let [function, ..] = args else {
+            return Err(Stop::Wrong(site.place));
+        };
+        self.is_readable();
+        let trees = after(args, 1);
+        let (start, found) = both(self.value(function), self.indexes(counts, trees))?;
+        let paths = found.as_slice();
+        let mut result = start;
+        let mut rest = trees;
+        for (n, path) in paths {
+            let sides = after(rest, *n);
+            result = self.update(site, sides, path.as_slice(), result)?;
+            rest = after(sides, 1);
         }
+        Ok(result)
     }
 
     #[cycle(eval)]
@@ -281,24 +275,6 @@ impl Context<'_> {
         all_of(Joined { fault, items })
     }
 
-    // Each update to the result so far.
-    #[cycle(eval)]
-    fn updated(&self, site: Site<'_>, trees: &[Expr], paths: &[Path], start: Value) -> Answer<Value>
-        requires { Normal start }
-        ensures { Gives (updated site.entry.place
-            (updates_in self.now site.entry.place site.entry.names.now paths.now trees.now) start)
-            result }
-    {
-        let mut result = start;
-        let mut rest = trees;
-        for (n, path) in paths {
-            let sides = after(rest, *n);
-            result = self.update(site, sides, path.as_slice(), result)?;
-            rest = after(sides, 1);
-        }
-        Ok(result)
-    }
-
     // One update. Where the path leaves the domain nothing changes, and the right side is not evaluated.
     #[cycle(eval)]
     fn update(&self, site: Site<'_>, sides: &[Expr], path: &[Value], value: Value) -> Answer<Value>
@@ -310,7 +286,7 @@ impl Context<'_> {
         match at_path(&value, path) {
             Reached::At(old) => {
                 self.is_readable();
-                let olds = one_value(self.alloc, old)?;
+                let olds = vec![in self.alloc; copy_value(self.alloc, old)?]?;
                 let new = self.under(site, sides, olds.as_slice())?;
                 Ok(set_path(self.alloc, &value, path, &new)?)
             }
@@ -325,23 +301,14 @@ impl Context<'_> {
         ensures { Gives (fold_in self.now site.entry.place site.entry.names.now args.now) result }
     {
         let operands = self.operands(after(args, 1))?;
-        let (start, items) = value_and_items(operands.into_vec()).ok_or(Stop::Wrong(site.place))?;
-        self.folded(site, args, start, items.as_slice())
-    }
-
-    #[cycle(eval)]
-    fn folded(&self, site: Site<'_>, args: &[Expr], start: Value, items: &[Pair]) -> Answer<Value>
-        requires start { Normal start }
-        requires items { All Normal (results items.now) }
-        ensures { Gives (folded
-            (λ a b. first_in (with_names self.now site.entry.names.now (a ∷ b ∷ []))
-            site.entry.place args.now)
-            (results items.now) start) result }
-    {
+        let values = operands.as_slice();
+        let (start, items) = value_and_items(values).ok_or(Stop::Wrong(site.place))?;
         self.is_readable();
-        let mut so_far = start;
-        for (_, item) in items {
-            let pair = two_values(self.alloc, so_far, item)?;
+        let pairs = items.as_slice();
+        let first = copy_value(self.alloc, start)?;
+        let mut so_far = first;
+        for (_, item) in pairs {
+            let pair = vec![in self.alloc; so_far, copy_value(self.alloc, item)?]?;
             so_far = self.under(site, args, pair.as_slice())?;
         }
         Ok(so_far)
@@ -352,46 +319,36 @@ impl Context<'_> {
     fn form(&self, e: &Expr) -> Answer<SetForm>
         ensures { GivesForm (form_in self.now e.now) result }
     {
-        if has_form(&e.op) {
-            self.form_of(&e.op, e.place, e.args.as_slice())
-        } else {
-            Ok(SetForm::Plain(self.value(e)?))
-        }
+        self.form_of(&e.op, e)
     }
 
-    // The form of a node that describes a set by what belongs to it.
+    // The same, by the operator at its node.
     #[cycle(eval)]
-    fn form_of(&self, op: &Op, place: Place, trees: &[Expr]) -> Answer<SetForm>
-        ensures { GivesForm (form_node self.now place op.now trees.now) result }
+    fn form_of(&self, op: &Op, e: &Expr) -> Answer<SetForm>
+        ensures { GivesForm (form_node self.now e.now op.now) result }
     {
+        let place = e.place;
+        let trees = e.args.as_slice();
         match op {
             Op::IntSet => Ok(SetForm::AllInts),
             Op::NatSet => Ok(SetForm::AllNats),
             Op::StringSet => Ok(SetForm::AllTexts),
-            Op::SeqSet | Op::Powerset => self.one_form(op, place, trees),
+            Op::SeqSet | Op::Powerset => match trees {
+                [only] => one_form(self.alloc, op, self.form(only)?, place),
+                _ => Err(Stop::Wrong(place)),
+            },
             Op::FunSet => self.function_set(place, trees),
-            Op::RecSet(names) => {
-                let forms = self.set_forms(place, trees)?;
-                Ok(SetForm::Records(copy_texts(self.alloc, names)?, forms))
-            }
-            Op::Product => Ok(SetForm::Tuples(self.set_forms(place, trees)?)),
+            Op::RecSet(_) | Op::Product => form_of_several(
+                self.alloc,
+                op,
+                self.forms(trees)?,
+                place,
+            ),
             Op::Noted(_) => match trees {
                 [noted, ..] => self.form(noted),
                 [] => Err(Stop::Wrong(place)),
             },
-            _ => Err(Stop::Wrong(place)),
-        }
-    }
-
-    // `Seq(F)` and `SUBSET F`.
-    #[cycle(eval)]
-    fn one_form(&self, op: &Op, place: Place, trees: &[Expr]) -> Answer<SetForm>
-        ensures { GivesForm (form_of_one place (one_form op.now) (forms_in self.now trees.now))
-            result }
-    {
-        match trees {
-            [only] => one_form(self.alloc, op, self.form(only)?, place),
-            _ => Err(Stop::Wrong(place)),
+            _ => Ok(SetForm::Plain(self.value(e)?)),
         }
     }
 
@@ -410,19 +367,6 @@ impl Context<'_> {
         }
     }
 
-    // Forms that are each to be a set form.
-    #[cycle(eval)]
-    fn set_forms(&self, place: Place, trees: &[Expr]) -> Answer<List<SetForm>>
-        ensures { GivesSetForms place (forms_in self.now trees.now) result }
-    {
-        let forms = self.forms(trees)?;
-        if all_set_forms(forms.as_slice()) {
-            Ok(forms)
-        } else {
-            Err(Stop::Wrong(place))
-        }
-    }
-
     // All forms, or the join of their faults.
     #[cycle(eval)]
     fn forms(&self, trees: &[Expr]) -> Answer<List<SetForm>>
@@ -437,14 +381,9 @@ impl Context<'_> {
     }
 }
 
-fn one_value(alloc: Global, v: &Value) -> Stored<Vec<Value>>
-    ensures { IfOk result (λ l. l.items ≡ v.now ∷ []) }
+// Whether the trees are not those of an IF.
+fn is_malformed(op: &Op, trees: &[Expr]) -> bool
+    ensures { result ≡ is_malformed op.now trees.now }
 {
-    Ok(vec![in alloc; copy_value(alloc, v)?]?)
-}
-
-fn two_values(alloc: Global, a: Value, b: &Value) -> Stored<Vec<Value>>
-    ensures { IfOk result (λ l. l.items ≡ a ∷ b.now ∷ []) }
-{
-    Ok(vec![in alloc; a, copy_value(alloc, b)?]?)
+    matches!(op, Op::If) && !matches!(trees, [_, _, _])
 }

@@ -1,18 +1,24 @@
 // Set forms: what may stand on the right of a membership or an inclusion.
 ghost use Rattle.std.specs.List.{list_all, list_any};
-ghost use Rattle.std.specs.Prelude.{◌≡◌, ◌&&◌, map, option_copied};
+ghost use Rattle.std.specs.Prelude.{◌&&◌, ◌∷◌, ◌≡◌, [], map, option_copied};
 ghost use Rattle.tla_values.specs.Order.{same_value};
 ghost use Rattle.tla_values.specs.Sets.{apply, arguments, member};
 ghost use Rattle.tla_values.specs.declared.value.Value.{out-Value};
-ghost use Rattle.tla_meaning.specs.Forms.{all_belong, belongs, fields_at, has_fields, is_natural, is_number, is_set, is_set_form, is_text, passes, results, same_set};
-ghost use Rattle.tla_meaning.specs.Shapes.{items_of};
+ghost use Rattle.tla_meaning.specs.Forms.{Made, all_belong, all_set_forms, belongs, fields_at, has_fields, is_natural, is_set_form, passes, results, same_set};
+ghost use Rattle.tla_meaning.specs.Shapes.{items_of, set_items};
+ghost use Rattle.tla_meaning.specs.Meaning.{form_of_all, form_of_one, functions_from};
+ghost use Rattle.tla_evaluator.specs.inner.Gives.{Gives, GivesForm};
+ghost use Rattle.tla_evaluator.specs.inner.Nodes.{form_of_several, one_form, tested};
 
-use crate::operands::is_sequence;
-use tla_meaning::SetForm;
-use tla_values::{List, Text, Value, same_value};
+use crate::answers::{Answer, Stop};
+use crate::operators::is_sequence;
+use std::alloc::Global;
+use tla_meaning::{Op, Place, SetForm};
+use tla_values::{Boxed, List, Text, Value, copy_texts, same_value};
 
 /// Whether the value belongs to the form. Takes no memory.
 #[cycle(belongs)]
+#[tactic(auto, using(crate::proofs::FormLemmas::belongs_out))]
 pub fn belongs(form: &SetForm, v: &Value) -> bool
     ensures { result ≡ belongs form.now v.now }
 {
@@ -21,29 +27,22 @@ pub fn belongs(form: &SetForm, v: &Value) -> bool
             Value::Set(members) => is_among(v, members.as_slice()),
             _ => false,
         },
-        SetForm::AllInts => is_number(v),
+        SetForm::AllInts => matches!(v, Value::Int(_)),
         SetForm::AllNats => is_natural(v),
-        SetForm::AllTexts => is_text(v),
-        SetForm::Sequences(items) => match v {
-            Value::Fun(pairs) => sequence_belongs(items.get(), pairs),
-            _ => false,
-        },
-        SetForm::Functions(arguments, items) => match v {
-            Value::Fun(pairs) => function_belongs(items.get(), arguments, pairs),
-            _ => false,
-        },
-        SetForm::Subsets(items) => match v {
-            Value::Set(members) => all_belong(items.get(), members.as_slice()),
-            _ => false,
-        },
-        SetForm::Records(names, forms) => match v {
-            Value::Fun(pairs) => record_belongs(forms, names, pairs),
-            _ => false,
-        },
-        SetForm::Tuples(forms) => match v {
-            Value::Fun(pairs) => tuple_belongs(forms, pairs),
-            _ => false,
-        },
+        SetForm::AllTexts => matches!(v, Value::Text(_)),
+        SetForm::Sequences(items) => {
+            matches!(v, Value::Fun(pairs) if sequence_belongs(items.get(), pairs))
+        }
+        SetForm::Functions(arguments, items) => {
+            matches!(v, Value::Fun(pairs) if function_belongs(items.get(), arguments, pairs))
+        }
+        SetForm::Subsets(items) => {
+            matches!(v, Value::Set(members) if all_belong(items.get(), members.as_slice()))
+        }
+        SetForm::Records(names, forms) => {
+            matches!(v, Value::Fun(pairs) if record_belongs(forms, names, pairs))
+        }
+        SetForm::Tuples(forms) => { matches!(v, Value::Fun(pairs) if tuple_belongs(forms, pairs)) }
     }
 }
 
@@ -88,25 +87,10 @@ pub fn is_set_form(form: &SetForm) -> bool
     }
 }
 
-fn is_number(v: &Value) -> bool
-    ensures { result ≡ is_number (out-Value v.now) }
-{
-    matches!(v, Value::Int(_))
-}
-
 fn is_natural(v: &Value) -> bool
     ensures { result ≡ is_natural (out-Value v.now) }
 {
-    match v {
-        Value::Int(n) => *n >= 0,
-        _ => false,
-    }
-}
-
-fn is_text(v: &Value) -> bool
-    ensures { result ≡ is_text (out-Value v.now) }
-{
-    matches!(v, Value::Text(_))
+    matches!(v, Value::Int(n) if *n >= 0)
 }
 
 // Whether the value is one of the items.
@@ -248,4 +232,90 @@ fn items_belong(forms: &[SetForm], pairs: &[(Value, Value)]) -> bool
         }
     }
     true
+}
+
+// `\in`, `\notin` and `\subseteq`, of a value and a form that is to be a set form.
+pub(crate) fn tested(op: &Op, v: &Value, form: &SetForm, place: Place) -> Answer<Value>
+    ensures { Gives (tested op.now place v.now form.now) result }
+{
+    if !is_set_form(form) {
+        return Err(Stop::Wrong(place));
+    }
+    match op {
+        Op::In => Ok(Value::Bool(belongs(form, v))),
+        Op::NotIn => Ok(Value::Bool(!belongs(form, v))),
+        Op::SubsetEq => match v {
+            Value::Set(members) => Ok(Value::Bool(all_belong(form, members.as_slice()))),
+            _ => Err(Stop::Wrong(place)),
+        },
+        _ => Err(Stop::Wrong(place)),
+    }
+}
+
+// `Seq(F)` and `SUBSET F`.
+pub(crate) fn one_form(alloc: Global, op: &Op, form: SetForm, place: Place) -> Answer<SetForm>
+    ensures { GivesForm (form_of_one place (one_form op.now) (Made form ∷ [])) result }
+{
+    if !is_set_form(&form) {
+        return Err(Stop::Wrong(place));
+    }
+    let part = Boxed::new(alloc, form)?;
+    match op {
+        Op::SeqSet => Ok(SetForm::Sequences(part)),
+        _ => Ok(SetForm::Subsets(part)),
+    }
+}
+
+// `[a: F, b: G]` and `F \X G`.
+#[tactic(auto, using(crate::proofs::StopLemmas::several_are))]
+pub(crate) fn form_of_several(
+    alloc: Global,
+    op: &Op,
+    forms: List<SetForm>,
+    place: Place,
+) -> Answer<SetForm>
+    ensures { GivesForm (form_of_all place (form_of_several op.now) (map (λ f. Made f) forms))
+        result }
+{
+    if !all_set_forms(forms.as_slice()) {
+        return Err(Stop::Wrong(place));
+    }
+    match op {
+        Op::RecSet(names) => Ok(SetForm::Records(copy_texts(alloc, names)?, forms)),
+        _ => Ok(SetForm::Tuples(forms)),
+    }
+}
+
+fn all_set_forms(forms: &[SetForm]) -> bool
+    ensures { result ≡ all_set_forms forms.now }
+{
+    forms.iter().all(|form| is_set_form(form))
+}
+
+// `[S -> F]`: a value that is to be a set, and the only one of some forms.
+pub(crate) fn functions_from(
+    alloc: Global,
+    domain: Value,
+    forms: List<SetForm>,
+    place: Place,
+) -> Answer<SetForm>
+    ensures { GivesForm (functions_from place (set_items (out-Value domain))
+        (map (λ f. Made f) forms)) result }
+{
+    let Value::Set(items) = domain else {
+        return Err(Stop::Wrong(place));
+    };
+    let mut rest = forms.into_vec();
+    if rest.len() != 1 {
+        return Err(Stop::Wrong(place));
+    }
+    match rest.pop() {
+        Some(form) => {
+            if !is_set_form(&form) {
+                return Err(Stop::Wrong(place));
+            }
+            Ok(SetForm::Functions(items, Boxed::new(alloc, form)?))
+        }
+        None => Err(Stop::Wrong(place)),
+    }
 }

@@ -1,20 +1,21 @@
-// Functions.
+// Functions; records, which are functions on texts, and the sets of records and of tuples.
 ghost use Rattle.std.specs.List.{All};
-ghost use Rattle.std.specs.Prelude.{◌≡◌, ◌++◌, ◌∷◌, [], IfOk, IsTrue, None, OnOk, Some, map};
-ghost use Rattle.tla_values.specs.Sets.{Normal, apply, arguments, function_of, increasing};
+ghost use Rattle.std.specs.Prelude.{◌++◌, ◌∷◌, ◌≡◌, [], IfOk, IsTrue, List as Items, None, OnOk, Some, map, zip};
+ghost use Rattle.tla_values.specs.Sets.{Normal, apply, arguments, function_of, increasing, insert_pair};
 ghost use Rattle.tla_values.specs.declared.value.Value.{out-Value};
 ghost use Rattle.tla_meaning.specs.Operators.{on_function, or_wrong, table};
-ghost use Rattle.tla_meaning.specs.Shapes.{the_function};
+ghost use Rattle.tla_meaning.specs.Shapes.{record_of, sequence, the_function};
 ghost use Rattle.tla_evaluator.specs.inner.Families.{of_function};
 ghost use Rattle.tla_evaluator.specs.inner.Gives.{Gives};
-ghost use Rattle.tla_evaluator.specs.inner.Results.{with_last};
 
+use crate::answers::{Answer, Stop, Stored};
 use crate::numbers::fits;
-use crate::operands::{Row, is_sequence};
-use crate::stops::{Answer, Stop, Stored};
+use crate::operators::{Row, is_sequence};
+use crate::sequences::sequence;
+use crate::sets::{choices_of, set_made};
 use std::alloc::Global;
 use tla_meaning::Op;
-use tla_values::{List, Value, apply, copy_text, copy_value, domain_of, find_argument};
+use tla_values::{List, Text, Value, apply, copy_text, copy_value, domain_of, find_argument};
 
 // An argument with its value.
 pub(crate) type Pair = (Value, Value);
@@ -60,28 +61,21 @@ impl Row<'_> {
     pub(crate) fn merge(&self) -> Answer<Value>
         ensures { Gives (table None self.now.place Op.Merge self.now.operands.now) result }
     {
-        match self.operands {
-            [Value::Fun(left), Value::Fun(right)] => Ok(merged(self.alloc, left, right)?),
-            _ => Err(Stop::Wrong(self.place)),
-        }
+        let [Value::Fun(left), Value::Fun(right)] = self.operands else {
+            return Err(Stop::Wrong(self.place));
+        };
+        let mut pairs = Vec::new(self.alloc);
+        copy_pairs_onto(self.alloc, left.as_slice(), &mut pairs)?;
+        copy_pairs_onto(self.alloc, right.as_slice(), &mut pairs)?;
+        Ok(function_of(self.alloc, pairs)?)
     }
-}
-
-fn merged(alloc: Global, left: &List<Pair>, right: &List<Pair>) -> Stored<Value>
-    ensures { IfOk result (λ v. v ≡ the_function (left.now ++ right.now)) }
-{
-    let mut pairs = Vec::new(alloc);
-    copy_pairs_onto(alloc, left.as_slice(), &mut pairs)?;
-    copy_pairs_onto(alloc, right.as_slice(), &mut pairs)?;
-    function_of(alloc, pairs)
 }
 
 // `a :> v`.
 pub(crate) fn single(alloc: Global, argument: &Value, value: &Value) -> Stored<Value>
     ensures { IfOk result (λ v. v ≡ Value.Fun ((argument.now, value.now) ∷ [])) }
 {
-    let mut pairs = Vec::new(alloc);
-    pairs.push((copy_value(alloc, argument)?, copy_value(alloc, value)?))?;
+    let pairs = vec![in alloc; (copy_value(alloc, argument)?, copy_value(alloc, value)?)]?;
     Ok(Value::Fun(List::from_vec(pairs)))
 }
 
@@ -89,20 +83,24 @@ pub(crate) fn single(alloc: Global, argument: &Value, value: &Value) -> Stored<V
 pub(crate) fn function_of(alloc: Global, pairs: Pairs) -> Stored<Value>
     ensures { IfOk result (λ v. v ≡ the_function pairs.items) }
 {
+    let mut rest = pairs;
     let mut function = Vec::new(alloc);
-    for pair in pairs {
-        add_pair(&mut function, pair)?;
+    while let Some(pair) = rest.pop() {
+        put_pair(&mut function, pair)?;
     }
     Ok(Value::Fun(List::from_vec(function)))
 }
 
-// One more pair, where its argument is a new one.
-fn add_pair(function: &mut Pairs, pair: (Value, Value)) -> Stored<()>
+// The function with one more pair, in place of one with its argument.
+fn put_pair(function: &mut Pairs, pair: Pair) -> Stored<()>
     requires { IsTrue (increasing (arguments function.old.items)) }
-    ensures { OnOk result (function.new.items ≡ with_last function.old.items pair) }
+    ensures { OnOk result (function.new.items ≡ insert_pair pair function.old.items) }
 {
     match find_argument(function.as_slice(), &pair.0) {
-        Ok(_) => Ok(()),
+        Ok(place) => {
+            function[place] = pair;
+            Ok(())
+        }
         Err(place) => Ok(function.insert(place, pair)?),
     }
 }
@@ -114,4 +112,60 @@ pub(crate) fn copy_pairs_onto(alloc: Global, pairs: &[Pair], out: &mut Pairs) ->
         out.push((copy_value(alloc, argument)?, copy_value(alloc, value)?))?;
     }
     Ok(())
+}
+
+impl Row<'_> {
+    // `[a: S, b: T]`.
+    pub(crate) fn record_set(&self, names: &List<Text>) -> Answer<Value>
+        ensures { Gives (table None self.now.place (Op.RecSet names.now) self.now.operands.now)
+            result }
+    {
+        let alloc = self.alloc;
+        let lists = choices_of(alloc, self.operands)?.ok_or(Stop::Wrong(self.place))?;
+        Ok(set_made(alloc, lists, |values| record(alloc, names, values))?)
+    }
+
+    // `S \X T`.
+    pub(crate) fn product(&self) -> Answer<Value>
+        ensures { Gives (table None self.now.place Op.Product self.now.operands.now) result }
+    {
+        let alloc = self.alloc;
+        let lists = choices_of(alloc, self.operands)?.ok_or(Stop::Wrong(self.place))?;
+        Ok(set_made(alloc, lists, |items| sequence(alloc, items))?)
+    }
+}
+
+// Each argument with its value.
+pub(crate) fn paired(alloc: Global, arguments: &[Value], values: Vec<Value>) -> Stored<Pairs>
+    ensures { IfOk result (λ v. v.items ≡ zip arguments.now values.items) }
+{
+    let mut pairs = Vec::new(alloc);
+    for value in values {
+        push_pair(alloc, arguments, value, &mut pairs)?;
+    }
+    Ok(pairs)
+}
+
+// Adds the value with the argument at its place, where there is one.
+fn push_pair(alloc: Global, arguments: &[Value], value: Value, pairs: &mut Pairs) -> Stored<()>
+    ensures { (values : Items Value) → pairs.old.items ≡ zip arguments.now values →
+        OnOk result (pairs.new.items ≡ zip arguments.now (values ++ value ∷ [])) }
+{
+    let place = pairs.len();
+    if place < arguments.len() {
+        let argument = copy_value(alloc, &arguments[place])?;
+        pairs.push((argument, value))?;
+    }
+    Ok(())
+}
+
+// `[a |-> x, b |-> y]`.
+pub(crate) fn record(alloc: Global, names: &List<Text>, values: Vec<Value>) -> Stored<Value>
+    ensures { IfOk result (λ v. v ≡ record_of names.now values.items) }
+{
+    let mut texts = Vec::new(alloc);
+    for name in names.as_slice() {
+        texts.push(Value::Text(copy_text(alloc, name)?))?;
+    }
+    function_of(alloc, paired(alloc, texts.as_slice(), values)?)
 }

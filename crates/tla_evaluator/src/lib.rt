@@ -2,22 +2,17 @@
 #![tactic(auto)]
 
 mod actions;
+mod answers;
 mod binders;
 mod context;
 mod excepts;
 mod expressions;
 mod forms;
 mod functions;
-mod logic;
-mod memberships;
 mod numbers;
-mod operands;
 mod operators;
-mod outcomes;
-mod records;
 mod sequences;
 mod sets;
-mod stops;
 mod tops;
 mod trees;
 

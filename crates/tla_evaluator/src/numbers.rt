@@ -1,14 +1,15 @@
 // Whole numbers.
-ghost use Rattle.std.specs.Prelude.{◌≡◌, ◌*ℤ◌, ◌+ℤ◌, ◌<ℤ◌, ◌≤◌, ◌≤ℤ◌, IfNone, IfOk, IfSome, None, Some, false, map, negsuc, pos, true};
+ghost use Rattle.std.specs.Prelude.{◌*ℤ◌, ◌+ℤ◌, ◌<ℤ◌, ◌≡◌, ◌≤ℤ◌, ◌≤◌, IfNone, IfOk, IfSome, None, Some, false, map, negsuc, pos, true};
 ghost use Rattle.std.specs.Int.RustNames.{unsigned_abs};
 ghost use Rattle.tla_values.specs.declared.value.Value.{out-Value};
 ghost use Rattle.tla_meaning.specs.Numbers.{in_width, number, power, power_of, range};
 ghost use Rattle.tla_meaning.specs.Operators.{on_numbers, table};
 ghost use Rattle.tla_evaluator.specs.inner.Families.{of_numbers};
 ghost use Rattle.tla_evaluator.specs.inner.Gives.{Gives};
+ghost use Rattle.tla_evaluator.specs.inner.Readings.{IsWidth};
 
-use crate::operands::Row;
-use crate::stops::{Answer, Stop, Stored};
+use crate::answers::{Answer, Stop, Stored};
+use crate::operators::Row;
 use std::alloc::Global;
 use tla_meaning::{Op, Place};
 use tla_values::{List, Value};
@@ -29,6 +30,9 @@ impl Row<'_> {
     fn of_numbers(&self, op: &Op, a: i128, b: i128) -> Answer<Value>
         ensures { Gives (of_numbers (Some self.now.width) self.now.place op.now a b) result }
     {
+        if b <= 0 && matches!(op, Op::Div | Op::Mod) {
+            return Err(Stop::Wrong(self.place));
+        }
         match op {
             Op::Lt => Ok(Value::Bool(a < b)),
             Op::Gt => Ok(Value::Bool(b < a)),
@@ -37,18 +41,8 @@ impl Row<'_> {
             Op::Add => number(a.saturating_add(b), self.width, self.place),
             Op::Sub => number(a.saturating_sub(b), self.width, self.place),
             Op::Mul => number(a.saturating_mul(b), self.width, self.place),
-            Op::Div => {
-                if b <= 0 {
-                    return Err(Stop::Wrong(self.place));
-                }
-                number(a.div_euclid(b), self.width, self.place)
-            }
-            Op::Mod => {
-                if b <= 0 {
-                    return Err(Stop::Wrong(self.place));
-                }
-                number(a.rem_euclid(b), self.width, self.place)
-            }
+            Op::Div => number(a.div_euclid(b), self.width, self.place),
+            Op::Mod => number(a.rem_euclid(b), self.width, self.place),
             Op::Pow => raised(a, b, self.width, self.place),
             Op::Range => Ok(numbers_between(self.alloc, a, b)?),
             _ => Err(Stop::Wrong(self.place)),
@@ -61,10 +55,7 @@ impl Row<'_> {
             result }
     {
         match self.operands {
-            [Value::Int(a)] => match a.checked_neg() {
-                Some(n) => number(n, self.width, self.place),
-                None => Err(Stop::Big(self.place)),
-            },
+            [Value::Int(a)] => number(0i128.saturating_sub(*a), self.width, self.place),
             _ => Err(Stop::Wrong(self.place)),
         }
     }
@@ -72,8 +63,7 @@ impl Row<'_> {
 
 // Whether the number is in range.
 pub(crate) fn fits(n: i128, width: u32) -> bool
-    requires narrow { width ≤ 64 }
-    requires wide { 4 ≤ width }
+    requires sized { IsWidth width }
     ensures { result ≡ in_width (Some width) n }
 {
     let top = 1i128 << (width - 1);
@@ -81,8 +71,7 @@ pub(crate) fn fits(n: i128, width: u32) -> bool
 }
 
 pub(crate) fn number(n: i128, width: u32, place: Place) -> Answer<Value>
-    requires narrow { width ≤ 64 }
-    requires wide { 4 ≤ width }
+    requires sized { IsWidth width }
     ensures { Gives (number (Some width) place n) result }
 {
     if fits(n, width) {
@@ -93,8 +82,7 @@ pub(crate) fn number(n: i128, width: u32, place: Place) -> Answer<Value>
 }
 
 fn raised(a: i128, n: i128, width: u32, place: Place) -> Answer<Value>
-    requires narrow { width ≤ 64 }
-    requires wide { 4 ≤ width }
+    requires sized { IsWidth width }
     ensures { Gives (power (Some width) place a n) result }
 {
     if n < 0 {
@@ -125,8 +113,7 @@ fn small_power(a: i128, n: u128) -> i128
 
 // The power of any other number, which grows with each factor.
 fn large_power(a: i128, n: u128, width: u32, place: Place) -> Answer<Value>
-    requires narrow { width ≤ 64 }
-    requires wide { 4 ≤ width }
+    requires sized { IsWidth width }
     requires base { 2 ≤ unsigned_abs a }
     ensures { Gives (number (Some width) place (power_of a n)) result }
 {

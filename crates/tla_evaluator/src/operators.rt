@@ -1,19 +1,23 @@
 // What an operator that joins its operands gives of their values.
 ghost use Rattle.std.specs.List.{All};
-ghost use Rattle.std.specs.Prelude.{◌≡◌, ◌≤◌, IfOk, Some};
+ghost use Rattle.std.specs.Prelude.{◌≡◌, ◌≤◌, IfNone, IfOk, IfSome, IsTrue, None, Some, false};
 ghost use Rattle.tla_values.specs.Sets.{Normal};
-ghost use Rattle.tla_meaning.specs.Operators.{table};
+ghost use Rattle.tla_meaning.specs.Operators.{on_two, table};
 ghost use Rattle.tla_meaning.specs.Outcomes.{IsNormalOutcome};
 ghost use Rattle.tla_evaluator.specs.inner.Gives.{Gives};
+ghost use Rattle.tla_evaluator.specs.inner.Readings.{IsWidth};
+ghost use Rattle.tla_meaning.specs.Forms.{results};
+ghost use Rattle.tla_meaning.specs.Meaning.{fold_over, folded};
+ghost use Rattle.tla_meaning.specs.Shapes.{items_of};
+ghost use Rattle.tla_evaluator.specs.inner.Families.{of_two};
 
-use crate::operands::Row;
-use crate::records::record;
+use crate::answers::{Answer, Stop, told};
+use crate::functions::{record, single};
 use crate::sequences::sequence;
 use crate::sets::truth_values;
-use crate::stops::{Answer, Stop, told};
 use std::alloc::{AllocError, Global};
 use tla_meaning::{Op, Outcome, Place};
-use tla_values::{List, Value, set_of};
+use tla_values::{List, Value, same_value, set_of};
 
 /// What the operator gives of the values of its operands, with a place for a fault: the row of the table of operators.
 /// Wrong for an operator that does not join its operands, and for a set that is infinite.
@@ -41,8 +45,7 @@ pub(crate) fn row_of(
     operands: Vec<Value>,
     width: u32,
 ) -> Answer<Value>
-    requires narrow { width ≤ 64 }
-    requires wide { 4 ≤ width }
+    requires sized { IsWidth width }
     requires normal { All Normal operands.items }
     ensures { Gives (table (Some width) place op.now operands.items) result }
 {
@@ -74,5 +77,87 @@ pub(crate) fn row_of(
         Op::Append => row.appended(),
         Op::SubSeq => row.subsequence(),
         _ => Err(Stop::Wrong(place)),
+    }
+}
+
+// The values of the operands, with the place of a fault and the width of numbers. The families of operators are its
+// methods.
+#[derive(Drop)]
+pub(crate) struct Row<'a> {
+    pub(crate) alloc: Global,
+    pub(crate) operands: &'a [Value],
+    pub(crate) place: Place,
+    pub(crate) width: u32,
+    ghost sized: { IsWidth width },
+}
+
+// Whether the arguments are 1 to n.
+pub(crate) fn is_sequence(pairs: &[(Value, Value)]) -> bool
+    ensures items { IsTrue result → items_of pairs.now ≡ Some (results pairs.now) }
+    ensures none { result ≡ false → items_of pairs.now ≡ None }
+{
+    for (i, pair) in pairs.iter().enumerate() {
+        if !matches!(&pair.0, Value::Int(n) if *n == i as i128 + 1) {
+            return false;
+        }
+    }
+    true
+}
+
+// A value and a function, where the operands are just a value and a sequence.
+pub(crate) fn value_and_items(operands: &[Value]) -> Option<(&Value, &List<(Value, Value)>)>
+    ensures some { IfSome result (λ n. (p : Place) (f : Value → Value → Outcome) →
+        fold_over p f operands.now ≡ folded f (results n.1.now) n.0.now) }
+    ensures none { IfNone result
+        ((p : Place) (f : Value → Value → Outcome) → fold_over p f operands.now ≡ Outcome.Wrong p) }
+    ensures normal { All Normal operands.now → IfSome result
+        (λ n. Normal n.0.now × Normal (Value.Fun n.1.now)) }
+{
+    match operands {
+        [start, Value::Fun(pairs)] => is_sequence(pairs.as_slice()).then_some((start, pairs)),
+        _ => None,
+    }
+}
+
+impl Row<'_> {
+    // `~a`.
+    pub(crate) fn negation(&self) -> Answer<Value>
+        ensures { Gives (table None self.now.place Op.Not self.now.operands.now) result }
+    {
+        match self.operands {
+            [Value::Bool(a)] => Ok(Value::Bool(!*a)),
+            _ => Err(Stop::Wrong(self.place)),
+        }
+    }
+
+    // `a <=> b`.
+    pub(crate) fn equivalence(&self) -> Answer<Value>
+        ensures { Gives (table None self.now.place Op.Iff self.now.operands.now) result }
+    {
+        match self.operands {
+            [a @ Value::Bool(_), b @ Value::Bool(_)] => Ok(Value::Bool(same_value(a, b))),
+            _ => Err(Stop::Wrong(self.place)),
+        }
+    }
+
+    // Two operands of any kind.
+    pub(crate) fn two(&self, op: &Op) -> Answer<Value>
+        requires { All Normal self.now.operands.now }
+        ensures { Gives (on_two self.now.place (of_two self.now.place op.now)
+            self.now.operands.now) result }
+    {
+        let [a, b] = self.operands else {
+            return Err(Stop::Wrong(self.place));
+        };
+        match op {
+            Op::Eq | Op::Assign => Ok(Value::Bool(same_value(a, b))),
+            Op::Ne => Ok(Value::Bool(!same_value(a, b))),
+            Op::Apply => match a {
+                Value::Fun(pairs) => self.value_at(pairs, b),
+                _ => Err(Stop::Wrong(self.place)),
+            },
+            Op::Single => Ok(single(self.alloc, a, b)?),
+            _ => Err(Stop::Wrong(self.place)),
+        }
     }
 }

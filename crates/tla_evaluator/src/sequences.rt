@@ -1,16 +1,17 @@
 // Sequences, which are functions on 1 to n.
-ghost use Rattle.std.specs.Prelude.{◌≡◌, ◌<◌, ◌≤◌, ◌≤ℤ◌, ◌+◌, ◌++◌, ◌∷◌, [], IfOk, List as Items, IfNone, IfSome, None, OnOk, Some, length, map, pos};
+ghost use Rattle.std.specs.Prelude.{◌++◌, ◌+◌, ◌<◌, ◌∷◌, ◌≡◌, ◌≤ℤ◌, ◌≤◌, [], IfErr, IfNone, IfOk, IfSome, List as Items, None, OnOk, Some, length, map, pos};
 ghost use Rattle.tla_values.specs.declared.value.Value.{out-Value};
 ghost use Rattle.tla_meaning.specs.Forms.{results};
-ghost use Rattle.tla_meaning.specs.Operators.{on_items, on_sequence, part_of, table};
+ghost use Rattle.tla_meaning.specs.Operators.{on_sequence, part_of, table};
 ghost use Rattle.tla_meaning.specs.Shapes.{items_of, numbered, sequence};
 ghost use Rattle.tla_evaluator.specs.inner.Families.{of_items};
+ghost use Rattle.tla_evaluator.specs.declared.answers.Stop.TheVariants as Stop;
 ghost use Rattle.tla_evaluator.specs.inner.Gives.{Gives};
 
+use crate::answers::{Answer, Stop, Stored};
 use crate::functions::Pair;
 use crate::numbers::number;
-use crate::operands::{Row, is_sequence};
-use crate::stops::{Answer, Stop, Stored};
+use crate::operators::{Row, is_sequence};
 use std::alloc::Global;
 use tla_meaning::{Op, Outcome, Place};
 use tla_values::{List, Value, copy_value};
@@ -25,8 +26,16 @@ impl Row<'_> {
         let [Value::Fun(pairs)] = self.operands else {
             return Err(Stop::Wrong(self.place));
         };
+        self.of_items(op, self.items(pairs)?)
+    }
+
+    // The pairs of a function that is to be a sequence.
+    fn items<'p>(&self, pairs: &'p List<Pair>) -> Answer<&'p [Pair]>
+        ensures items { IfOk result (λ ps. items_of pairs.now ≡ Some (results ps.now)) }
+        ensures none { IfErr result (λ s. (items_of pairs.now ≡ None) × (s ≡ Stop.Wrong self.now.place)) }
+    {
         if is_sequence(pairs.as_slice()) {
-            self.of_items(op, pairs.as_slice())
+            Ok(pairs.as_slice())
         } else {
             Err(Stop::Wrong(self.place))
         }
@@ -43,7 +52,7 @@ impl Row<'_> {
                 [] => Err(Stop::Wrong(self.place)),
             },
             Op::Tail => match pairs {
-                [_, rest @ ..] => Ok(sequence_of_results(self.alloc, rest)?),
+                [_, rest @ ..] => Ok(sequence(self.alloc, results_of(self.alloc, rest)?)?),
                 [] => Err(Stop::Wrong(self.place)),
             },
             _ => Err(Stop::Wrong(self.place)),
@@ -57,11 +66,10 @@ impl Row<'_> {
         let [Value::Fun(left), Value::Fun(right)] = self.operands else {
             return Err(Stop::Wrong(self.place));
         };
-        if is_sequence(left.as_slice()) && is_sequence(right.as_slice()) {
-            Ok(joined(self.alloc, left.as_slice(), right.as_slice())?)
-        } else {
-            Err(Stop::Wrong(self.place))
-        }
+        let mut items = results_of(self.alloc, self.items(left)?)?;
+        let mut more = results_of(self.alloc, self.items(right)?)?;
+        items.append(&mut more)?;
+        Ok(sequence(self.alloc, items)?)
     }
 
     // `Append(s, e)`.
@@ -71,11 +79,9 @@ impl Row<'_> {
         let [Value::Fun(pairs), last] = self.operands else {
             return Err(Stop::Wrong(self.place));
         };
-        if is_sequence(pairs.as_slice()) {
-            Ok(with_last(self.alloc, pairs.as_slice(), last)?)
-        } else {
-            Err(Stop::Wrong(self.place))
-        }
+        let mut items = results_of(self.alloc, self.items(pairs)?)?;
+        items.push(copy_value(self.alloc, last)?)?;
+        Ok(sequence(self.alloc, items)?)
     }
 
     // `SubSeq(s, m, n)`.
@@ -83,20 +89,12 @@ impl Row<'_> {
         ensures { Gives (table None self.now.place Op.SubSeq self.now.operands.now) result }
     {
         match self.operands {
-            [Value::Fun(pairs), Value::Int(m), Value::Int(n)] => self.part_from(pairs, m, n),
+            [Value::Fun(pairs), Value::Int(m), Value::Int(n)] => self.part(
+                self.items(pairs)?,
+                m,
+                n,
+            ),
             _ => Err(Stop::Wrong(self.place)),
-        }
-    }
-
-    // The items from m to n of a function that is to be a sequence.
-    fn part_from(&self, pairs: &List<(Value, Value)>, m: &i128, n: &i128) -> Answer<Value>
-        ensures { Gives (on_items self.now.place (λ xs. part_of self.now.place xs m.now n.now)
-            (items_of pairs.now)) result }
-    {
-        if is_sequence(pairs.as_slice()) {
-            self.part(pairs.as_slice(), m, n)
-        } else {
-            Err(Stop::Wrong(self.place))
         }
     }
 
@@ -105,10 +103,13 @@ impl Row<'_> {
         ensures { Gives (part_of self.now.place (results pairs.now) m.now n.now) result }
     {
         if *n < *m {
-            return Ok(sequence_of_results(self.alloc, &[])?);
+            return Ok(sequence(self.alloc, Vec::new(self.alloc))?);
         }
         match bounds(pairs.len(), m, n) {
-            Some((start, end)) => Ok(sequence_of_results(self.alloc, &pairs[start..end])?),
+            Some((start, end)) => {
+                let items = results_of(self.alloc, &pairs[start..end])?;
+                Ok(sequence(self.alloc, items)?)
+            }
             None => Err(Stop::Wrong(self.place)),
         }
     }
@@ -126,42 +127,15 @@ pub(crate) fn sequence(alloc: Global, items: Vec<Value>) -> Stored<Value>
     Ok(Value::Fun(List::from_vec(pairs)))
 }
 
-// Adds the items of a sequence to a list.
-fn copy_results_onto(alloc: Global, pairs: &[Pair], out: &mut Vec<Value>) -> Stored<()>
-    ensures { OnOk result (out.new.items ≡ out.old.items ++ results pairs.now) }
+// The values of the pairs.
+fn results_of(alloc: Global, pairs: &[Pair]) -> Stored<Vec<Value>>
+    ensures { IfOk result (λ v. v.items ≡ results pairs.now) }
 {
+    let mut items = Vec::new(alloc);
     for (_, value) in pairs {
-        out.push(copy_value(alloc, value)?)?;
+        items.push(copy_value(alloc, value)?)?;
     }
-    Ok(())
-}
-
-// The sequence of the results of some pairs.
-fn sequence_of_results(alloc: Global, pairs: &[(Value, Value)]) -> Stored<Value>
-    ensures { IfOk result (λ v. v ≡ sequence (results pairs.now)) }
-{
-    let mut items = Vec::new(alloc);
-    copy_results_onto(alloc, pairs, &mut items)?;
-    sequence(alloc, items)
-}
-
-fn joined(alloc: Global, left: &[(Value, Value)], right: &[(Value, Value)]) -> Stored<Value>
-    ensures { IfOk result (λ v. v ≡ sequence (results left.now ++ results right.now)) }
-{
-    let mut items = Vec::new(alloc);
-    copy_results_onto(alloc, left, &mut items)?;
-    copy_results_onto(alloc, right, &mut items)?;
-    sequence(alloc, items)
-}
-
-// The sequence of some results and one more item.
-fn with_last(alloc: Global, pairs: &[(Value, Value)], last: &Value) -> Stored<Value>
-    ensures { IfOk result (λ v. v ≡ sequence (results pairs.now ++ last.now ∷ [])) }
-{
-    let mut items = Vec::new(alloc);
-    copy_results_onto(alloc, pairs, &mut items)?;
-    items.push(copy_value(alloc, last)?)?;
-    sequence(alloc, items)
+    Ok(items)
 }
 
 // The range of indexes of the items from m to n, where these are within the length.

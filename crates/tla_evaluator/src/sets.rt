@@ -1,6 +1,6 @@
 // Sets.
 ghost use Rattle.std.specs.List.{All};
-ghost use Rattle.std.specs.Prelude.{◌≡◌, ◌++◌, ◌∷◌, [], IfOk, List as Items, Ok, OnOk, Some, false, map, option_map, true, zip};
+ghost use Rattle.std.specs.Prelude.{◌++◌, ◌∷◌, ◌≡◌, [], IfOk, List as Items, Ok, OnOk, Some, false, map, option_map, true, zip};
 ghost use Rattle.tla_values.specs.Sets.{Normal};
 ghost use Rattle.tla_values.specs.declared.value.Value.{out-Value};
 ghost use Rattle.tla_meaning.specs.Operators.{on_all_sets, on_set, on_sets};
@@ -9,10 +9,10 @@ ghost use Rattle.tla_evaluator.specs.inner.Families.{of_set, of_sets};
 ghost use Rattle.tla_evaluator.specs.inner.Gives.{Gives};
 ghost use Rattle.tla_evaluator.specs.inner.Results.{all_of};
 
+use crate::answers::{Answer, Stop, Stored};
+use crate::functions::paired;
 use crate::numbers::number;
-use crate::operands::Row;
-use crate::records::paired;
-use crate::stops::{Answer, Stop, Stored};
+use crate::operators::Row;
 use std::alloc::Global;
 use tla_meaning::{Op, Outcome};
 use tla_values::{List, Value, copy_onto, copy_value, inter_of, minus, set_of, union_of};
@@ -70,9 +70,7 @@ impl Row<'_> {
 pub(crate) fn truth_values(alloc: Global) -> Stored<Value>
     ensures { IfOk result (λ v. v ≡ Value.Set (Value.Bool false ∷ Value.Bool true ∷ [])) }
 {
-    let mut members = Vec::new(alloc);
-    members.push(Value::Bool(false))?;
-    members.push(Value::Bool(true))?;
+    let members = vec![in alloc; Value::Bool(false), Value::Bool(true)]?;
     Ok(Value::Set(List::from_vec(members)))
 }
 
@@ -93,22 +91,14 @@ fn all_members(alloc: Global, sets: &[Value]) -> Stored<Option<Vec<Value>>>
 
 // ---- subsets, and choices of members
 
-// A list with one more item in front.
-fn with_first(alloc: Global, x: &Value, xs: &[Value]) -> Stored<List<Value>>
-    ensures { IfOk result (λ l. l ≡ x.now ∷ xs.now) }
-{
-    let mut items = Vec::new(alloc);
-    items.push(copy_value(alloc, x)?)?;
-    copy_onto(alloc, xs, &mut items)?;
-    Ok(List::from_vec(items))
-}
-
 // Adds each list with one more item in front.
 fn push_with_first(alloc: Global, x: &Value, lists: &[List<Value>], out: &mut Lists) -> Stored<()>
     ensures { OnOk result (out.new.items ≡ out.old.items ++ map (λ ys. x.now ∷ ys) lists.now) }
 {
     for list in lists {
-        out.push(with_first(alloc, x, list.as_slice())?)?;
+        let mut items = vec![in alloc; copy_value(alloc, x)?]?;
+        copy_onto(alloc, list.as_slice(), &mut items)?;
+        out.push(List::from_vec(items))?;
     }
     Ok(())
 }
@@ -117,8 +107,7 @@ fn push_with_first(alloc: Global, x: &Value, lists: &[List<Value>], out: &mut Li
 fn sublists(alloc: Global, items: &[Value]) -> Stored<Lists>
     ensures { IfOk result (λ v. v.items ≡ sublists items.now) }
 {
-    let mut lists = Vec::new(alloc);
-    lists.push(List::new(alloc))?;
+    let mut lists = vec![in alloc; List::new(alloc)]?;
     let mut i = items.len();
     while i > 0 {
         i -= 1;
@@ -146,11 +135,7 @@ pub(crate) fn choices_of(alloc: Global, sets: &[Value]) -> Stored<Option<Lists>>
         (λ o. option_map choices (all_set_items sets.now) ≡ option_map (λ cs. cs.items) o) }
 {
     match sets {
-        [] => {
-            let mut all = Vec::new(alloc);
-            all.push(List::new(alloc))?;
-            Ok(Some(all))
-        }
+        [] => Ok(Some(vec![in alloc; List::new(alloc)]?)),
         [Value::Set(items), rest @ ..] => match choices_of(alloc, rest)? {
             Some(lists) => Ok(Some(with_each(alloc, items.as_slice(), lists.as_slice())?)),
             None => Ok(None),

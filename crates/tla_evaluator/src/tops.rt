@@ -1,6 +1,6 @@
 // What actions, the start, steps and invariants are, at given states.
 ghost use Rattle.std.specs.List.{All};
-ghost use Rattle.std.specs.Prelude.{◌≡◌, ◌≤◌, ◌<◌, [], IfOk, IfSome, IsTrue, Some, filter, length, map, option_copied, slice_index_or, take, unwrap_or};
+ghost use Rattle.std.specs.Prelude.{◌<◌, ◌≡◌, ◌≤◌, [], IfOk, IfSome, IsTrue, Some, filter, length, map, option_copied, slice_index_or, take, unwrap_or};
 ghost use Rattle.tla_values.specs.Sets.{Normal};
 ghost use Rattle.tla_meaning.specs.declared.expr.Decl.{Decl};
 ghost use Rattle.tla_meaning.specs.declared.expr.Expr.{Expr, out-Expr};
@@ -10,10 +10,9 @@ ghost use Rattle.tla_evaluator.specs.inner.Effects.{behind};
 ghost use Rattle.tla_meaning.specs.Outcomes.{IsNormalOutcome};
 ghost use Rattle.tla_evaluator.specs.Trees.{AreNormal, is_expanded, value_at};
 
-use crate::actions::effect;
+use crate::actions::{effect, settled};
+use crate::answers::{join_faults, told};
 use crate::context::{Context, names_of};
-use crate::outcomes::join_faults;
-use crate::stops::told;
 use std::alloc::{AllocError, Global};
 use tla_meaning::{Assignable, Decl, Effect, Env, Expr, Fault, Job, Op, Outcome, State};
 use tla_values::{Text, Value};
@@ -101,12 +100,12 @@ pub fn start(alloc: Global, job: &Job, s: &State, width: u32) -> Result<Outcome,
     if !cinit.holds {
         return Ok(outcome_of(cinit));
     }
-    let assumed = behind(cinit, context.by_value(&job.assume)?);
+    let assumed = settled(context.by_value(&job.assume))?;
     if !assumed.holds {
-        return Ok(outcome_of(assumed));
+        return Ok(outcome_of(behind(cinit, assumed)));
     }
     let init = context.action(&job.init, Assignable::Variables(count))?;
-    Ok(outcome_of(behind(assumed, init)))
+    Ok(outcome_of(behind(cinit, behind(assumed, init))))
 }
 
 // The second effect, with the fault of the first.
@@ -142,10 +141,7 @@ pub fn next(
 fn is_yes(outcome: &Outcome) -> bool
     ensures { result ≡ is_yes outcome.now }
 {
-    match outcome {
-        Outcome::Val(Value::Bool(b)) => *b,
-        _ => false,
-    }
+    matches!(outcome, Outcome::Val(Value::Bool(true)))
 }
 
 /// The number of the first invariant that is not TRUE at a state, with what it gives; where all are TRUE, how many

@@ -4,7 +4,6 @@ ghost use Rattle.std.specs.List.{list_all, list_any};
 ghost use Rattle.tla_meaning.specs.Actions.{counts};
 ghost use Rattle.tla_evaluator.specs.Trees.{is_expanded, is_expanded_op};
 ghost use Rattle.tla_evaluator.specs.inner.Mentions.{mentions};
-ghost use Rattle.tla_evaluator.specs.inner.Nodes.{has_form};
 
 use tla_meaning::{Assignable, Expr, Op};
 
@@ -16,16 +15,6 @@ pub(crate) fn is_expanded_op(op: &Op) -> bool
         op,
         Op::Use(_) | Op::Param(_) | Op::Let(_) | Op::Prime | Op::Unchanged | Op::Boxed | Op::Angled
     )
-}
-
-// Whether the operator describes a set by what belongs to it, or notes what may.
-pub(crate) fn has_form(op: &Op) -> bool
-    ensures { result ≡ has_form op.now }
-{
-    matches!(
-        op,
-        Op::IntSet | Op::NatSet | Op::StringSet | Op::SeqSet | Op::Powerset
-    ) || matches!(op, Op::FunSet | Op::RecSet(_) | Op::Product | Op::Noted(_))
 }
 
 /// Whether the tree is expanded: no use of a definition, parameter, LET, prime of an expression, UNCHANGED, `[A]_v` or

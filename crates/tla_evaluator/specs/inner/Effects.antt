@@ -11,12 +11,13 @@ use Rattle.tla_meaning.specs.declared.outcome.Fault.TheVariants.{IsWrong}
 use Rattle.tla_meaning.specs.declared.place.Place.{Place}
 use Rattle.tla_meaning.specs.declared.op.Op.{Op}
 use Rattle.tla_meaning.specs.declared.op.Op.TheVariants as op
-use Rattle.tla_meaning.specs.Actions.{case_effect, effects_and, effects_or, exists_effect, fails_by, if_effect}
+use Rattle.tla_meaning.specs.Actions.{effects_and, effects_or, exists_effect, fails_by}
 use Rattle.tla_evaluator.specs.inner.Mentions.{mentions}
 use Rattle.tla_meaning.specs.Outcomes.{join_faults}
 use Rattle.tla_meaning.specs.Scopes.{bound_to}
 use Rattle.tla_evaluator.specs.Trees.{effect_at, outcomes_at}
-use Rattle.tla_evaluator.specs.inner.Readings.{Reading, effects_in, outcomes_in}
+use Rattle.tla_evaluator.specs.inner.Branches.{branch_effect, branch_in}
+use Rattle.tla_evaluator.specs.inner.Readings.{Reading, effects_in}
 
 -- an effect behind a fault that came before
 abbrev pub behind : Fault → Effect → Effect
@@ -67,6 +68,6 @@ act_in r m p op.And xs es = effects_and (effects_in r m es)
 act_in r m p op.Exists xs es = exists_in r m p xs es
 act_in r m p (op.Noted x) xs es = first_effect_in r m p es
 act_in r m p op.Or xs es = effects_or (effects_in r m es)
-act_in r m p op.If xs es = if_effect p (outcomes_in r es) (effects_in r m es)
-act_in r m p (op.Case other) xs es = case_effect p (outcomes_in r es) (effects_in r m es)
+act_in r m p op.If xs es = branch_effect r m (branch_in r p op.If es)
+act_in r m p (op.Case other) xs es = branch_effect r m (branch_in r p (op.Case other) es)
 act_in r m p o xs es = fails_by (IsWrong p)

@@ -14,8 +14,9 @@ use Rattle.tla_meaning.specs.Forms.{Broken, Formed, Made, form_faults}
 use Rattle.tla_values.specs.declared.value.Value.{Value}
 use Rattle.tla_meaning.specs.declared.outcome.Outcome.{Outcome}
 use Rattle.tla_meaning.specs.declared.outcome.Outcome.TheVariants as outcome
-use Rattle.tla_evaluator.specs.declared.stops.Stop.{Stop}
-use Rattle.tla_evaluator.specs.declared.stops.Stop.TheVariants.{Wrong, Big, Memory}
+use Rattle.tla_evaluator.specs.declared.answers.Stop.{Stop}
+use Rattle.tla_evaluator.specs.declared.answers.Stop.TheVariants.{Wrong, Big, Memory}
+use Rattle.tla_evaluator.specs.inner.Branches.{Branch, GivesBranch, by_guard}
 
 abbrev pub Gives : Outcome → Result Value Stop → Type 0
 Gives o (Ok v) = o ≡ outcome.Val v
@@ -70,15 +71,16 @@ both (Err s) (Err t) = Err (worse s t)
 -- the truth value of a guard, or what stops every choice by it
 abbrev pub Guards : Place → Outcome → Result Bool Stop → Type 0
 Guards p o (Ok b) = o ≡ yes_no b
-Guards p o (Err s) = (x y : Outcome) → Gives (choose p o x y) (Err s)
+Guards p o (Err s) = ((x y : Outcome) → Gives (choose p o x y) (Err s)) × ((a b : Branch) → GivesBranch (by_guard p o a b) (Err s))
 
 -- the value with one update, or what ends every list of updates that begins with it
 abbrev pub Updates : Place → Update → Value → Result Value Stop → Type 0
 Updates p u f (Ok v) = Normal v × ((us : List Update) → updated p us v ≡ updated p (u ∷ us) f)
 Updates p u f (Err s) = (us : List Update) → Gives (updated p (u ∷ us) f) (Err s)
 
--- what stops an action's part is a fault of the action
-abbrev pub FailsBy : Stop → Effect → Type 0
-FailsBy (Wrong p) f = f ≡ fails_by (IsWrong p)
-FailsBy (Big p) f = f ≡ fails_by (IsBig p)
-FailsBy (Memory e) f = ⊥
+-- the effect of an action's part, its fault, or want of memory
+abbrev pub GivesEffect : Effect → Result Effect Stop → Type 0
+GivesEffect f (Ok g) = f ≡ g
+GivesEffect f (Err (Wrong p)) = f ≡ fails_by (IsWrong p)
+GivesEffect f (Err (Big p)) = f ≡ fails_by (IsBig p)
+GivesEffect f (Err (Memory e)) = Unit {0}

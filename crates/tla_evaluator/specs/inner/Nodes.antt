@@ -2,7 +2,7 @@
 use Rattle.std.specs.Prelude.{ℕ, suc, Some, if◌then◌else◌, Bool, true, false, List, [], ◌∷◌, ◌++◌, drop, length, map, not, take}
 use Rattle.tla_values.specs.declared.value.Value.{Value}
 use Rattle.tla_values.specs.declared.value.Value.TheVariants as value
-use Rattle.tla_meaning.specs.declared.expr.Expr.{Expr}
+use Rattle.tla_meaning.specs.declared.expr.Expr.{Expr, out-Expr}
 use Rattle.tla_meaning.specs.declared.job.State.{State}
 use Rattle.tla_meaning.specs.declared.op.Op.{Op}
 use Rattle.tla_meaning.specs.declared.op.Op.TheVariants as op
@@ -11,16 +11,16 @@ use Rattle.tla_meaning.specs.declared.outcome.Outcome.TheVariants.{Val, Wrong}
 use Rattle.tla_meaning.specs.declared.place.Place.{Place}
 use Rattle.tla_meaning.specs.declared.forms.SetForm.{SetForm}
 use Rattle.tla_meaning.specs.declared.forms.SetForm.TheVariants as form
-use Rattle.tla_meaning.specs.declared.outcome.Fault.TheVariants.{IsWrong}
-use Rattle.tla_meaning.specs.Forms.{Broken, Formed, Made, belongs, is_set_form}
-use Rattle.tla_meaning.specs.Meaning.{Update, all_in, bound_table, case_chosen, conjoined, disjoined, first_updated, fold_over, form_of_all, form_of_one, function_form, if_chosen, implied, in_form, read}
+use Rattle.tla_meaning.specs.Forms.{Formed, Made, belongs, is_set_form}
+use Rattle.tla_meaning.specs.Meaning.{Update, all_in, bound_table, conjoined, disjoined, first_updated, fold_over, form_of_all, form_of_one, function_form, implied, in_form, plain, read}
 use Rattle.tla_meaning.specs.Operators.{on_all_sets, table, yes_no}
 use Rattle.tla_meaning.specs.Outcomes.{strict, values}
 use Rattle.tla_meaning.specs.Scopes.{bound_to, find_last, value_found}
 use Rattle.tla_meaning.specs.Shapes.{choices}
 use Rattle.tla_meaning.specs.Numbers.{number}
 use Rattle.tla_evaluator.specs.Trees.{first_at, outcomes_at}
-use Rattle.tla_evaluator.specs.inner.Readings.{Reading, first_form_in, first_in, forms_in, outcomes_in}
+use Rattle.tla_evaluator.specs.inner.Branches.{branch_in, branch_value}
+use Rattle.tla_evaluator.specs.inner.Readings.{Reading, first_form_in, first_in, forms_in, outcomes_in, value_in}
 
 -- from the left, up to the first operand that has this truth value
 abbrev pub junction : Bool → Place → List Outcome → Outcome
@@ -79,19 +79,6 @@ membership_test o p v f = Wrong p
 abbrev pub tested : Op → Place → Value → SetForm → Outcome
 tested o p v f = if is_set_form f then membership_test o p v f else Wrong p
 
--- the operators that describe a set by what belongs to it, and notes, which stand for what they note
-abbrev pub has_form : Op → Bool
-has_form op.IntSet = true
-has_form op.NatSet = true
-has_form op.StringSet = true
-has_form op.SeqSet = true
-has_form op.Powerset = true
-has_form op.FunSet = true
-has_form (op.RecSet names) = true
-has_form op.Product = true
-has_form (op.Noted x) = true
-has_form o = false
-
 -- the same, by what an evaluation reads
 abbrev pub bound_in : Reading → Place → Op → List (List ℕ) → List Expr → Outcome
 bound_in r p o xs es = bound_at r.width p o xs es r.bound r.state r.next
@@ -124,8 +111,8 @@ node_in r p (op.Bound x) xs es = value_found p (find_last x r.bound)
 node_in r p op.And xs es = junction false p (outcomes_in r es)
 node_in r p op.Or xs es = junction true p (outcomes_in r es)
 node_in r p op.Implies xs es = implied p (outcomes_in r es)
-node_in r p op.If xs es = if_chosen p (outcomes_in r es)
-node_in r p (op.Case other) xs es = case_chosen p (outcomes_in r es)
+node_in r p op.If xs es = branch_value r (branch_in r p op.If es)
+node_in r p (op.Case other) xs es = branch_value r (branch_in r p (op.Case other) es)
 node_in r p op.In xs es = in_form p (membership_test op.In p) (outcomes_in r es) (forms_in r es)
 node_in r p op.NotIn xs es = in_form p (membership_test op.NotIn p) (outcomes_in r es) (forms_in r es)
 node_in r p op.SubsetEq xs es = in_form p (membership_test op.SubsetEq p) (outcomes_in r es) (forms_in r es)
@@ -151,15 +138,20 @@ abbrev pub one_form : Op → SetForm → SetForm
 one_form op.SeqSet f = form.Sequences f
 one_form o f = form.Subsets f
 
--- the form of a node that has one, by its operator
-abbrev pub form_node : Reading → Place → Op → List Expr → Formed
-form_node r p op.IntSet es = Made form.AllInts
-form_node r p op.NatSet es = Made form.AllNats
-form_node r p op.StringSet es = Made form.AllTexts
-form_node r p op.SeqSet es = form_of_one p (one_form op.SeqSet) (forms_in r es)
-form_node r p op.Powerset es = form_of_one p (one_form op.Powerset) (forms_in r es)
-form_node r p op.FunSet es = function_form p (outcomes_in r es) (forms_in r es)
-form_node r p (op.RecSet names) es = form_of_all p (form.Records names) (forms_in r es)
-form_node r p op.Product es = form_of_all p form.Tuples (forms_in r es)
-form_node r p (op.Noted x) es = first_form_in r p es
-form_node r p o es = Broken (IsWrong p)
+-- the records of these forms, and else the tuples
+abbrev pub form_of_several : Op → List SetForm → SetForm
+form_of_several (op.RecSet names) fs = form.Records names fs
+form_of_several o fs = form.Tuples fs
+
+-- the form of a node, by its operator; where that describes no set, the set that its value is
+abbrev pub form_node : Reading → Expr → Op → Formed
+form_node r e op.IntSet = Made form.AllInts
+form_node r e op.NatSet = Made form.AllNats
+form_node r e op.StringSet = Made form.AllTexts
+form_node r e op.SeqSet = form_of_one (out-Expr e).place (one_form op.SeqSet) (forms_in r (out-Expr e).args)
+form_node r e op.Powerset = form_of_one (out-Expr e).place (one_form op.Powerset) (forms_in r (out-Expr e).args)
+form_node r e op.FunSet = function_form (out-Expr e).place (outcomes_in r (out-Expr e).args) (forms_in r (out-Expr e).args)
+form_node r e (op.RecSet names) = form_of_all (out-Expr e).place (form_of_several (op.RecSet names)) (forms_in r (out-Expr e).args)
+form_node r e op.Product = form_of_all (out-Expr e).place (form_of_several op.Product) (forms_in r (out-Expr e).args)
+form_node r e (op.Noted x) = first_form_in r (out-Expr e).place (out-Expr e).args
+form_node r e o = plain (value_in r e)

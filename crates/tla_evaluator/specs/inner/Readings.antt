@@ -18,10 +18,14 @@ pub record Reading : Type 0 where
   pub next : State
   pub width : ℕ
 
--- all values are normal, and the width has from 4 to 64 bits
+-- from 4 to 64 bits
+pub record IsWidth (w : ℕ) : Type 0 where
+  pub narrow : w ≤ 64
+  pub wide : 4 ≤ w
+
+-- all values are normal, and the width is one that is allowed
 pub record IsReadable (r : Reading) : Type 0 where
-  pub narrow : r.width ≤ 64
-  pub wide : 4 ≤ r.width
+  pub sized : IsWidth r.width
   pub normal : AreNormal r.bound r.state r.next
 
 -- more bound names

@@ -4,7 +4,7 @@ use Rattle.tla_values.specs.declared.value.Value.{Value}
 use Rattle.tla_meaning.specs.declared.outcome.Outcome.{Outcome}
 use Rattle.tla_meaning.specs.declared.place.Place.{Place}
 use Rattle.tla_meaning.specs.Meaning.{on_all_truths, truths}
-use Rattle.tla_evaluator.specs.declared.stops.Stop.{Stop}
+use Rattle.tla_evaluator.specs.declared.answers.Stop.{Stop}
 use Rattle.tla_evaluator.specs.inner.Gives.{Gives}
 
 -- their truth values, or what stops whatever is made of them

@@ -1,10 +1,5 @@
 use Rattle.std.proofs.Common.{◌≡◌, ap, rules, sym}
-use Rattle.std.proofs.lemmas.Result.{err_from_is_err_and}
-use Rattle.std.specs.List.{list_all, list_any}
-use Rattle.tla_meaning.specs.Meaning.{bound_table, kept}
-use Rattle.tla_meaning.specs.Operators.{yes_no}
-use Rattle.tla_meaning.specs.Shapes.{the_set}
-use Rattle.tla_meaning.specs.declared.outcome.Outcome.TheVariants.{Val}
+use Rattle.tla_evaluator.proofs.Words.{Val, bound_table, err_from_is_err_and, kept, list_all, list_any, the_set, yes_no}
 use Rattle.tla_evaluator.proofs.BinderLemmas.{truths_give, truths_stop}
 use Rattle.tla_evaluator.proofs.binders.bound_table.Goals as goal
 

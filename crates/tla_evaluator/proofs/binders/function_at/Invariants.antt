@@ -1,5 +1,5 @@
 use Rattle.std.proofs.Common.{◌≡◌, map, take}
-use Rattle.tla_meaning.specs.Meaning.{argument}
+use Rattle.tla_evaluator.proofs.Words.{argument}
 use Rattle.tla_evaluator.proofs.binders.function_at.Given as goal
 
 abbrev pub invariant-loop-choice : goal.invariant-loop-choice

@@ -1,5 +1,5 @@
 use Rattle.std.proofs.Common.{◌≡◌, ◌++◌, drop}
-use Rattle.tla_meaning.specs.Meaning.{kept}
+use Rattle.tla_evaluator.proofs.Words.{kept}
 use Rattle.tla_evaluator.proofs.binders.kept.Given as goal
 
 abbrev pub invariant-loop-i : goal.invariant-loop-i

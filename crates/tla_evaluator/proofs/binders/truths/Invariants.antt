@@ -1,5 +1,5 @@
 use Rattle.std.proofs.Common.{◌≡◌, ◌++◌, drop, option_map}
-use Rattle.tla_meaning.specs.Meaning.{truths}
+use Rattle.tla_evaluator.proofs.Words.{truths}
 use Rattle.tla_evaluator.proofs.binders.truths.Given as goal
 
 abbrev pub invariant-loop-v : goal.invariant-loop-v

@@ -1,5 +1,5 @@
 use Rattle.std.proofs.Common.{◌≡◌, ◌++◌, drop}
-use Rattle.tla_meaning.specs.Scopes.{bound_to}
+use Rattle.tla_evaluator.proofs.Words.{bound_to}
 use Rattle.tla_evaluator.specs.inner.Bound.{bindings}
 use Rattle.tla_evaluator.proofs.context.bind_onto.Given as goal
 

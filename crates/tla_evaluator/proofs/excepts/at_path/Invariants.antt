@@ -1,6 +1,5 @@
 use Rattle.std.proofs.Common.{◌≡◌, drop}
-use Rattle.tla_values.specs.Sets.{Normal}
-use Rattle.tla_meaning.specs.Meaning.{at_path}
+use Rattle.tla_evaluator.proofs.Words.{Normal, at_path}
 use Rattle.tla_evaluator.proofs.excepts.at_path.Given as goal
 
 abbrev pub invariant-loop-argument : goal.invariant-loop-argument

@@ -1,6 +1,5 @@
 use Rattle.std.proofs.Common.{◌≡◌, ◌≤◌, drop, length}
-use Rattle.std.specs.List.{list_all}
-use Rattle.tla_meaning.specs.Forms.{all_belong, belongs, fields_at, results}
+use Rattle.tla_evaluator.proofs.Words.{all_belong, belongs, fields_at, list_all, results}
 use Rattle.tla_evaluator.proofs.forms.+belongs.Given as goal
 
 abbrev pub invariant-all_belong-loop-v : goal.invariant-all_belong-loop-v

@@ -1,6 +1,5 @@
 use Rattle.std.proofs.Common.{◌≡◌, drop}
-use Rattle.tla_values.specs.Sets.{apply}
-use Rattle.tla_values.specs.declared.value.Value.{Text}
+use Rattle.tla_evaluator.proofs.Words.{Text, apply}
 use Rattle.tla_evaluator.proofs.forms.field_of.Given as goal
 
 abbrev pub invariant-loop-argument : goal.invariant-loop-argument

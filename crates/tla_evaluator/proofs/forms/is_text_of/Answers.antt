@@ -1,7 +1,6 @@
 use Rattle.std.proofs.Common.{◌≡◌, ◌∙◌, ap}
+use Rattle.tla_evaluator.proofs.Words.{Text, same_value, text_cmp}
 use Rattle.std.specs.Ordering.{is_eq}
-use Rattle.tla_values.specs.Order.{same_value, text_cmp}
-use Rattle.tla_values.specs.declared.value.Value.{Text}
 use Rattle.tla_evaluator.proofs.FormLemmas.{text_same, text_other, same_back}
 use Rattle.tla_evaluator.proofs.forms.is_text_of.Goals as goal
 

@@ -1,6 +1,6 @@
 use Rattle.std.proofs.Common.{◌≡◌, ◌∙◌, ◌*ℤ◌, ap, sym, Some, to_z, of_z}
+use Rattle.tla_evaluator.proofs.Words.{in_width}
 use Rattle.std.proofs.lemmas.Int.{to_z-of_z}
-use Rattle.tla_meaning.specs.Numbers.{in_width}
 use mir.Syntax.{w128}
 use Rattle.tla_evaluator.proofs.NumberLemmas.{power_big, power_more, saturated, unsaturated}
 use Rattle.tla_evaluator.proofs.numbers.large_power.Goals as goal
@@ -11,7 +11,7 @@ same_width : (c : After-fits) → c.fits.result ≡ in_width (Some c.args.width)
 same_width c =
     c.fits.ensures
     ∙ ap (in_width (Some c.args.width)) (to_z-of_z w128 c.saturating_mul-power.result (record { sfits = c.saturating_mul-power.type_inv }) ∙ c.saturating_mul-power.ensures)
-    ∙ saturated c.args.width c.requires.narrow _
+    ∙ saturated c.args.width c.requires.sized.narrow _
 
 pub returns-then-not-fits : goal.returns-then-not-fits
 returns-then-not-fits c =
@@ -20,4 +20,4 @@ returns-then-not-fits c =
 pub loop-k-preserved : goal.loop-k-preserved
 loop-k-preserved c =
     let fits = sym (same_width c.before) ∙ c.if-not-fits.false in
-    power_more _ _ _ _ _ c.requires.narrow c.loop-k.invariant (c.saturating_mul-power.ensures ∙ unsaturated c.args.width c.requires.narrow _ fits) fits
+    power_more _ _ _ _ _ c.requires.sized.narrow c.loop-k.invariant (c.saturating_mul-power.ensures ∙ unsaturated c.args.width c.requires.sized.narrow _ fits) fits

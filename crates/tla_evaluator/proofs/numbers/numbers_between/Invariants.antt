@@ -1,5 +1,5 @@
 use Rattle.std.proofs.Common.{◌≡◌, ◌≤◌, ◌-◌, vec_len}
-use Rattle.tla_meaning.specs.Numbers.{from_on}
+use Rattle.tla_evaluator.proofs.Words.{from_on}
 use Rattle.tla_evaluator.proofs.NumberLemmas.{size}
 use Rattle.tla_evaluator.proofs.numbers.numbers_between.Given as goal
 

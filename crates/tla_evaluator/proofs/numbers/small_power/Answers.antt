@@ -1,6 +1,6 @@
 use Rattle.std.proofs.Common.{◌≡◌, ◌∙◌, sym, ap, pos, arith}
+use Rattle.tla_evaluator.proofs.Words.{power_of}
 use Rattle.std.proofs.lemmas.Int.{ints}
-use Rattle.tla_meaning.specs.Numbers.{power_of}
 use Rattle.tla_evaluator.proofs.NumberLemmas.{power_one, minus_even, minus_odd}
 use Rattle.tla_evaluator.proofs.numbers.small_power.Goals as goal
 

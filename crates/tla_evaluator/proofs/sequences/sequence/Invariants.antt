@@ -1,5 +1,5 @@
 use Rattle.std.proofs.Common.{◌≡◌}
-use Rattle.tla_meaning.specs.Shapes.{numbered}
+use Rattle.tla_evaluator.proofs.Words.{numbered}
 use Rattle.tla_evaluator.proofs.sequences.sequence.Given as goal
 
 abbrev pub invariant-loop-item : goal.invariant-loop-item

@@ -1,5 +1,5 @@
 use Rattle.std.proofs.Common.{◌≡◌, ◌++◌, drop, option_map}
-use Rattle.tla_meaning.specs.Shapes.{all_set_items}
+use Rattle.tla_evaluator.proofs.Words.{all_set_items}
 use Rattle.tla_evaluator.specs.inner.Results.{all_of}
 use Rattle.tla_evaluator.proofs.sets.all_members.Given as goal
 

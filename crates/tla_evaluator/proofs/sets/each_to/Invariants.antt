@@ -1,5 +1,5 @@
 use Rattle.std.proofs.Common.{◌≡◌, take}
-use Rattle.tla_meaning.specs.Shapes.{each_to}
+use Rattle.tla_evaluator.proofs.Words.{each_to}
 use Rattle.tla_evaluator.proofs.sets.each_to.Given as goal
 
 abbrev pub invariant-loop : goal.invariant-loop

@@ -1,5 +1,5 @@
 use Rattle.std.proofs.Common.{arith}
-use Rattle.std.proofs.lemmas.Grind.{common_steps}
+use Rattle.tla_evaluator.proofs.Words.{common_steps}
 use Rattle.tla_evaluator.proofs.sets.set_made.Goals as goal
 
 pub loop-list-preserved : goal.loop-list-preserved

@@ -1,5 +1,5 @@
 use Rattle.std.proofs.Common.{◌≡◌, List, Ok, map}
-use Rattle.tla_values.specs.declared.value.Value.{Value}
+use Rattle.tla_evaluator.proofs.Words.{Value}
 use Rattle.tla_evaluator.proofs.sets.set_made.Given as goal
 
 abbrev pub invariant-loop-list : goal.invariant-loop-list

@@ -1,5 +1,5 @@
 use Rattle.std.proofs.Common.{arith, ◌≡◌, ◌++◌, ◌∷◌, map}
-use Rattle.std.proofs.lemmas.Grind.{common_steps}
+use Rattle.tla_evaluator.proofs.Words.{common_steps}
 use Rattle.tla_evaluator.proofs.ListLemmas.{sublists_more}
 use Rattle.tla_evaluator.proofs.sets.sublists.Goals as goal
 

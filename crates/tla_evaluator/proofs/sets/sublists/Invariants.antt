@@ -1,5 +1,5 @@
 use Rattle.std.proofs.Common.{◌≡◌, ◌≤◌, length, drop}
-use Rattle.tla_meaning.specs.Shapes.{sublists}
+use Rattle.tla_evaluator.proofs.Words.{sublists}
 use Rattle.tla_evaluator.proofs.sets.sublists.Given as goal
 
 abbrev pub invariant-loop-i : goal.invariant-loop-i

@@ -1,5 +1,5 @@
 use Rattle.std.proofs.Common.{◌≡◌, ◌++◌, drop}
-use Rattle.tla_meaning.specs.Shapes.{with_each}
+use Rattle.tla_evaluator.proofs.Words.{with_each}
 use Rattle.tla_evaluator.proofs.sets.with_each.Given as goal
 
 abbrev pub invariant-loop-x : goal.invariant-loop-x

@@ -1,6 +1,5 @@
 use Rattle.std.proofs.Common.{ap, ◌∙◌}
-use Rattle.tla_meaning.specs.Actions.{outcome_of}
-use Rattle.tla_meaning.specs.declared.actions.Assignable.TheVariants.{Primed}
+use Rattle.tla_evaluator.proofs.Words.{Primed, outcome_of}
 use Rattle.tla_evaluator.specs.inner.Readings.{effect_in}
 use Rattle.tla_evaluator.proofs.TopLemmas.{act_is}
 use Rattle.tla_evaluator.proofs.tops.act.Goals as goal

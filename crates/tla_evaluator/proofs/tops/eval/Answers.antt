@@ -1,6 +1,5 @@
 use Rattle.std.proofs.Common.{◌∙◌, ap, sym, subst}
-use Rattle.std.specs.List.{All}
-use Rattle.tla_values.specs.Sets.{Normal}
+use Rattle.tla_evaluator.proofs.Words.{All, Normal}
 use Rattle.tla_evaluator.specs.Trees.{AreNormal}
 use Rattle.tla_evaluator.specs.inner.Bound.{bindings}
 use Rattle.tla_evaluator.specs.inner.Readings.{value_in}

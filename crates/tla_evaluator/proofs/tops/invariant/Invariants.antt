@@ -1,7 +1,5 @@
 use Rattle.std.proofs.Common.{◌≡◌, Some, drop, map, take}
-use Rattle.std.specs.List.{All}
-use Rattle.tla_meaning.specs.Actions.{val}
-use Rattle.tla_meaning.specs.Executions.{IsYes, first_not_yes, no_scope}
+use Rattle.tla_evaluator.proofs.Words.{All, IsYes, first_not_yes, no_scope, val}
 use Rattle.tla_evaluator.proofs.tops.invariant.Given as goal
 
 abbrev pub invariant-loop-i : goal.invariant-loop-i

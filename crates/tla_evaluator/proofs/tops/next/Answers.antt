@@ -1,7 +1,5 @@
 use Rattle.std.proofs.Common.{ap, filter, length, ◌∙◌}
-use Rattle.tla_meaning.specs.declared.expr.Decl.{Decl}
-use Rattle.tla_meaning.specs.Actions.{outcome_of}
-use Rattle.tla_meaning.specs.declared.actions.Assignable.TheVariants.{PrimedVariables}
+use Rattle.tla_evaluator.proofs.Words.{Decl, PrimedVariables, outcome_of}
 use Rattle.tla_evaluator.specs.inner.Readings.{effect_in}
 use Rattle.tla_evaluator.proofs.TopLemmas.{next_is}
 use Rattle.tla_evaluator.proofs.tops.next.Goals as goal

@@ -1,8 +1,5 @@
 use Rattle.std.proofs.Common.{◌≡◌, ap, filter, length, ◌∙◌}
-use Rattle.tla_meaning.specs.declared.expr.Decl.{Decl}
-use Rattle.tla_meaning.specs.Executions.{constants}
-use Rattle.tla_meaning.specs.declared.actions.Assignable.TheVariants.{Constants, Variables}
-use Rattle.tla_meaning.specs.Actions.{effect_of}
+use Rattle.tla_evaluator.proofs.Words.{Constants, Decl, Variables, constants, effect_of, outcome_of}
 use Rattle.tla_evaluator.specs.inner.Effects.{behind}
 use Rattle.tla_evaluator.specs.inner.Readings.{effect_in, value_in}
 use Rattle.tla_evaluator.proofs.TopLemmas.{stops_first, stops_second, goes_on}
@@ -19,15 +16,17 @@ pub returns-then-not-assumed : goal.returns-then-not-assumed
 returns-then-not-assumed c =
     let count : c.constants-count.result ≡ constants c.args.job.now =
     c.constants-count.ensures ∙ ap (λ ds. length (filter (λ (d : Decl). d.constant) ds)) c.as_slice.ensures in
-    c.outcome_of-then-not-assumed.ensures
-    ∙ stops_second _ _ c.args.job.now _ count c.requires.cinit c.requires.assume c.requires.init c.in_ok-cinit.cinit c.behind-assumed.result
-    (c.in_ok-cinit.ensures ∙ ap (λ r. effect_in r (Constants c.constants-count.result) c.args.job.now.cinit) c.unbound-context.ensures) c.if-not-cinit.false (c.behind-assumed.ensures ∙ ap (behind c.in_ok-cinit.cinit.fault) (c.in_ok-by_value.ensures ∙ ap (λ r. effect_of (value_in r c.args.job.now.assume)) c.unbound-context.ensures)) c.if-not-assumed.true
+    c.outcome_of-then-not-assumed.ensures ∙ ap outcome_of c.behind.ensures
+    ∙ stops_second _ _ c.args.job.now _ count c.requires.cinit c.requires.assume c.requires.init c.in_ok-cinit.cinit c.in_ok-assumed.assumed
+    (c.in_ok-cinit.ensures ∙ ap (λ r. effect_in r (Constants c.constants-count.result) c.args.job.now.cinit) c.unbound-context.ensures) c.if-not-cinit.false
+    (c.in_ok-assumed.ensures _ c.by_value.ensures ∙ ap (λ r. effect_of (value_in r c.args.job.now.assume)) c.unbound-context.ensures) c.if-not-assumed.true
 
 pub returns : goal.returns
 returns c =
     let count : c.constants-count.result ≡ constants c.args.job.now =
     c.constants-count.ensures ∙ ap (λ ds. length (filter (λ (d : Decl). d.constant) ds)) c.as_slice.ensures in
-    c.outcome_of-2.ensures
-    ∙ goes_on _ _ c.args.job.now _ count c.requires.cinit c.requires.assume c.requires.init c.in_ok-cinit.cinit c.behind-assumed.result _
-    (c.in_ok-cinit.ensures ∙ ap (λ r. effect_in r (Constants c.constants-count.result) c.args.job.now.cinit) c.unbound-context.ensures) c.if-not-cinit.false (c.behind-assumed.ensures ∙ ap (behind c.in_ok-cinit.cinit.fault) (c.in_ok-by_value.ensures ∙ ap (λ r. effect_of (value_in r c.args.job.now.assume)) c.unbound-context.ensures)) c.if-not-assumed.false
-    (c.behind.ensures ∙ ap (behind c.behind-assumed.result.fault) (c.in_ok-init.ensures ∙ ap (λ r. effect_in r (Variables c.constants-count.result) c.args.job.now.init) c.unbound-context.ensures))
+    c.outcome_of-2.ensures ∙ ap outcome_of (c.behind-3.ensures ∙ ap (behind c.in_ok-cinit.cinit.fault) c.behind-2.ensures)
+    ∙ goes_on _ _ c.args.job.now _ count c.requires.cinit c.requires.assume c.requires.init c.in_ok-cinit.cinit c.in_ok-assumed.assumed c.in_ok-init.init
+    (c.in_ok-cinit.ensures ∙ ap (λ r. effect_in r (Constants c.constants-count.result) c.args.job.now.cinit) c.unbound-context.ensures) c.if-not-cinit.false
+    (c.in_ok-assumed.ensures _ c.by_value.ensures ∙ ap (λ r. effect_of (value_in r c.args.job.now.assume)) c.unbound-context.ensures) c.if-not-assumed.false
+    (c.in_ok-init.ensures ∙ ap (λ r. effect_in r (Variables c.constants-count.result) c.args.job.now.init) c.unbound-context.ensures)

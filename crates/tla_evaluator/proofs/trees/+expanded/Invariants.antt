@@ -1,5 +1,5 @@
 use Rattle.std.proofs.Common.{◌≡◌, drop}
-use Rattle.std.specs.List.{list_all}
+use Rattle.tla_evaluator.proofs.Words.{list_all}
 use Rattle.tla_evaluator.specs.Trees.{is_expanded}
 use Rattle.tla_evaluator.proofs.trees.+expanded.Given as goal
 

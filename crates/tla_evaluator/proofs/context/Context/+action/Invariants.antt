@@ -1,7 +1,7 @@
-use Rattle.std.proofs.Common.{◌≡◌, ◌≤◌, ◌-◌, drop, length, map}
-use Rattle.tla_meaning.specs.Actions.{case_effect, effects_and, effects_or}
+use Rattle.std.proofs.Common.{◌≡◌, drop, map}
+use Rattle.tla_evaluator.proofs.Words.{effects_and, effects_or}
 use Rattle.tla_evaluator.specs.inner.Effects.{behind, body_in, either}
-use Rattle.tla_evaluator.specs.inner.Readings.{effects_in, outcomes_in}
+use Rattle.tla_evaluator.specs.inner.Readings.{effects_in}
 use Rattle.tla_evaluator.proofs.context.Context.+action.Given as goal
 
 abbrev pub invariant-all_effects-loop-e : goal.invariant-all_effects-loop-e
@@ -18,13 +18,3 @@ abbrev pub invariant-body_effects-loop-choice : goal.invariant-body_effects-loop
 invariant-body_effects-loop-choice l =
     either l.all (effects_or (map (body_in l.self l.assigned l.site.place l.trees l.site.names.now) (drop l.choice-index l.choices)))
     ≡ effects_or (map (body_in l.self l.assigned l.site.place l.trees l.site.names.now) l.choices)
-
-abbrev pub invariant-case_effect-loop-i : goal.invariant-case_effect-loop-i
-invariant-case_effect-loop-i l = record {
-  within : l.i ≤ length l.args;
-  same : case_effect l.place (outcomes_in l.self (drop l.i l.args)) (effects_in l.self l.assigned (drop l.i l.args))
-      ≡ case_effect l.place (outcomes_in l.self l.args) (effects_in l.self l.assigned l.args);
-}
-
-abbrev pub decreases-case_effect-loop-i : goal.decreases-case_effect-loop-i
-decreases-case_effect-loop-i l = length l.args - l.i

@@ -1,29 +1,16 @@
-use Rattle.std.proofs.Common.{◌≡◌, ℕ, ◌+◌, ◌≤◌, ◌∙◌, ◌++◌, ◌∷◌, [], List, true, false, ap, arith, drop, get_or, refl, subst, sym, Err}
-use Rattle.std.proofs.lemmas.Grind.{common_steps}
-use Rattle.std.proofs.lemmas.Result.{err_from_is_err_and}
+use Rattle.std.proofs.Common.{◌≡◌, ℕ, ◌+◌, ◌≤◌, ◌∙◌, ◌++◌, ◌∷◌, [], List, ap, arith, drop, get_or, refl, subst, sym, Bor, Err}
 use Rattle.std.specs.Prelude.{IfSome, option_map}
-use Rattle.std.specs.List.{All}
-use denote.Param.Weighed.{most}
-use Rattle.tla_values.specs.Sets.{Normal}
-use Rattle.tla_values.specs.declared.value.Value.{Fun, Value}
-use Rattle.tla_meaning.specs.declared.expr.Expr.{Expr, out-Expr}
-use Rattle.tla_meaning.specs.declared.forms.SetForm.TheVariants.{Records, Tuples}
-use Rattle.tla_meaning.specs.declared.outcome.Outcome.{Outcome}
-use Rattle.tla_meaning.specs.declared.place.Place.{Place}
-use Rattle.tla_meaning.specs.declared.outcome.Outcome.TheVariants.{Val}
-use Rattle.tla_meaning.specs.Forms.{Made, all_set_forms, results}
-use Rattle.tla_meaning.specs.Meaning.{fold_over, folded, form_of_one, in_form, plain, updated}
-use Rattle.tla_meaning.specs.Operators.{yes_no}
-use Rattle.tla_meaning.specs.Outcomes.{join_faults, joined, strict, values}
-use Rattle.tla_evaluator.specs.inner.Nodes.{form_node, index_trees, one_form, membership_test, node_in, paths_in, update_in}
+use Rattle.tla_evaluator.proofs.Words.{All, Expr, Fun, Normal, Outcome, Place, Val, Value, common_steps, err_from_is_err_and, fault_of, fold_over, folded, form_fault, form_faults, get_or_default, in_form, join_faults, joined, most, out-Expr, results, strict, updated, values, yes_no}
+use Rattle.tla_evaluator.specs.inner.Nodes.{index_trees, membership_test, node_in, paths_in, update_in, updates_in}
 use Rattle.tla_evaluator.specs.inner.Readings.{first_in, form_in, forms_in, outcomes_in, value_in, with_names}
-use Rattle.tla_evaluator.proofs.EvalSteps.{case_goes, fault_done, fault_next, same_item, values_done, values_next}
-use Rattle.tla_evaluator.proofs.FormLoops.{form_fault_next, forms_next, function_parts, if_case}
-use Rattle.tla_evaluator.proofs.FormNodes.{form_is_node, plain_is}
+use Rattle.tla_evaluator.proofs.BranchLemmas.{branch_gives_as, branch_goes, branch_stops, branch_taken, well_formed}
+use Rattle.tla_evaluator.proofs.EvalSteps.{fault_done, join_next, values_done, values_next}
+use Rattle.tla_evaluator.proofs.FormLoops.{forms_next, function_parts}
+use Rattle.tla_evaluator.proofs.FormNodes.{form_is_node}
 use Rattle.tla_evaluator.proofs.ListSteps.{first_normal, folded_next, further_no_deeper, index_fault_next, item_normal, members_normal, one_is_normal, one_normal, operands_normal, paths_next, reached_normal, results_normal, two_are_normal, updated_at, updated_next, updated_stops}
 use Rattle.tla_evaluator.proofs.NodeLemmas.{node_is}
 use Rattle.tla_evaluator.proofs.NormalBinds.{bound_are_normal}
-use Rattle.tla_evaluator.proofs.StopLemmas.{case_stops, conclusion_is, conclusion_stops, except_goes, form_gives_as, functions_go, functions_stop, given_normal, gives_all_as, gives_as, joins_form, joins_value, junction_stops, membership_goes, one_form_stops, only_item, plain_stops, premise_fails, premise_stops, set_forms_are, strict_goes, two_items}
+use Rattle.tla_evaluator.proofs.StopLemmas.{conclusion_is, conclusion_stops, except_goes, form_gives_as, functions_go, functions_stop, given_normal, gives_all_as, gives_as, joins_form, joins_value, junction_stops, membership_goes, premise_fails, premise_stops, strict_goes, two_items}
 use Rattle.tla_evaluator.proofs.TreeSizes.{most-drop, most-take}
 use Rattle.tla_evaluator.proofs.context.Context.+eval.Goals as goal
 
@@ -38,21 +25,12 @@ value-returns t c =
 pub junction-returns-in_err-holds : goal.junction-returns-in_err-holds
 junction-returns-in_err-holds t c =
     let p = err_from_is_err_and c.from_residual.result c.from_residual.ensures.1 in
-    rw (p.1, p.2) (junction_stops (value_in c.args.self.now) c.args.trees.now _ c.args.decides c.args.place c.loop-e.e-index _ c.loop-e-test.true c.e-item.is c.in_err-holds.ensures c.loop-e.invariant)
-
-pub cases-returns-in_err-holds : goal.cases-returns-in_err-holds
-cases-returns-in_err-holds t c =
-    let p = err_from_is_err_and c.from_residual.result c.from_residual.ensures.1 in
-    rw (p.1, p.2) (case_stops (value_in c.args.self.now) c.args.trees.now _ c.args.place c.loop-i.i _ (omega (arith, c.loop-i-test.true)) c.index-trees-i.is c.in_err-holds.ensures c.loop-i.invariant)
-
-pub conditional-returns-then-trees-eq3 : goal.conditional-returns-then-trees-eq3
-conditional-returns-then-trees-eq3 t c =
-    gives_as _ (if_case c.args.self.now.width c.args.place c.args.trees.now c.args.self.now.bound c.args.self.now.state c.args.self.now.next c.if-trees-eq3.true) c.cases.ensures
+    rw (p.1, p.2) (junction_stops (value_in c.args.self.now) c.args.trees.now _ c.args.decides c.args.place c.loop-e.e-index _ c.loop-e-test.true c.e-item.is c.in_err-holds.ensures.0 c.loop-e.invariant)
 
 pub implication-returns-in_err-guard-in-len2 : goal.implication-returns-in_err-guard-in-len2
 implication-returns-in_err-guard-in-len2 t c =
     let p = err_from_is_err_and c.from_residual.result c.from_residual.ensures.1 in
-    rw (p.1, p.2) (premise_stops (value_in c.args.self.now) c.args.place c.args.trees.now _ _ (two_items _ _ _ c.in-len2.len_at_least c.in-len2.len_below c.left-item.is c.right-item.is) _ c.in_err-guard-in-len2.ensures)
+    rw (p.1, p.2) (premise_stops (value_in c.args.self.now) c.args.place c.args.trees.now _ _ (two_items _ _ _ c.in-len2.len_at_least c.in-len2.len_below c.left-item.is c.right-item.is) _ c.in_err-guard-in-len2.ensures.0)
 
 pub implication-returns-then-not-branch : goal.implication-returns-then-not-branch
 implication-returns-then-not-branch t c =
@@ -61,7 +39,7 @@ implication-returns-then-not-branch t c =
 pub implication-returns-in_err-guard-in-len2-2 : goal.implication-returns-in_err-guard-in-len2-2
 implication-returns-in_err-guard-in-len2-2 t c =
     let p = err_from_is_err_and c.from_residual-in_err-guard-in-len2-2.result c.from_residual-in_err-guard-in-len2-2.ensures.1 in
-    rw (p.1, p.2) (conclusion_stops (value_in c.args.self.now) c.args.place c.args.trees.now _ _ (two_items _ _ _ c.in-len2.len_at_least c.in-len2.len_below c.left-item.is c.right-item.is) _ _ c.in_ok-guard-in-len2.ensures c.if-not-branch.false c.in_err-guard-in-len2-2.ensures)
+    rw (p.1, p.2) (conclusion_stops (value_in c.args.self.now) c.args.place c.args.trees.now _ _ (two_items _ _ _ c.in-len2.len_at_least c.in-len2.len_below c.left-item.is c.right-item.is) _ _ c.in_ok-guard-in-len2.ensures c.if-not-branch.false c.in_err-guard-in-len2-2.ensures.0)
 
 pub implication-returns-in_ok-guard-in-len2-2 : goal.implication-returns-in_ok-guard-in-len2-2
 implication-returns-in_ok-guard-in-len2-2 t c =
@@ -71,7 +49,7 @@ pub joined-loop-e-preserved : goal.joined-loop-e-preserved
 joined-loop-e-preserved t c =
     let z = joins_value _ _ _ _ _ _ c.value-one.ensures c.in_ok-join.ensures in
     record {
-      fault = fault_next (value_in c.args.self.now) _ _ _ _ _ _ c.loop-e-test.true c.e-item.is refl z.0 c.loop-e.invariant.fault;
+      fault = join_next joined fault_of (λ o os. refl) (value_in c.args.self.now) _ _ _ _ _ _ c.loop-e-test.true c.e-item.is refl z.0 c.loop-e.invariant.fault;
       values = values_next (value_in c.args.self.now) _ _ _ _ _ _ c.loop-e-test.true c.e-item.is refl z.1 c.loop-e.invariant.values;
     }
 
@@ -89,7 +67,7 @@ bodies-loop-choice-preserved t c =
     let body = λ (d : List Value). first_in (with_names c.args.self.now c.args.site.names.now d) c.args.site.place c.args.trees.now in
     let z = joins_value _ _ _ _ _ _ c.under-one.ensures c.in_ok-join.ensures in
     record {
-      fault = fault_next body _ _ _ _ _ _ c.loop-choice-test.true c.choice-item.is (ap body c.as_slice.ensures) z.0 c.loop-choice.invariant.fault;
+      fault = join_next joined fault_of (λ o os. refl) body _ _ _ _ _ _ c.loop-choice-test.true c.choice-item.is (ap body c.as_slice.ensures) z.0 c.loop-choice.invariant.fault;
       values = values_next body _ _ _ _ _ _ c.loop-choice-test.true c.choice-item.is (ap body c.as_slice.ensures) z.1 c.loop-choice.invariant.values;
     }
 
@@ -103,7 +81,7 @@ indexes-loop-n-preserved t c =
     let r = c.args.self.now in
     let lt = c.loop-n-test.true in
     let n = (get_or c.args.counts.now c.loop-n.n-index 0) in
-    let is : n ≡ get_or c.args.counts.now c.loop-n.n-index n = same_item c.args.counts.now c.loop-n.n-index 0 lt in
+    let is : n ≡ get_or c.args.counts.now c.loop-n.n-index n = get_or_default c.args.counts.now c.loop-n.n-index 0 n lt in
     let back : c.after-rest.result.now ≡ drop 1 (drop n c.loop-n.rest.now) = c.after-rest.ensures ∙ ap (drop 1) c.after.ensures in
     record {
       fault = subst (λ b. join_faults c.join_faults-fault.result (joined (outcomes_in r (index_trees (drop (c.loop-n.n-index + 1) c.args.counts.now) b))) ≡ joined (outcomes_in r (index_trees c.args.counts.now c.args.trees.now))) (sym back)
@@ -115,25 +93,10 @@ indexes-loop-n-preserved t c =
       small = λ f. further_no_deeper f 1 _ _ _ c.after-rest.ensures (further_no_deeper f n _ _ _ c.after.ensures (c.loop-n.invariant.small f));
     }
 
-pub updated-update-requires : goal.updated-update-requires
-updated-update-requires t c =
-    let small : (f : Expr → ℕ) → most f c.after-sides.result.now ≤ most f c.args.trees.now = λ f. further_no_deeper f _ _ _ _ c.after-sides.ensures (c.loop-n.invariant.small f) in
-    (grind (arith, small, common_steps), c.loop-n.invariant.normal)
-
-pub updated-loop-n-preserved : goal.updated-loop-n-preserved
-updated-loop-n-preserved t c =
-    let r = c.args.self.now in
-    record {
-      same = updated_next r.width c.args.site.place c.args.site.names.now r.bound r.state r.next c.args.paths.now c.loop-n.n-index c.loop-n-item.result c.loop-n.rest.now _ _ _ _ c.in_ok-result.result _
-          c.loop-n-test.true c.loop-n-item.is c.as_slice.ensures c.after-sides.ensures c.after-rest.ensures c.in_ok-result.ensures.1 c.loop-n.invariant.same;
-      normal = c.in_ok-result.ensures.0;
-      small = λ f. further_no_deeper f 1 _ _ _ c.after-rest.ensures (further_no_deeper f _ _ _ _ c.after-sides.ensures (c.loop-n.invariant.small f));
-    }
-
 pub update-under-requires : goal.update-under-requires
 update-under-requires t c =
     let old = reached_normal _ _ _ c.requires c.in-At.ensures in
-    let some = one_is_normal _ _ _ c.as_slice.ensures.value c.in_ok-olds-in-At.ensures old in
+    let some = one_is_normal _ _ _ c.as_slice.ensures.value (c.in_ok-olds-in-At.ensures.items ∙ ap (λ v. v ∷ []) c.in_ok-copy_value-in-At.ensures) old in
     (grind (arith, common_steps), some)
 
 pub update-returns-in_ok-set_path-in-At : goal.update-returns-in_ok-set_path-in-At
@@ -142,44 +105,12 @@ update-returns-in_ok-set_path-in-At t c =
     let old = reached_normal _ _ _ c.requires c.in-At.ensures in
     let some = one_is_normal _ _ _ refl refl old in
     let is : Val c.in_ok-new-in-At.new ≡ first_in (with_names r c.args.site.names.now (c.in-At.old.now ∷ [])) c.args.site.place c.args.sides.now =
-    sym c.in_ok-new-in-At.ensures ∙ ap (λ vs. first_in (with_names r c.args.site.names.now vs) c.args.site.place c.args.sides.now) (c.as_slice.ensures.value ∙ c.in_ok-olds-in-At.ensures) in
+    sym c.in_ok-new-in-At.ensures ∙ ap (λ vs. first_in (with_names r c.args.site.names.now vs) c.args.site.place c.args.sides.now) (c.as_slice.ensures.value ∙ (c.in_ok-olds-in-At.ensures.items ∙ ap (λ v. v ∷ []) c.in_ok-copy_value-in-At.ensures)) in
     let new = first_normal r.width _ r.state r.next (bound_are_normal _ _ _ _ _ c.is_readable.ensures.normal some) c.args.site.place c.args.sides.now c.in_ok-new-in-At.new is in (
       c.in_ok-set_path-in-At.ensures.normal c.requires new,
       λ us. ap (updated c.args.site.place us) c.in_ok-set_path-in-At.ensures.value
           ∙ updated_at c.args.site.place (update_in r c.args.site.place c.args.site.names.now c.args.path.now c.args.sides.now) us c.args.value c.in-At.old.now c.in_ok-new-in-At.new c.in-At.ensures is,
     )
-
-pub folded-under-requires : goal.folded-under-requires
-folded-under-requires t c =
-    let some = two_are_normal _ _ _ _ c.as_slice.ensures.value c.in_ok-pair.ensures c.loop-item.invariant.normal
-    (item_normal _ _ _ c.requires.items c.loop-item-test.true c.loop-item-item.is) in
-    (grind (arith, common_steps), some)
-
-pub folded-loop-item-preserved : goal.folded-loop-item-preserved
-folded-loop-item-preserved t c =
-    let r = c.args.self.now in
-    let body : Value → Value → Outcome = λ a b. first_in (with_names r c.args.site.names.now (a ∷ b ∷ [])) c.args.site.place c.args.args.now in
-    let is : Val c.in_ok-so_far.so_far ≡ body c.loop-item.so_far c.loop-item-item.result.1 =
-    sym c.in_ok-so_far.ensures ∙ ap (λ vs. first_in (with_names r c.args.site.names.now vs) c.args.site.place c.args.args.now) (c.as_slice.ensures.value ∙ c.in_ok-pair.ensures) in
-    let some = two_are_normal _ _ _ _ refl refl c.loop-item.invariant.normal (item_normal _ _ _ c.requires.items c.loop-item-test.true c.loop-item-item.is) in
-    record {
-      same = folded_next body c.args.items.now _ c.loop-item-item.result _ c.in_ok-so_far.so_far _ c.loop-item-test.true c.loop-item-item.is is c.loop-item.invariant.same;
-      normal = first_normal r.width _ r.state r.next (bound_are_normal _ _ _ _ _ c.is_readable.ensures.normal some) c.args.site.place c.args.args.now c.in_ok-so_far.so_far is;
-    }
-
-pub cases-loop-i-preserved : goal.cases-loop-i-preserved
-cases-loop-i-preserved t c =
-    case_goes (value_in c.args.self.now) _ _ _ c.args.place _ (omega (arith, c.loop-i-test.true)) c.index-trees-i.is refl (c.in_ok-holds.ensures ∙ ap yes_no c.if-holds.false) c.loop-i.invariant
-
-pub cases-first-requires : goal.cases-first-requires
-cases-first-requires t c = (grind (arith, most-drop, common_steps), tt)
-
-pub updated-returns-in_err-result : goal.updated-returns-in_err-result
-updated-returns-in_err-result t c =
-    let r = c.args.self.now in
-    let p = err_from_is_err_and c.from_residual.result c.from_residual.ensures.1 in
-    rw (p.1, p.2) (updated_stops r.width c.args.site.place c.args.site.names.now r.bound r.state r.next c.args.paths.now c.loop-n.n-index c.loop-n-item.result c.loop-n.rest.now _ _ _ _ _
-    c.loop-n-test.true c.loop-n-item.is c.as_slice.ensures c.after-sides.ensures c.in_err-result.ensures c.loop-n.invariant.same)
 
 pub operands-returns-clause-normal : goal.operands-returns-clause-normal
 operands-returns-clause-normal t c =
@@ -194,72 +125,13 @@ bodies-returns t c =
     gives_all_as c.all_of.result (fault_done body c.args.choices.now _ _ (omega (arith, c.loop-choice-test.false)) c.loop-choice.invariant.fault)
     (values_done body c.args.choices.now _ _ (omega (arith, c.loop-choice-test.false)) c.loop-choice.invariant.values) c.all_of.ensures
 
-pub fold-folded-requires : goal.fold-folded-requires
-fold-folded-requires t c =
-    let ok = subst (λ o. IfSome o (λ (n : Value × List (Value × Value)). Normal n.0 × Normal (Fun n.1))) c.in_ok-start.ensures.ok_part
-    (c.value_and_items.ensures.normal (subst (All Normal) (sym c.into_vec.ensures) c.in_ok-operands.ensures.normal)) in
-    (grind (arith, common_steps), (ok.0, results_normal _ _ c.as_slice.ensures ok.1))
-
-pub fold-returns : goal.fold-returns
-fold-returns t c =
-    let r = c.args.self.now in
-    let p = c.args.site.place in
-    let body : Value → Value → Outcome = λ a b. first_in (with_names r c.args.site.names.now (a ∷ b ∷ [])) p c.args.args.now in
-    let all = subst (λ o. IfSome o (λ (n : Value × List (Value × Value)). (q : Place) (f : Value → Value → Outcome) → fold_over q f c.into_vec.result.items ≡ folded f (results n.1) n.0))
-    c.in_ok-start.ensures.ok_part c.value_and_items.ensures.some in
-    let is = all p body in
-    gives_as c.folded.result
-    (ap (λ z. folded body (results z) c.in_ok-start.start) c.as_slice.ensures ∙ sym is ∙ ap (fold_over p body) c.into_vec.ensures
-    ∙ strict_goes c.in_ok-operands.operands (outcomes_in r c.after.result.now) (fold_over p body) c.in_ok-operands.ensures.values
-    ∙ ap (λ z. strict (outcomes_in r z) (fold_over p body)) c.after.ensures)
-    c.folded.ensures
-
-pub form-returns-then-has_form : goal.form-returns-then-has_form
-form-returns-then-has_form t c =
-    form_gives_as c.form_of.result (ap (form_node c.args.self.now (out-Expr c.args.e.now).place (out-Expr c.args.e.now).op) c.as_slice.ensures ∙ form_is_node c.args.self.now c.args.e.now (sym c.has_form.ensures ∙ c.if-has_form.true)) c.form_of.ensures
-
 pub forms-loop-e-preserved : goal.forms-loop-e-preserved
 forms-loop-e-preserved t c =
     let z = joins_form _ _ _ _ _ _ c.form-one.ensures c.in_ok-join.ensures in
     record {
-      fault = form_fault_next (form_in c.args.self.now) _ _ _ _ _ c.loop-e-test.true c.e-item.is z.0 c.loop-e.invariant.fault;
+      fault = join_next form_faults form_fault (λ o os. refl) (form_in c.args.self.now) _ _ _ _ _ _ c.loop-e-test.true c.e-item.is refl z.0 c.loop-e.invariant.fault;
       forms = λ none. forms_next (form_in c.args.self.now) _ _ _ _ _ c.loop-e-test.true c.e-item.is (z.1 none).1 (c.loop-e.invariant.forms (z.1 none).0);
     }
-
-pub except-updated-requires : goal.except-updated-requires
-except-updated-requires t c =
-    let r = c.args.self.now in
-    let found = except_goes r c.args.site.place c.args.counts.now c.args.site.names.now c.args.args.now c.after-rest.result.now c.function-item.result c.in-len1-up.len_at_least c.function-item.is c.after-rest.ensures
-    c.value.result c.indexes.result c.value.ensures c.indexes.ensures (c.in_ok-start-in-len1-up.start, c.in_ok-start-in-len1-up.found) (sym c.in_ok-start-in-len1-up.ensures) in
-    (grind (arith, most-drop, common_steps), one_normal r.width r.bound r.state r.next c.is_readable.ensures.normal c.function-item.result c.in_ok-start-in-len1-up.start (sym found.0))
-
-pub form-returns-in_err-value : goal.form-returns-in_err-value
-form-returns-in_err-value t c =
-    let p = err_from_is_err_and c.from_residual.result c.from_residual.ensures.1 in
-    rw (p.1, p.2) (form_gives_as (Err _) (plain_is c.args.self.now.width c.args.e.now c.args.self.now.bound c.args.self.now.state c.args.self.now.next (sym c.has_form.ensures ∙ c.if-has_form.false)) (plain_stops _ _ c.in_err-value.ensures))
-
-pub form-returns-in_ok-value : goal.form-returns-in_ok-value
-form-returns-in_ok-value t c =
-    sym (plain_is c.args.self.now.width c.args.e.now c.args.self.now.bound c.args.self.now.state c.args.self.now.next (sym c.has_form.ensures ∙ c.if-has_form.false)) ∙ ap plain c.in_ok-value.ensures
-
-pub form_of-returns-in_err-forms-in-RecSet : goal.form_of-returns-in_err-forms-in-RecSet
-form_of-returns-in_err-forms-in-RecSet t c =
-    let p = err_from_is_err_and c.from_residual.result c.from_residual.ensures.1 in
-    rw (p.1, p.2) (form_gives_as (Err _) (ap (λ o. form_node c.args.self.now c.args.place o c.args.trees.now) (sym c.in-RecSet.is)) (c.in_err-forms-in-RecSet.ensures (Records _)))
-
-pub form_of-returns-in_err-set_forms-in-Product : goal.form_of-returns-in_err-set_forms-in-Product
-form_of-returns-in_err-set_forms-in-Product t c =
-    let p = err_from_is_err_and c.from_residual-in_err-set_forms-in-Product.result c.from_residual-in_err-set_forms-in-Product.ensures.1 in
-    rw (p.1, p.2) (form_gives_as (Err _) (ap (λ o. form_node c.args.self.now c.args.place o c.args.trees.now) (sym c.in-Product.is)) (c.in_err-set_forms-in-Product.ensures Tuples))
-
-pub form_of-returns-in_ok-copy_texts-in-RecSet : goal.form_of-returns-in_ok-copy_texts-in-RecSet
-form_of-returns-in_ok-copy_texts-in-RecSet t c =
-    ap (λ o. form_node c.args.self.now c.args.place o c.args.trees.now) c.in-RecSet.is ∙ c.in_ok-forms-in-RecSet.ensures (Records _)
-    ∙ ap (λ z. Made (Records z c.in_ok-forms-in-RecSet.forms)) (sym c.in_ok-copy_texts-in-RecSet.ensures)
-
-pub form_of-returns-in_ok-set_forms-in-Product : goal.form_of-returns-in_ok-set_forms-in-Product
-form_of-returns-in_ok-set_forms-in-Product t c =
-    ap (λ o. form_node c.args.self.now c.args.place o c.args.trees.now) c.in-Product.is ∙ c.in_ok-set_forms-in-Product.ensures Tuples
 
 pub function_set-returns-in_err-domain-in-len1-up : goal.function_set-returns-in_err-domain-in-len1-up
 function_set-returns-in_err-domain-in-len1-up t c =
@@ -285,16 +157,93 @@ membership-returns-in_ok-v-in-len2 t c =
     ∙ ap (λ es. in_form c.args.place test (outcomes_in r es) (forms_in r es)) (sym (two_items _ _ _ c.in-len2.len_at_least c.in-len2.len_below c.left-item.is c.right-item.is)))
     c.tested.ensures
 
-pub one_form-returns-in_err-form-in-len1 : goal.one_form-returns-in_err-form-in-len1
-one_form-returns-in_err-form-in-len1 t c =
+pub branch-loop-i-preserved : goal.branch-loop-i-preserved
+branch-loop-i-preserved t c =
+    branch_goes c.args.self.now c.args.place c.args.trees.now c.loop-i.i _ (omega (arith, c.loop-i-test.true)) c.index-trees-i.is c.loop-i.invariant
+    (c.in_ok-holds.ensures ∙ ap yes_no c.if-holds.false)
+
+pub branch-returns-in_err-holds-clause-branch : goal.branch-returns-in_err-holds-clause-branch
+branch-returns-in_err-holds-clause-branch t c =
     let p = err_from_is_err_and c.from_residual.result c.from_residual.ensures.1 in
-    rw (p.1, p.2) (form_gives_as (Err _) (ap (λ es. form_of_one c.args.place (one_form c.args.op.now) (forms_in c.args.self.now es)) (sym (only_item _ _ c.in-len1.len_at_least c.in-len1.len_below c.only-item.is)))
-    (one_form_stops _ c.args.place (one_form c.args.op.now) _ c.in_err-form-in-len1.ensures))
+    rw (p.1, p.2) (branch_gives_as (Err _) (sym (well_formed c.args.self.now c.args.place c.args.op.now c.args.trees.now (sym c.is_malformed.ensures ∙ c.if-is_malformed.false)))
+    (branch_stops c.args.self.now c.args.place c.args.trees.now c.loop-i.i _ (omega (arith, c.loop-i-test.true)) c.index-trees-i.is c.loop-i.invariant _ c.in_err-holds.ensures.1))
 
-pub set_forms-returns-then-all_set_forms : goal.set_forms-returns-then-all_set_forms
-set_forms-returns-then-all_set_forms t c =
-    λ make. set_forms_are c.args.place _ c.in_ok-forms.forms true c.in_ok-forms.ensures (sym c.if-all_set_forms.true ∙ c.all_set_forms.ensures ∙ ap all_set_forms c.as_slice.ensures) make
+pub branch-returns-then-holds-clause-branch : goal.branch-returns-then-holds-clause-branch
+branch-returns-then-holds-clause-branch t c =
+    well_formed c.args.self.now c.args.place c.args.op.now c.args.trees.now (sym c.is_malformed.ensures ∙ c.if-is_malformed.false)
+    ∙ branch_taken c.args.self.now c.args.place c.args.trees.now c.loop-i.i _ (omega (arith, c.loop-i-test.true)) c.index-trees-i.is c.loop-i.invariant _
+    c.index-trees-i-then-holds.is (c.in_ok-holds.ensures ∙ ap yes_no c.if-holds.true)
 
-pub set_forms-returns-else-all_set_forms : goal.set_forms-returns-else-all_set_forms
-set_forms-returns-else-all_set_forms t c =
-    λ make. set_forms_are c.args.place _ c.in_ok-forms.forms false c.in_ok-forms.ensures (sym c.if-all_set_forms.false ∙ c.all_set_forms.ensures ∙ ap all_set_forms c.as_slice.ensures) make
+pub form-returns : goal.form-returns
+form-returns t c = form_gives_as c.form_of.result (form_is_node c.args.self.now c.args.e.now) c.form_of.ensures
+
+pub fold-under-requires : goal.fold-under-requires
+fold-under-requires t c =
+    let some = two_are_normal _ _ _ _ c.as_slice.ensures.value (c.in_ok-pair.ensures.items ∙ ap (λ v. c.loop-item.so_far ∷ v ∷ []) c.in_ok-copy_value.ensures) c.loop-item.invariant.normal
+    (item_normal _ _ _ c.loop-item.invariant.all c.loop-item-test.true c.loop-item-item.is) in
+    (grind (arith, common_steps), some)
+
+pub fold-loop-item-init : goal.fold-loop-item-init
+fold-loop-item-init t c =
+    let r = c.args.self.now in
+    let p = c.args.site.place in
+    let body : Value → Value → Outcome = λ a b. first_in (with_names r c.args.site.names.now (a ∷ b ∷ [])) p c.args.args.now in
+    let found = subst (λ o. IfSome o (λ (n : Bor Value × Bor (List (Value × Value))). (q : Place) (f : Value → Value → Outcome) → fold_over q f c.as_slice-values.result.now ≡ folded f (results n.1.now) n.0.now))
+    c.in_ok-start.ensures.ok_part c.value_and_items.ensures.some in
+    let ok = subst (λ o. IfSome o (λ (n : Bor Value × Bor (List (Value × Value))). Normal n.0.now × Normal (Fun n.1.now))) c.in_ok-start.ensures.ok_part
+    (c.value_and_items.ensures.normal (subst (All Normal) (sym c.as_slice-values.ensures) c.in_ok-operands.ensures.normal)) in
+    record {
+      same = ap (folded body (results c.as_slice-pairs.result.now)) c.in_ok-first.ensures
+          ∙ ap (λ z. folded body (results z) c.in_ok-start.start.now) c.as_slice-pairs.ensures ∙ sym (found p body) ∙ ap (fold_over p body) c.as_slice-values.ensures
+          ∙ strict_goes c.in_ok-operands.operands (outcomes_in r c.after.result.now) (fold_over p body) c.in_ok-operands.ensures.values
+          ∙ ap (λ z. strict (outcomes_in r z) (fold_over p body)) c.after.ensures;
+      normal = subst Normal (sym c.in_ok-first.ensures) ok.0;
+      all = results_normal _ _ c.as_slice-pairs.ensures ok.1;
+    }
+
+pub fold-loop-item-preserved : goal.fold-loop-item-preserved
+fold-loop-item-preserved t c =
+    let r = c.args.self.now in
+    let body : Value → Value → Outcome = λ a b. first_in (with_names r c.args.site.names.now (a ∷ b ∷ [])) c.args.site.place c.args.args.now in
+    let is : Val c.in_ok-so_far.so_far ≡ body c.loop-item.so_far c.loop-item-item.result.1 =
+    sym c.in_ok-so_far.ensures ∙ ap (λ vs. first_in (with_names r c.args.site.names.now vs) c.args.site.place c.args.args.now) (c.as_slice.ensures.value ∙ (c.in_ok-pair.ensures.items ∙ ap (λ v. c.loop-item.so_far ∷ v ∷ []) c.in_ok-copy_value.ensures)) in
+    let some = two_are_normal _ _ _ _ refl refl c.loop-item.invariant.normal (item_normal _ _ _ c.loop-item.invariant.all c.loop-item-test.true c.loop-item-item.is) in
+    record {
+      same = folded_next body _ _ c.loop-item-item.result _ c.in_ok-so_far.so_far _ c.loop-item-test.true c.loop-item-item.is is c.loop-item.invariant.same;
+      normal = first_normal r.width _ r.state r.next (bound_are_normal _ _ _ _ _ c.is_readable.ensures.normal some) c.args.site.place c.args.args.now c.in_ok-so_far.so_far is;
+      all = c.loop-item.invariant.all;
+    }
+
+pub except-loop-n-init : goal.except-loop-n-init
+except-loop-n-init t c =
+    let r = c.args.self.now in
+    let p = c.args.site.place in
+    let found = except_goes r p c.args.counts.now c.args.site.names.now c.args.args.now c.after-trees.result.now c.function-item.result c.in-len1-up.len_at_least c.function-item.is c.after-trees.ensures
+    c.value.result c.indexes.result c.value.ensures c.indexes.ensures (c.in_ok-start.start, c.in_ok-start.found) (sym c.in_ok-start.ensures) in
+    record {
+      same = ap (λ paths. updated p (updates_in r p c.args.site.names.now paths c.after-trees.result.now) c.in_ok-start.start) c.as_slice-paths.ensures ∙ found.1;
+      normal = one_normal r.width r.bound r.state r.next c.is_readable.ensures.normal c.function-item.result c.in_ok-start.start (sym found.0);
+      small = λ f. further_no_deeper f 1 (most f c.args.args.now) c.args.args.now _ c.after-trees.ensures (omega arith);
+    }
+
+pub except-update-requires : goal.except-update-requires
+except-update-requires t c =
+    let small : (f : Expr → ℕ) → most f c.after-sides.result.now ≤ most f c.args.args.now = λ f. further_no_deeper f _ _ _ _ c.after-sides.ensures (c.loop-n.invariant.small f) in
+    (grind (arith, small, common_steps), c.loop-n.invariant.normal)
+
+pub except-loop-n-preserved : goal.except-loop-n-preserved
+except-loop-n-preserved t c =
+    let r = c.args.self.now in
+    record {
+      same = updated_next r.width c.args.site.place c.args.site.names.now r.bound r.state r.next c.as_slice-paths.result.now c.loop-n.n-index c.loop-n-item.result c.loop-n.rest.now _ _ _ _ c.in_ok-result.result _
+          c.loop-n-test.true c.loop-n-item.is c.as_slice.ensures c.after-sides.ensures c.after-rest.ensures c.in_ok-result.ensures.1 c.loop-n.invariant.same;
+      normal = c.in_ok-result.ensures.0;
+      small = λ f. further_no_deeper f 1 _ _ _ c.after-rest.ensures (further_no_deeper f _ _ _ _ c.after-sides.ensures (c.loop-n.invariant.small f));
+    }
+
+pub except-returns-in_err-result : goal.except-returns-in_err-result
+except-returns-in_err-result t c =
+    let r = c.args.self.now in
+    let p = err_from_is_err_and c.from_residual-in_err-result.result c.from_residual-in_err-result.ensures.1 in
+    rw (p.1, p.2) (updated_stops r.width c.args.site.place c.args.site.names.now r.bound r.state r.next c.as_slice-paths.result.now c.loop-n.n-index c.loop-n-item.result c.loop-n.rest.now _ _ _ _ _
+    c.loop-n-test.true c.loop-n-item.is c.as_slice.ensures c.after-sides.ensures c.in_err-result.ensures c.loop-n.invariant.same)

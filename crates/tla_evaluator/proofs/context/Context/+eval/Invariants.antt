@@ -1,13 +1,8 @@
 use Rattle.std.proofs.Common.{◌≡◌, ℕ, ◌++◌, ◌∷◌, [], ◌*◌, ◌≤◌, drop}
-use denote.Param.Weighed.{most}
-use Rattle.tla_values.specs.Sets.{Normal}
-use Rattle.tla_meaning.specs.declared.expr.Expr.{Expr}
-use Rattle.tla_meaning.specs.Forms.{form_faults, results}
-use Rattle.tla_meaning.specs.Meaning.{case_chosen, folded, updated}
-use Rattle.tla_meaning.specs.Outcomes.{join_faults, joined, values}
-use Rattle.tla_evaluator.specs.inner.Nodes.{bodies_in, index_trees, junction, paths_in, updates_in}
+use Rattle.tla_evaluator.proofs.Words.{All, Expr, NoFault, Normal, folded, form_faults, join_faults, joined, most, results, updated, values}
+use Rattle.tla_evaluator.specs.inner.Branches.{case_branch}
+use Rattle.tla_evaluator.specs.inner.Nodes.{bodies_in, except_in, fold_in, index_trees, junction, paths_in, updates_in}
 use Rattle.tla_evaluator.specs.inner.Readings.{first_in, forms_in, outcomes_in, with_names}
-use Rattle.tla_meaning.specs.declared.outcome.Fault.TheVariants.{NoFault}
 use Rattle.tla_evaluator.proofs.StopLemmas.{formed}
 use Rattle.tla_evaluator.proofs.context.Context.+eval.Given as goal
 
@@ -21,9 +16,8 @@ abbrev pub invariant-junction-loop-e : goal.invariant-junction-loop-e
 invariant-junction-loop-e l =
     junction l.decides l.place (outcomes_in l.self (drop l.e-index l.trees)) ≡ junction l.decides l.place (outcomes_in l.self l.trees)
 
-abbrev pub invariant-cases-loop-i : goal.invariant-cases-loop-i
-invariant-cases-loop-i l =
-    case_chosen l.place (outcomes_in l.self (drop (2 * l.i) l.trees)) ≡ case_chosen l.place (outcomes_in l.self l.trees)
+abbrev pub invariant-branch-loop-i : goal.invariant-branch-loop-i
+invariant-branch-loop-i l = case_branch l.self l.place (drop (2 * l.i) l.trees) ≡ case_branch l.self l.place l.trees
 
 abbrev pub invariant-bodies-loop-choice : goal.invariant-bodies-loop-choice
 invariant-bodies-loop-choice l = record {
@@ -41,19 +35,20 @@ invariant-indexes-loop-n l = record {
   small : (f : Expr → ℕ) → most f l.rest ≤ most f l.trees;
 }
 
-abbrev pub invariant-updated-loop-n : goal.invariant-updated-loop-n
-invariant-updated-loop-n l = record {
+abbrev pub invariant-except-loop-n : goal.invariant-except-loop-n
+invariant-except-loop-n l = record {
   same : updated l.site.place (updates_in l.self l.site.place l.site.names.now (drop l.n-index l.paths) l.rest) l.result
-      ≡ updated l.site.place (updates_in l.self l.site.place l.site.names.now l.paths l.trees) l.initial.result;
+      ≡ except_in l.self l.site.place l.counts l.site.names.now l.args;
   normal : Normal l.result;
-  small : (f : Expr → ℕ) → most f l.rest ≤ most f l.trees;
+  small : (f : Expr → ℕ) → most f l.rest ≤ most f l.args;
 }
 
-abbrev pub invariant-folded-loop-item : goal.invariant-folded-loop-item
-invariant-folded-loop-item l = record {
-  same : folded (λ a b. first_in (with_names l.self l.site.names.now (a ∷ b ∷ [])) l.site.place l.args) (results (drop l.item-index l.items)) l.so_far
-      ≡ folded (λ a b. first_in (with_names l.self l.site.names.now (a ∷ b ∷ [])) l.site.place l.args) (results l.items) l.initial.so_far;
+abbrev pub invariant-fold-loop-item : goal.invariant-fold-loop-item
+invariant-fold-loop-item l = record {
+  same : folded (λ a b. first_in (with_names l.self l.site.names.now (a ∷ b ∷ [])) l.site.place l.args) (results (drop l.item-index l.pairs)) l.so_far
+      ≡ fold_in l.self l.site.place l.site.names.now l.args;
   normal : Normal l.so_far;
+  all : All Normal (results l.pairs);
 }
 
 abbrev pub invariant-forms-loop-e : goal.invariant-forms-loop-e

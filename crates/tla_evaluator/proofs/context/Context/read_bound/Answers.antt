@@ -1,6 +1,5 @@
 use Rattle.std.proofs.Common.{arith, ◌≡◌, ◌+◌, ◌-◌, ◌<◌, length, sym, ap, ◌∙◌}
-use Rattle.tla_meaning.specs.declared.outcome.Outcome.TheVariants.{Val}
-use Rattle.tla_meaning.specs.Scopes.{find_last, value_found}
+use Rattle.tla_evaluator.proofs.Words.{Val, find_last, value_found}
 use Rattle.tla_evaluator.specs.inner.Bound.{binding}
 use Rattle.tla_evaluator.specs.inner.Readings.{Reading}
 use Rattle.tla_evaluator.proofs.NameLemmas.{find_last-hit, find_last-miss}

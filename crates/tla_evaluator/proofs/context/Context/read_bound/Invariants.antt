@@ -1,5 +1,5 @@
 use Rattle.std.proofs.Common.{◌≡◌, ◌≤◌, take, length}
-use Rattle.tla_meaning.specs.Scopes.{find_last}
+use Rattle.tla_evaluator.proofs.Words.{find_last}
 use Rattle.tla_evaluator.specs.inner.Bound.{bindings}
 use Rattle.tla_evaluator.proofs.context.Context.read_bound.Given as goal
 

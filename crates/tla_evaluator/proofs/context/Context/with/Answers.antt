@@ -1,6 +1,5 @@
 use Rattle.std.proofs.Common.{◌≡◌, ◌++◌, ◌∙◌, ap, arith}
-use Rattle.std.proofs.lemmas.Grind.{common_steps}
-use Rattle.tla_meaning.specs.Scopes.{bound_to}
+use Rattle.tla_evaluator.proofs.Words.{bound_to, common_steps}
 use Rattle.tla_evaluator.specs.inner.Bound.{bindings}
 use Rattle.tla_evaluator.proofs.NormalBinds.{longer_normal}
 use Rattle.tla_evaluator.proofs.context.Context.with.Goals as goal

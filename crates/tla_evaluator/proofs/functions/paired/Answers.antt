@@ -1,6 +1,6 @@
 use Rattle.std.proofs.Common.{◌∙◌, sym}
 use Rattle.tla_evaluator.proofs.ListLemmas.{zip_none}
-use Rattle.tla_evaluator.proofs.records.paired.Goals as goal
+use Rattle.tla_evaluator.proofs.functions.paired.Goals as goal
 
 pub loop-value-init : goal.loop-value-init
 loop-value-init c = c.new-pairs.ensures.items ∙ sym (zip_none c.args.arguments.now)

@@ -1,7 +1,7 @@
 use Rattle.std.proofs.Common.{arith, ◌≡◌, length}
-use Rattle.std.proofs.lemmas.Grind.{common_steps}
+use Rattle.tla_evaluator.proofs.Words.{common_steps}
 use Rattle.tla_evaluator.proofs.ListLemmas.{zip_more, zip_same}
-use Rattle.tla_evaluator.proofs.records.push_pair.Goals as goal
+use Rattle.tla_evaluator.proofs.functions.push_pair.Goals as goal
 
 pub returns-in_ok-push : goal.returns-in_ok-push
 returns-in_ok-push c = λ values e.

@@ -1,13 +1,9 @@
 use Rattle.std.proofs.Common.{◌∙◌, ap, sym}
-use Rattle.std.proofs.lemmas.Result.{err_from_is_err_and}
-use Rattle.tla_values.specs.Sets.{set_of}
-use Rattle.tla_values.specs.declared.value.Value.{Set}
-use Rattle.tla_meaning.specs.declared.outcome.Outcome.TheVariants.{Val}
-use Rattle.tla_meaning.specs.Shapes.{all_set_items}
+use Rattle.tla_evaluator.proofs.Words.{Set, Val, all_set_items, err_from_is_err_and, set_of}
 use Rattle.tla_evaluator.specs.inner.Results.{all_of}
 use Rattle.std.proofs.Common.{option_map}
 use Rattle.tla_evaluator.proofs.RowLemmas.{sets_give, sets_stop, union_all_is}
-use Rattle.tla_evaluator.proofs.operands.Row.union_of_all.Goals as goal
+use Rattle.tla_evaluator.proofs.operators.Row.union_of_all.Goals as goal
 
 pub returns : goal.returns
 returns c =

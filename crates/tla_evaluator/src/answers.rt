@@ -1,27 +1,60 @@
-// What several trees give, joined.
-ghost use Rattle.std.specs.Prelude.{◌≡◌, [], OnOk};
-ghost use Rattle.tla_meaning.specs.Outcomes.{before, join_faults, least};
-ghost use Rattle.tla_evaluator.specs.inner.Gives.{GivesAll, Guards, Joins, both, worse};
+// What keeps an evaluation from a value, what several trees give, joined, and the answer of a public call.
+ghost use Rattle.std.specs.Prelude.{◌≡◌, [], IfOk, OnOk, alloc_error};
+ghost use Rattle.tla_meaning.specs.declared.outcome.Outcome.{Outcome as Given};
+ghost use Rattle.tla_evaluator.specs.declared.answers.Stop.TheVariants.{Memory};
+ghost use Rattle.tla_evaluator.specs.inner.Gives.{Gives, GivesAll, Joins, both, worse};
+ghost use Rattle.tla_meaning.specs.Outcomes.{join_faults, least};
 
-use crate::stops::{Answer, Stop, Stored};
-use std::alloc::Global;
-use std::cmp::Ordering;
+use std::alloc::{AllocError, AllocFailed, Global};
 use tla_meaning::{Fault, Outcome, Place};
 use tla_values::{List, Value};
 
-pub(crate) fn before(p: Place, q: Place) -> bool
-    ensures { result ≡ before p q }
+// What is made, or want of memory.
+pub(crate) type Stored<T> = Result<T, AllocError>;
+
+// What is given, or what stops the evaluation.
+pub(crate) type Answer<T> = Result<T, Stop>;
+
+// A fault at its place, or want of memory.
+#[derive(Drop)]
+pub(crate) enum Stop {
+    Wrong(Place),
+    Big(Place),
+    Memory(AllocError),
+}
+
+impl From<AllocError> for Stop {
+    ghost from_gives = { λ e s. s ≡ Memory e };
+
+    fn from(e: AllocError) -> Stop {
+        Stop::Memory(e)
+    }
+}
+
+impl<T: Drop> From<AllocFailed<T>> for Stop {
+    ghost from_gives = { λ _ s. s ≡ Memory alloc_error };
+
+    fn from(e: AllocFailed<T>) -> Stop {
+        Stop::Memory(AllocError::from(e))
+    }
+}
+
+// The answer of a public call.
+pub(crate) fn told(answer: Answer<Value>) -> Stored<Outcome>
+    ensures { (o : Given) → Gives o answer → IfOk result (λ q. q ≡ o) }
 {
-    p.file
-        .cmp(&q.file)
-        .then(p.line.cmp(&q.line).then(p.col.cmp(&q.col)))
-        == Ordering::Less
+    match answer {
+        Ok(v) => Ok(Outcome::Val(v)),
+        Err(Stop::Wrong(p)) => Ok(Outcome::Wrong(p)),
+        Err(Stop::Big(p)) => Ok(Outcome::Big(p)),
+        Err(Stop::Memory(e)) => Err(e),
+    }
 }
 
 pub(crate) fn least(p: Place, q: Place) -> Place
     ensures { result ≡ least p q }
 {
-    if before(q, p) { q } else { p }
+    if q.is_before(p) { q } else { p }
 }
 
 // Wrong at the least place at which one is Wrong, else Big at the least place at which one is Big.
@@ -60,8 +93,7 @@ pub(crate) fn both<X: Drop, Y: Drop>(a: Answer<X>, b: Answer<Y>) -> Answer<(X, Y
 {
     match (a, b) {
         (Ok(x), Ok(y)) => Ok((x, y)),
-        (Ok(_), Err(s)) => Err(s),
-        (Err(s), Ok(_)) => Err(s),
+        (Ok(_), Err(s)) | (Err(s), Ok(_)) => Err(s),
         (Err(s), Err(t)) => Err(worse(s, t)),
     }
 }
@@ -88,18 +120,14 @@ pub(crate) fn join<T: Drop>(joined: &mut Joined<T>, one: Answer<T>) -> Stored<()
     ensures { OnOk result
         (Joins joined.old.fault joined.old.items.items one joined.new.fault joined.new.items.items) }
 {
-    match one {
-        Ok(x) => Ok(joined.items.push(x)?),
-        Err(Stop::Wrong(p)) => {
-            joined.fault = join_faults(joined.fault, Fault::IsWrong(p));
-            Ok(())
-        }
-        Err(Stop::Big(p)) => {
-            joined.fault = join_faults(joined.fault, Fault::IsBig(p));
-            Ok(())
-        }
-        Err(Stop::Memory(e)) => Err(e),
-    }
+    let fault = match one {
+        Ok(x) => return Ok(joined.items.push(x)?),
+        Err(Stop::Wrong(p)) => Fault::IsWrong(p),
+        Err(Stop::Big(p)) => Fault::IsBig(p),
+        Err(Stop::Memory(e)) => return Err(e),
+    };
+    joined.fault = join_faults(joined.fault, fault);
+    Ok(())
 }
 
 // All of what was joined, or the join of the faults.
@@ -110,15 +138,5 @@ pub(crate) fn all_of<T: Drop>(joined: Joined<T>) -> Answer<List<T>>
         Fault::NoFault => Ok(List::from_vec(joined.items)),
         Fault::IsWrong(p) => Err(Stop::Wrong(p)),
         Fault::IsBig(p) => Err(Stop::Big(p)),
-    }
-}
-
-// The truth value of a guard.
-pub(crate) fn truth(v: Value, place: Place) -> Answer<bool>
-    ensures { Guards place (Outcome.Val v) result }
-{
-    match v {
-        Value::Bool(b) => Ok(b),
-        _ => Err(Stop::Wrong(place)),
     }
 }

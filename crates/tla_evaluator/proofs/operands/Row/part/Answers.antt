@@ -1,7 +1,0 @@
-use Rattle.tla_evaluator.proofs.ListLemmas.{part_value}
-use Rattle.tla_evaluator.proofs.operands.Row.part.Goals as goal
-
-pub returns-in_ok-sequence_of_results-in-Some : goal.returns-in_ok-sequence_of_results-in-Some
-returns-in_ok-sequence_of_results-in-Some c =
-    let r = c.in-Some.ensures.some in
-    part_value c.args.self.now.place c.args.pairs.now _ _ _ _ _ r.0 r.1 r.2 r.3 c.in_ok-sequence_of_results-in-Some.ensures
