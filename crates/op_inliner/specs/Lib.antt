@@ -1,0 +1,11 @@
+pub mod Annotations
+pub mod Inlining
+pub mod NamesBack
+pub mod Primes
+pub mod Expanded
+pub mod Expansion
+pub mod Known
+pub mod Answers
+pub mod Means
+pub mod Places
+pub mod inner
