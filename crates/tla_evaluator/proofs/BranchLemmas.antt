@@ -5,12 +5,26 @@ use Rattle.tla_values.specs.declared.value.Value.TheOpen as layer
 use Rattle.tla_meaning.specs.declared.op.Op.TheVariants as op
 use Rattle.tla_meaning.specs.declared.outcome.Outcome.TheVariants as outcome
 use Rattle.tla_evaluator.specs.declared.answers.Stop.{Stop}
-use Rattle.tla_evaluator.specs.inner.Branches.{Branch, GivesBranch, Taken, WrongAt, branch_effect, branch_in, branch_value, by_guard, by_value, case_branch, is_malformed}
-use Rattle.tla_evaluator.specs.inner.Readings.{Reading, effect_in, effects_in, outcomes_in, value_in}
+use Rattle.tla_evaluator.specs.Trees.{first_form_at}
+use Rattle.tla_evaluator.specs.inner.Branches.{Branch, GivesBranch, Taken, WrongAt, branch_effect, branch_form, branch_in, branch_value, by_guard, by_value, case_branch, first_tree, is_malformed}
+use Rattle.tla_evaluator.specs.inner.Effects.{first_effect_in}
+use Rattle.tla_evaluator.specs.inner.Readings.{Reading, effect_in, effects_in, first_in, outcomes_in, value_in}
 
 -- ---- what it gives
 
 module _ (r : Reading) (p : Place) where
+  pub first_value : (es : List Expr) → branch_value r (first_tree p es) ≡ first_in r p es
+  first_value [] = refl
+  first_value (e ∷ es) = refl
+
+  pub first_form : (es : List Expr) → branch_form r (first_tree p es) ≡ first_form_at r.width p es r.bound r.state r.next
+  first_form [] = refl
+  first_form (e ∷ es) = refl
+
+  pub first_acts : (m : Assignable) (es : List Expr) → branch_effect r m (first_tree p es) ≡ first_effect_in r m p es
+  first_acts m [] = refl
+  first_acts m (e ∷ es) = refl
+
   guarded_value : (o : Outcome) (a b : Branch) → branch_value r (by_guard p o a b) ≡ choose p o (branch_value r a) (branch_value r b)
   guarded_value (outcome.Val v) a b = by (out-Value v)
     where

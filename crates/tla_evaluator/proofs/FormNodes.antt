@@ -5,6 +5,7 @@ use Rattle.tla_meaning.specs.declared.op.Op.TheVariants as op
 use Rattle.tla_evaluator.specs.inner.Nodes.{form_node}
 use Rattle.tla_evaluator.specs.inner.Readings.{Reading, form_in}
 use Rattle.tla_evaluator.specs.Trees.{first_form_at, form_at, forms_at, outcomes_at, scope_at, is_expanded_op, value_at}
+use Rattle.tla_evaluator.proofs.BranchLemmas.{first_form}
 use Rattle.tla_evaluator.proofs.TreeLemmas.{sense_at, sense_gone}
 use Rattle.tla_evaluator.proofs.NodeLemmas.{here_first_form, here_forms, here_outcomes, children}
 
@@ -72,7 +73,7 @@ form_is_node r e = by (out-Expr e).op refl
     by op.FunSet is = functions_is r.width e r.bound r.state r.next is
     by (op.RecSet names) is = records_is r.width e r.bound r.state r.next names is
     by op.Product is = tuples_is r.width e r.bound r.state r.next is
-    by (op.Noted x) is = noted_form_is r.width e r.bound r.state r.next x is
+    by (op.Noted x) is = first_form r (out-Expr e).place (out-Expr e).args ∙ noted_form_is r.width e r.bound r.state r.next x is
     by (op.Use x) is = gone_is r.width e r.bound r.state r.next (ap is_expanded_op is)
     by (op.Param x) is = gone_is r.width e r.bound r.state r.next (ap is_expanded_op is)
     by (op.Let ds) is = gone_is r.width e r.bound r.state r.next (ap is_expanded_op is)

@@ -1,5 +1,5 @@
 -- Steps of the loops that build lists of lists.
-use Rattle.std.proofs.Common.{◌≡◌, ℕ, suc, ◌+◌, ◌-◌, ◌<◌, ◌≤◌, List, [], ◌∷◌, ◌++◌, map, drop, length, get_or, refl, ap, ◌∙◌, sym, arith, append_assoc, drop-cons, add-one, true, zero, take, ℤ, pos, cond, nat_le, zip, subst}
+use Rattle.std.proofs.Common.{◌≡◌, ℕ, suc, ◌+◌, ◌-◌, ◌<◌, ◌≤◌, List, [], ◌∷◌, ◌++◌, map, drop, length, get_or, refl, ap, ◌∙◌, sym, arith, append_assoc, drop-cons, add-one, true, zero, take, ℤ, pos, cond, nat_le}
 use Rattle.tla_evaluator.proofs.Words.{Place, Val, Value, Wrong, drop-map, each_to, length-map, part_of, results, sequence, sublists, take-map, with_each}
 use Rattle.std.proofs.lemmas.Bool.{le-leb}
 
@@ -56,35 +56,3 @@ pub part_value : (p : Place) (ps : List (Value × Value)) (m n : ℤ) (i j : ℕ
 part_value p ps m n i j v em en lt le ev =
     let k : length (results ps) ≡ length ps = simp length-map in
     part_is p (results ps) m n i j em en lt (omega (arith, k)) ∙ ap Val (sym (ev ∙ ap sequence (results_range ps i j)))
-
--- ---- pairs of two lists
-
-abbrev none_of : List Value
-none_of = []
-
-pub zip_none : (xs : List Value) → zip xs none_of ≡ []
-zip_none [] = refl
-zip_none (x ∷ xs) = refl
-
-zip_next : (xs ys : List Value) (y d : Value) → length (zip xs ys) < length xs →
-    zip xs (ys ++ y ∷ []) ≡ zip xs ys ++ (get_or xs (length (zip xs ys)) d, y) ∷ []
-zip_next [] ys y d lt = absurd (omega arith)
-zip_next (x ∷ xs) [] y d lt = ap (λ l. (x, y) ∷ l) (zip_none xs)
-zip_next (x ∷ xs) (z ∷ ys) y d lt = ap (λ l. (x, z) ∷ l) (zip_next xs ys y d (omega arith))
-
-zip_full : (xs ys : List Value) (y : Value) → length xs ≤ length (zip xs ys) → zip xs (ys ++ y ∷ []) ≡ zip xs ys
-zip_full [] ys y le = refl
-zip_full (x ∷ xs) [] y le = absurd (omega arith)
-zip_full (x ∷ xs) (z ∷ ys) y le = ap (λ l. (x, z) ∷ l) (zip_full xs ys y (omega arith))
-
-pub zip_more : (xs ys : List Value) (a b y d : Value) (ps new : List (Value × Value)) (len : ℕ) → ps ≡ zip xs ys → len ≡ length ps → len < length xs →
-    b ≡ get_or xs len d → a ≡ b → new ≡ ps ++ (a, y) ∷ [] → new ≡ zip xs (ys ++ y ∷ [])
-zip_more xs ys a b y d ps new len e el lt eb ea en =
-    let k : len ≡ length (zip xs ys) = el ∙ ap length e in
-    let m : length (zip xs ys) < length xs = subst (λ n. n < length xs) k lt in
-    en ∙ ap (λ l. l ++ (a, y) ∷ []) e ∙ ap (λ v. zip xs ys ++ (v, y) ∷ []) (ea ∙ eb ∙ ap (λ n. get_or xs n d) k) ∙ sym (zip_next xs ys y d m)
-
-pub zip_same : (xs ys : List Value) (y : Value) (ps : List (Value × Value)) (len : ℕ) → ps ≡ zip xs ys → len ≡ length ps → length xs ≤ len →
-    ps ≡ zip xs (ys ++ y ∷ [])
-zip_same xs ys y ps len e el le =
-    e ∙ sym (zip_full xs ys y (subst (λ n. length xs ≤ n) (el ∙ ap length e) le))

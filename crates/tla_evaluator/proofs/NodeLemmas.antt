@@ -6,7 +6,7 @@ use Rattle.tla_meaning.specs.declared.op.Op.TheVariants as op
 use Rattle.tla_evaluator.specs.inner.Nodes.{bound_at, except_at, fold_at, index_trees, membership_test, node_in, paths_at, updates_at}
 use Rattle.tla_evaluator.specs.inner.Readings.{Reading, value_in}
 use Rattle.tla_evaluator.specs.Trees.{first_at, first_form_at, forms_at, expanded_meaning, outcomes_at, scope_at, is_expanded_op, value_at}
-use Rattle.tla_evaluator.proofs.BranchLemmas.{case_value, if_value}
+use Rattle.tla_evaluator.proofs.BranchLemmas.{case_value, first_value, if_value}
 use Rattle.tla_evaluator.proofs.TreeLemmas.{first_given, forms_given, here_given, inner_back, inner_child, outcomes_given, outer_back, outer_front, sense_at, sense_gone}
 
 module _ (w : ℕ) (p : Place) (xs : List (List ℕ)) (vars : List (List ℕ × Value)) (s t : State) where
@@ -181,7 +181,7 @@ node_is r e = by (out-Expr e).op refl
     by op.Lambda is = by_binder r.width e r.bound r.state r.next op.Lambda is refl refl
     by (op.Except ns) is = except_is r.width e r.bound r.state r.next ns is
     by op.Fold is = fold_is r.width e r.bound r.state r.next is
-    by (op.Noted x) is = noted_is r.width e r.bound r.state r.next x is
+    by (op.Noted x) is = first_value r (out-Expr e).place (out-Expr e).args ∙ noted_is r.width e r.bound r.state r.next x is
     by (op.Use x) is = gone_is r.width e r.bound r.state r.next (ap is_expanded_op is)
     by (op.Param x) is = gone_is r.width e r.bound r.state r.next (ap is_expanded_op is)
     by (op.Let ds) is = gone_is r.width e r.bound r.state r.next (ap is_expanded_op is)

@@ -12,7 +12,7 @@ use crate::answers::{Answer, Stop, Stored, join_faults};
 use crate::context::Context;
 use crate::expressions::Site;
 use crate::sets::choices_of;
-use crate::trees::{after, any_mentions, front};
+use crate::trees::{after, any_mentions, first, front};
 use tla_meaning::{Assignable, Effect, Expr, Fault, Op, Place};
 use tla_values::{List, Value};
 
@@ -103,10 +103,7 @@ impl Context<'_> {
     fn first_effect(&self, trees: &[Expr], place: Place, assigned: Assignable) -> Answer<Effect>
         ensures { GivesEffect (first_effect_in self.now assigned place trees.now) result }
     {
-        match trees {
-            [e, ..] => Ok(self.action(e, assigned)?),
-            [] => Err(Stop::Wrong(place)),
-        }
+        Ok(self.action(first(trees, place)?, assigned)?)
     }
 
     // All operands in order, as far as they hold, also where they have a fault.

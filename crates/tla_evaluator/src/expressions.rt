@@ -21,7 +21,7 @@ use crate::forms::{form_of_several, functions_from, one_form, tested};
 use crate::functions::Pair;
 use crate::numbers::number;
 use crate::operators::{row_of, value_and_items};
-use crate::trees::{after, front};
+use crate::trees::{after, first, front};
 use std::alloc::Global;
 use tla_meaning::{Expr, Fault, Op, Place, SetForm};
 use tla_values::{List, Text, Value, copy_text, copy_value};
@@ -70,10 +70,7 @@ impl Context<'_> {
             ),
             Op::Except(counts) => self.except(counts.as_slice(), site, args),
             Op::Fold => self.fold(site, args),
-            Op::Noted(_) => match args {
-                [noted, ..] => self.value(noted),
-                [] => Err(Stop::Wrong(place)),
-            },
+            Op::Noted(_) => self.value(first(args, place)?),
             Op::Use(_) | Op::Param(_) | Op::Let(_) | Op::Prime => Err(Stop::Wrong(place)),
             Op::Unchanged | Op::Boxed | Op::Angled => Err(Stop::Wrong(place)),
             _ => self.strict(op, place, args),
@@ -99,10 +96,7 @@ impl Context<'_> {
             site.entry.place trees.now) result }
     {
         let inner = (&*self).with(&*site.names, &*values)?;
-        match trees {
-            [e, ..] => inner.value(e),
-            [] => Err(Stop::Wrong(site.place)),
-        }
+        inner.value(first(trees, site.place)?)
     }
 
     // All operands, joined.
@@ -159,15 +153,11 @@ impl Context<'_> {
     fn implication(&self, place: Place, trees: &[Expr]) -> Answer<Value>
         ensures { Gives (implied place (outcomes_in self.now trees.now)) result }
     {
-        match trees {
-            [left, right] => {
-                if !self.guard(left, place)? {
-                    return Ok(Value::Bool(true));
-                }
-                Ok(Value::Bool(self.guard(right, place)?))
-            }
-            _ => Err(Stop::Wrong(place)),
-        }
+        let [left, right] = trees else {
+            return Err(Stop::Wrong(place));
+        };
+        let holds = !self.guard(left, place)? || self.guard(right, place)?;
+        Ok(Value::Bool(holds))
     }
 
     // The branch behind the first guard that is TRUE, or else that of OTHER; IF has one guard and both.
@@ -195,13 +185,11 @@ impl Context<'_> {
         ensures { Gives (in_form place (membership_test op.now place)
             (outcomes_in self.now trees.now) (forms_in self.now trees.now)) result }
     {
-        match trees {
-            [left, right] => {
-                let (v, set) = both(self.value(left), self.form(right))?;
-                tested(op, &v, &set, place)
-            }
-            _ => Err(Stop::Wrong(place)),
-        }
+        let [left, right] = trees else {
+            return Err(Stop::Wrong(place));
+        };
+        let (v, set) = both(self.value(left), self.form(right))?;
+        tested(op, &v, &set, place)
     }
 
     // A binder: the domains, and then the body over all members.
@@ -344,10 +332,7 @@ impl Context<'_> {
                 self.forms(trees)?,
                 place,
             ),
-            Op::Noted(_) => match trees {
-                [noted, ..] => self.form(noted),
-                [] => Err(Stop::Wrong(place)),
-            },
+            Op::Noted(_) => self.form(first(trees, place)?),
             _ => Ok(SetForm::Plain(self.value(e)?)),
         }
     }
@@ -358,13 +343,11 @@ impl Context<'_> {
         ensures { GivesForm (function_form place (outcomes_in self.now trees.now)
             (forms_in self.now trees.now)) result }
     {
-        match trees {
-            [first, ..] => {
-                let (domain, forms) = both(self.value(first), self.forms(after(trees, 1)))?;
-                functions_from(self.alloc, domain, forms, place)
-            }
-            [] => Err(Stop::Wrong(place)),
-        }
+        let [set, ..] = trees else {
+            return Err(Stop::Wrong(place));
+        };
+        let (domain, forms) = both(self.value(set), self.forms(after(trees, 1)))?;
+        functions_from(self.alloc, domain, forms, place)
     }
 
     // All forms, or the join of their faults.

@@ -241,13 +241,10 @@ pub(crate) fn tested(op: &Op, v: &Value, form: &SetForm, place: Place) -> Answer
     if !is_set_form(form) {
         return Err(Stop::Wrong(place));
     }
-    match op {
-        Op::In => Ok(Value::Bool(belongs(form, v))),
-        Op::NotIn => Ok(Value::Bool(!belongs(form, v))),
-        Op::SubsetEq => match v {
-            Value::Set(members) => Ok(Value::Bool(all_belong(form, members.as_slice()))),
-            _ => Err(Stop::Wrong(place)),
-        },
+    match (op, v) {
+        (Op::In, _) => Ok(Value::Bool(belongs(form, v))),
+        (Op::NotIn, _) => Ok(Value::Bool(!belongs(form, v))),
+        (Op::SubsetEq, Value::Set(set)) => Ok(Value::Bool(all_belong(form, set.as_slice()))),
         _ => Err(Stop::Wrong(place)),
     }
 }

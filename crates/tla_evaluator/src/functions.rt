@@ -51,10 +51,8 @@ impl Row<'_> {
         requires { Normal (Value.Fun pairs.now) }
         ensures { Gives (or_wrong self.now.place (apply pairs.now argument.now)) result }
     {
-        match apply(pairs, argument) {
-            Some(v) => Ok(copy_value(self.alloc, v)?),
-            None => Err(Stop::Wrong(self.place)),
-        }
+        let v = apply(pairs, argument).ok_or(Stop::Wrong(self.place))?;
+        Ok(copy_value(self.alloc, v)?)
     }
 
     // `f @@ g`: the left one wins.
@@ -140,23 +138,10 @@ pub(crate) fn paired(alloc: Global, arguments: &[Value], values: Vec<Value>) -> 
     ensures { IfOk result (λ v. v.items ≡ zip arguments.now values.items) }
 {
     let mut pairs = Vec::new(alloc);
-    for value in values {
-        push_pair(alloc, arguments, value, &mut pairs)?;
+    for (argument, value) in arguments.iter().zip(values) {
+        pairs.push((copy_value(alloc, argument)?, value))?;
     }
     Ok(pairs)
-}
-
-// Adds the value with the argument at its place, where there is one.
-fn push_pair(alloc: Global, arguments: &[Value], value: Value, pairs: &mut Pairs) -> Stored<()>
-    ensures { (values : Items Value) → pairs.old.items ≡ zip arguments.now values →
-        OnOk result (pairs.new.items ≡ zip arguments.now (values ++ value ∷ [])) }
-{
-    let place = pairs.len();
-    if place < arguments.len() {
-        let argument = copy_value(alloc, &arguments[place])?;
-        pairs.push((argument, value))?;
-    }
-    Ok(())
 }
 
 // `[a |-> x, b |-> y]`.

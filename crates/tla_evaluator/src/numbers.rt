@@ -143,8 +143,6 @@ fn next_member(a: i128, b: i128, k: usize) -> Option<Value>
     ensures some { IfSome result (λ v. (v ≡ Value.Int (a +ℤ pos k)) × ((a +ℤ pos k) ≤ℤ b)) }
     ensures none { IfNone result (b <ℤ (a +ℤ pos k)) }
 {
-    match a.checked_add(k as i128) {
-        Some(n) => { if n <= b { Some(Value::Int(n)) } else { None } }
-        None => None,
-    }
+    let n = a.checked_add(k as i128)?;
+    (n <= b).then_some(Value::Int(n))
 }

@@ -34,11 +34,9 @@ impl Row<'_> {
         ensures items { IfOk result (λ ps. items_of pairs.now ≡ Some (results ps.now)) }
         ensures none { IfErr result (λ s. (items_of pairs.now ≡ None) × (s ≡ Stop.Wrong self.now.place)) }
     {
-        if is_sequence(pairs.as_slice()) {
-            Ok(pairs.as_slice())
-        } else {
-            Err(Stop::Wrong(self.place))
-        }
+        is_sequence(pairs.as_slice())
+            .then_some(pairs.as_slice())
+            .ok_or(Stop::Wrong(self.place))
     }
 
     fn of_items(&self, op: &Op, pairs: &[(Value, Value)]) -> Answer<Value>
@@ -88,14 +86,10 @@ impl Row<'_> {
     pub(crate) fn subsequence(&self) -> Answer<Value>
         ensures { Gives (table None self.now.place Op.SubSeq self.now.operands.now) result }
     {
-        match self.operands {
-            [Value::Fun(pairs), Value::Int(m), Value::Int(n)] => self.part(
-                self.items(pairs)?,
-                m,
-                n,
-            ),
-            _ => Err(Stop::Wrong(self.place)),
-        }
+        let [Value::Fun(pairs), Value::Int(m), Value::Int(n)] = self.operands else {
+            return Err(Stop::Wrong(self.place));
+        };
+        self.part(self.items(pairs)?, m, n)
     }
 
     // The items from m to n.
@@ -105,13 +99,9 @@ impl Row<'_> {
         if *n < *m {
             return Ok(sequence(self.alloc, Vec::new(self.alloc))?);
         }
-        match bounds(pairs.len(), m, n) {
-            Some((start, end)) => {
-                let items = results_of(self.alloc, &pairs[start..end])?;
-                Ok(sequence(self.alloc, items)?)
-            }
-            None => Err(Stop::Wrong(self.place)),
-        }
+        let (start, end) = bounds(pairs.len(), m, n).ok_or(Stop::Wrong(self.place))?;
+        let items = results_of(self.alloc, &pairs[start..end])?;
+        Ok(sequence(self.alloc, items)?)
     }
 }
 

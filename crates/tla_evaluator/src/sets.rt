@@ -148,8 +148,7 @@ pub(crate) fn choices_of(alloc: Global, sets: &[Value]) -> Stored<Option<Lists>>
 fn each_to(alloc: Global, arguments: &[Value], results: &[Value]) -> Stored<Lists>
     ensures { IfOk result (λ v. v.items ≡ each_to arguments.now results.now) }
 {
-    let mut lists = Vec::new(alloc);
-    lists.push(List::new(alloc))?;
+    let mut lists = vec![in alloc; List::new(alloc)]?;
     for _ in arguments {
         lists = with_each(alloc, results, lists.as_slice())?;
     }

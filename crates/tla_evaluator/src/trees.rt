@@ -1,11 +1,14 @@
 // Trees after expansion, parts of lists of trees, and the names that count as assigned in them.
-ghost use Rattle.std.specs.Prelude.{◌≡◌, drop, take};
+ghost use denote.Param.Weighed.{most};
+ghost use Rattle.std.specs.Prelude.{◌≡◌, ◌≤◌, IfOk, drop, take, ℕ};
 ghost use Rattle.std.specs.List.{list_all, list_any};
 ghost use Rattle.tla_meaning.specs.Actions.{counts};
 ghost use Rattle.tla_evaluator.specs.Trees.{is_expanded, is_expanded_op};
+ghost use Rattle.tla_evaluator.specs.inner.Branches.{GivesBranch, first_tree};
 ghost use Rattle.tla_evaluator.specs.inner.Mentions.{mentions};
 
-use tla_meaning::{Assignable, Expr, Op};
+use crate::answers::{Answer, Stop};
+use tla_meaning::{Assignable, Expr, Op, Place};
 
 // Whether the operator is left after expansion.
 pub(crate) fn is_expanded_op(op: &Op) -> bool
@@ -71,6 +74,14 @@ pub(crate) fn any_mentions(trees: &[Expr], assigned: Assignable) -> bool
         }
     }
     false
+}
+
+// The first of these trees.
+pub(crate) fn first(trees: &[Expr], place: Place) -> Answer<&Expr>
+    ensures tree { GivesBranch (first_tree place trees.now) result }
+    ensures deep { IfOk result (λ e. (f : Expr → ℕ) → f e.now ≤ most f trees.now) }
+{
+    trees.first().ok_or(Stop::Wrong(place))
 }
 
 // The first n trees, or all where there are fewer.

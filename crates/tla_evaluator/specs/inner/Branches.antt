@@ -14,9 +14,10 @@ use Rattle.tla_meaning.specs.declared.place.Place.{Place}
 use Rattle.tla_meaning.specs.declared.actions.Assignable.{Assignable}
 use Rattle.tla_meaning.specs.declared.actions.Effect.{Effect}
 use Rattle.tla_meaning.specs.Actions.{fails_by}
+use Rattle.tla_meaning.specs.Forms.{Formed, Broken}
 use Rattle.tla_evaluator.specs.declared.answers.Stop.{Stop}
 use Rattle.tla_evaluator.specs.declared.answers.Stop.TheVariants.{Wrong, Big, Memory}
-use Rattle.tla_evaluator.specs.inner.Readings.{Reading, effect_in, value_in}
+use Rattle.tla_evaluator.specs.inner.Readings.{Reading, effect_in, form_in, value_in}
 
 pub data Branch : Type 0 where
   Taken : Expr → Branch
@@ -49,6 +50,11 @@ is_malformed o es = false
 abbrev pub branch_in : Reading → Place → Op → List Expr → Branch
 branch_in r p o es = if is_malformed o es then WrongAt p else case_branch r p es
 
+-- the first of these trees, or Wrong where there is none
+abbrev pub first_tree : Place → List Expr → Branch
+first_tree p [] = WrongAt p
+first_tree p (e ∷ es) = Taken e
+
 abbrev pub GivesBranch : Branch → Result (Bor Expr) Stop → Type 0
 GivesBranch b (Ok e) = b ≡ Taken e.now
 GivesBranch b (Err (Wrong p)) = b ≡ WrongAt p
@@ -60,6 +66,11 @@ abbrev pub branch_value : Reading → Branch → Outcome
 branch_value r (Taken e) = value_in r e
 branch_value r (WrongAt q) = outcome.Wrong q
 branch_value r (BigAt q) = outcome.Big q
+
+abbrev pub branch_form : Reading → Branch → Formed
+branch_form r (Taken e) = form_in r e
+branch_form r (WrongAt q) = Broken (IsWrong q)
+branch_form r (BigAt q) = Broken (IsBig q)
 
 abbrev pub branch_effect : Reading → Assignable → Branch → Effect
 branch_effect r m (Taken e) = effect_in r m e

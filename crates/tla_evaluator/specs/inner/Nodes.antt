@@ -19,8 +19,8 @@ use Rattle.tla_meaning.specs.Scopes.{bound_to, find_last, value_found}
 use Rattle.tla_meaning.specs.Shapes.{choices}
 use Rattle.tla_meaning.specs.Numbers.{number}
 use Rattle.tla_evaluator.specs.Trees.{first_at, outcomes_at}
-use Rattle.tla_evaluator.specs.inner.Branches.{branch_in, branch_value}
-use Rattle.tla_evaluator.specs.inner.Readings.{Reading, first_form_in, first_in, forms_in, outcomes_in, value_in}
+use Rattle.tla_evaluator.specs.inner.Branches.{branch_form, branch_in, branch_value, first_tree}
+use Rattle.tla_evaluator.specs.inner.Readings.{Reading, forms_in, outcomes_in, value_in}
 
 -- from the left, up to the first operand that has this truth value
 abbrev pub junction : Bool → Place → List Outcome → Outcome
@@ -123,7 +123,7 @@ node_in r p op.MapTo xs es = bound_in r p op.MapTo xs es
 node_in r p op.Lambda xs es = bound_in r p op.Lambda xs es
 node_in r p (op.Except ns) xs es = except_in r p ns xs es
 node_in r p op.Fold xs es = fold_in r p xs es
-node_in r p (op.Noted x) xs es = first_in r p es
+node_in r p (op.Noted x) xs es = branch_value r (first_tree p es)
 node_in r p (op.Use x) xs es = Wrong p
 node_in r p (op.Param x) xs es = Wrong p
 node_in r p (op.Let ds) xs es = Wrong p
@@ -153,5 +153,5 @@ form_node r e op.Powerset = form_of_one (out-Expr e).place (one_form op.Powerset
 form_node r e op.FunSet = function_form (out-Expr e).place (outcomes_in r (out-Expr e).args) (forms_in r (out-Expr e).args)
 form_node r e (op.RecSet names) = form_of_all (out-Expr e).place (form_of_several (op.RecSet names)) (forms_in r (out-Expr e).args)
 form_node r e op.Product = form_of_all (out-Expr e).place (form_of_several op.Product) (forms_in r (out-Expr e).args)
-form_node r e (op.Noted x) = first_form_in r (out-Expr e).place (out-Expr e).args
+form_node r e (op.Noted x) = branch_form r (first_tree (out-Expr e).place (out-Expr e).args)
 form_node r e o = plain (value_in r e)

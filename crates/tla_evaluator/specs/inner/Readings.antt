@@ -9,7 +9,7 @@ use Rattle.tla_meaning.specs.declared.outcome.Outcome.{Outcome}
 use Rattle.tla_meaning.specs.declared.place.Place.{Place}
 use Rattle.tla_meaning.specs.Forms.{Formed}
 use Rattle.tla_meaning.specs.Scopes.{bound_to}
-use Rattle.tla_evaluator.specs.Trees.{AreNormal, effect_at, effects_at, first_at, first_form_at, form_at, forms_at, outcomes_at, value_at}
+use Rattle.tla_evaluator.specs.Trees.{AreNormal, effect_at, effects_at, first_at, form_at, forms_at, outcomes_at, value_at}
 
 -- the values of bound names, a state with a next one, and the width of numbers
 pub record Reading : Type 0 where
@@ -53,6 +53,3 @@ effects_in r m es = effects_at r.width m es r.bound r.state r.next
 -- the first of these trees, or Wrong where there is none
 abbrev pub first_in : Reading → Place → List Expr → Outcome
 first_in r p es = first_at r.width p es r.bound r.state r.next
-
-abbrev pub first_form_in : Reading → Place → List Expr → Formed
-first_form_in r p es = first_form_at r.width p es r.bound r.state r.next

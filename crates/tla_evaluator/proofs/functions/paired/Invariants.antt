@@ -1,5 +1,5 @@
-use Rattle.std.proofs.Common.{◌≡◌, zip}
+use Rattle.std.proofs.Common.{◌≡◌, map}
 use Rattle.tla_evaluator.proofs.functions.paired.Given as goal
 
-abbrev pub invariant-loop-value : goal.invariant-loop-value
-invariant-loop-value l = l.pairs.items ≡ zip l.arguments l.yielded
+abbrev pub invariant-loop-argument : goal.invariant-loop-argument
+invariant-loop-argument l = l.pairs.items ≡ map (λ p. (p.0.now, p.1)) l.yielded

@@ -1,4 +1,4 @@
-use Rattle.std.proofs.Common.{◌≡◌, ℕ, ◌+◌, ◌≤◌, ◌∙◌, ◌++◌, ◌∷◌, [], List, ap, arith, drop, get_or, refl, subst, sym, Bor, Err}
+use Rattle.std.proofs.Common.{◌≡◌, ℕ, ◌+◌, ◌≤◌, ◌∙◌, ◌++◌, ◌∷◌, [], List, ap, arith, drop, get_or, not, refl, subst, sym, Bor, Err}
 use Rattle.std.specs.Prelude.{IfSome, option_map}
 use Rattle.tla_evaluator.proofs.Words.{All, Expr, Fun, Normal, Outcome, Place, Val, Value, common_steps, err_from_is_err_and, fault_of, fold_over, folded, form_fault, form_faults, get_or_default, in_form, join_faults, joined, most, out-Expr, results, strict, updated, values, yes_no}
 use Rattle.tla_evaluator.specs.inner.Nodes.{index_trees, membership_test, node_in, paths_in, update_in, updates_in}
@@ -13,6 +13,7 @@ use Rattle.tla_evaluator.proofs.NormalBinds.{bound_are_normal}
 use Rattle.tla_evaluator.proofs.StopLemmas.{conclusion_is, conclusion_stops, except_goes, form_gives_as, functions_go, functions_stop, given_normal, gives_all_as, gives_as, joins_form, joins_value, junction_stops, membership_goes, premise_fails, premise_stops, strict_goes, two_items}
 use Rattle.tla_evaluator.proofs.TreeSizes.{most-drop, most-take}
 use Rattle.tla_evaluator.proofs.context.Context.+eval.Goals as goal
+use Rattle.tla_evaluator.proofs.context.Context.+eval.Goals.{implication-then-not-branch, implication-else-not-branch+in_ok-holds}
 
 pub value-returns : goal.value-returns
 value-returns t c =
@@ -26,24 +27,6 @@ pub junction-returns-in_err-holds : goal.junction-returns-in_err-holds
 junction-returns-in_err-holds t c =
     let p = err_from_is_err_and c.from_residual.result c.from_residual.ensures.1 in
     rw (p.1, p.2) (junction_stops (value_in c.args.self.now) c.args.trees.now _ c.args.decides c.args.place c.loop-e.e-index _ c.loop-e-test.true c.e-item.is c.in_err-holds.ensures.0 c.loop-e.invariant)
-
-pub implication-returns-in_err-guard-in-len2 : goal.implication-returns-in_err-guard-in-len2
-implication-returns-in_err-guard-in-len2 t c =
-    let p = err_from_is_err_and c.from_residual.result c.from_residual.ensures.1 in
-    rw (p.1, p.2) (premise_stops (value_in c.args.self.now) c.args.place c.args.trees.now _ _ (two_items _ _ _ c.in-len2.len_at_least c.in-len2.len_below c.left-item.is c.right-item.is) _ c.in_err-guard-in-len2.ensures.0)
-
-pub implication-returns-then-not-branch : goal.implication-returns-then-not-branch
-implication-returns-then-not-branch t c =
-    premise_fails (value_in c.args.self.now) c.args.place c.args.trees.now _ _ (two_items _ _ _ c.in-len2.len_at_least c.in-len2.len_below c.left-item.is c.right-item.is) _ c.in_ok-guard-in-len2.ensures c.if-not-branch.true
-
-pub implication-returns-in_err-guard-in-len2-2 : goal.implication-returns-in_err-guard-in-len2-2
-implication-returns-in_err-guard-in-len2-2 t c =
-    let p = err_from_is_err_and c.from_residual-in_err-guard-in-len2-2.result c.from_residual-in_err-guard-in-len2-2.ensures.1 in
-    rw (p.1, p.2) (conclusion_stops (value_in c.args.self.now) c.args.place c.args.trees.now _ _ (two_items _ _ _ c.in-len2.len_at_least c.in-len2.len_below c.left-item.is c.right-item.is) _ _ c.in_ok-guard-in-len2.ensures c.if-not-branch.false c.in_err-guard-in-len2-2.ensures.0)
-
-pub implication-returns-in_ok-guard-in-len2-2 : goal.implication-returns-in_ok-guard-in-len2-2
-implication-returns-in_ok-guard-in-len2-2 t c =
-    conclusion_is (value_in c.args.self.now) c.args.place c.args.trees.now _ _ (two_items _ _ _ c.in-len2.len_at_least c.in-len2.len_below c.left-item.is c.right-item.is) _ _ c.in_ok-guard-in-len2.ensures c.if-not-branch.false c.in_ok-guard-in-len2-2.ensures
 
 pub joined-loop-e-preserved : goal.joined-loop-e-preserved
 joined-loop-e-preserved t c =
@@ -132,30 +115,6 @@ forms-loop-e-preserved t c =
       fault = join_next form_faults form_fault (λ o os. refl) (form_in c.args.self.now) _ _ _ _ _ _ c.loop-e-test.true c.e-item.is refl z.0 c.loop-e.invariant.fault;
       forms = λ none. forms_next (form_in c.args.self.now) _ _ _ _ _ c.loop-e-test.true c.e-item.is (z.1 none).1 (c.loop-e.invariant.forms (z.1 none).0);
     }
-
-pub function_set-returns-in_err-domain-in-len1-up : goal.function_set-returns-in_err-domain-in-len1-up
-function_set-returns-in_err-domain-in-len1-up t c =
-    let p = err_from_is_err_and c.from_residual.result c.from_residual.ensures.1 in
-    rw (p.1, p.2) (form_gives_as (Err _) (function_parts c.args.self.now.width c.args.self.now.bound c.args.self.now.state c.args.self.now.next c.args.place c.args.trees.now c.after.result.now c.first-item.result c.in-len1-up.len_at_least c.first-item.is c.after.ensures)
-    (functions_stop c.args.place (outcomes_in c.args.self.now c.after.result.now) (form_in c.args.self.now c.first-item.result) c.value.result c.forms.result
-    (value_in c.args.self.now c.first-item.result) (forms_in c.args.self.now c.after.result.now) c.value.ensures c.forms.ensures _ (sym c.in_err-domain-in-len1-up.ensures)))
-
-pub function_set-returns-in_ok-domain-in-len1-up : goal.function_set-returns-in_ok-domain-in-len1-up
-function_set-returns-in_ok-domain-in-len1-up t c =
-    form_gives_as c.functions_from.result
-    (functions_go c.args.place (outcomes_in c.args.self.now c.after.result.now) (form_in c.args.self.now c.first-item.result) c.value.result c.forms.result
-    (value_in c.args.self.now c.first-item.result) (forms_in c.args.self.now c.after.result.now) c.value.ensures c.forms.ensures (c.in_ok-domain-in-len1-up.domain, c.in_ok-domain-in-len1-up.forms) (sym c.in_ok-domain-in-len1-up.ensures)
-    ∙ function_parts c.args.self.now.width c.args.self.now.bound c.args.self.now.state c.args.self.now.next c.args.place c.args.trees.now c.after.result.now c.first-item.result c.in-len1-up.len_at_least c.first-item.is c.after.ensures) c.functions_from.ensures
-
-pub membership-returns-in_ok-v-in-len2 : goal.membership-returns-in_ok-v-in-len2
-membership-returns-in_ok-v-in-len2 t c =
-    let r = c.args.self.now in
-    let test = membership_test c.args.op.now c.args.place in
-    gives_as c.tested.result
-    (membership_goes c.args.place test (value_in r c.right-item.result ∷ []) (form_in r c.left-item.result) (c.in_ok-v-in-len2.v, c.in_ok-v-in-len2.set) c.value.result c.form.result
-    (value_in r c.left-item.result) (form_in r c.right-item.result) c.value.ensures c.form.ensures (sym c.in_ok-v-in-len2.ensures)
-    ∙ ap (λ es. in_form c.args.place test (outcomes_in r es) (forms_in r es)) (sym (two_items _ _ _ c.in-len2.len_at_least c.in-len2.len_below c.left-item.is c.right-item.is)))
-    c.tested.ensures
 
 pub branch-loop-i-preserved : goal.branch-loop-i-preserved
 branch-loop-i-preserved t c =
@@ -247,3 +206,46 @@ except-returns-in_err-result t c =
     let p = err_from_is_err_and c.from_residual-in_err-result.result c.from_residual-in_err-result.ensures.1 in
     rw (p.1, p.2) (updated_stops r.width c.args.site.place c.args.site.names.now r.bound r.state r.next c.as_slice-paths.result.now c.loop-n.n-index c.loop-n-item.result c.loop-n.rest.now _ _ _ _ _
     c.loop-n-test.true c.loop-n-item.is c.as_slice.ensures c.after-sides.ensures c.in_err-result.ensures c.loop-n.invariant.same)
+
+pub implication-returns-in_err-guard : goal.implication-returns-in_err-guard
+implication-returns-in_err-guard t c =
+    let p = err_from_is_err_and c.from_residual.result c.from_residual.ensures.1 in
+    rw (p.1, p.2) (premise_stops (value_in c.args.self.now) c.args.place c.args.trees.now _ _ (two_items _ _ _ c.in-len2.len_at_least c.in-len2.len_below c.left-item.is c.right-item.is) _ c.in_err-guard.ensures.0)
+
+pub implication-returns : goal.implication-returns
+implication-returns t c =
+    let parts = two_items _ _ _ c.in-len2.len_at_least c.in-len2.len_below c.left-item.is c.right-item.is in
+    elim c.if-not-branch.branch [
+      | implication-then-not-branch w ↦ premise_fails (value_in c.args.self.now) c.args.place c.args.trees.now _ _ parts _ c.in_ok-guard.ensures w.if-not-branch.true ∙ ap (λ b. yes_no (not b)) (sym w.if-not-branch.true) ∙ ap yes_no (sym w.holds-is)
+      | implication-else-not-branch+in_ok-holds w ↦
+          conclusion_is (value_in c.args.self.now) c.args.place c.args.trees.now _ _ parts _ _ c.in_ok-guard.ensures w.if-not-branch.false w.in_ok-holds.ensures ∙ ap yes_no (sym w.holds-is)
+    ]
+
+pub implication-returns-in_err-holds : goal.implication-returns-in_err-holds
+implication-returns-in_err-holds t c =
+    let p = err_from_is_err_and c.from_residual-in_err-holds.result c.from_residual-in_err-holds.ensures.1 in
+    rw (p.1, p.2) (conclusion_stops (value_in c.args.self.now) c.args.place c.args.trees.now _ _ (two_items _ _ _ c.in-len2.len_at_least c.in-len2.len_below c.left-item.is c.right-item.is) _ _ c.in_ok-guard.ensures c.if-not-branch.false c.in_err-holds.ensures.0)
+
+pub function_set-returns-in_err-domain : goal.function_set-returns-in_err-domain
+function_set-returns-in_err-domain t c =
+    let p = err_from_is_err_and c.from_residual.result c.from_residual.ensures.1 in
+    rw (p.1, p.2) (form_gives_as (Err _) (function_parts c.args.self.now.width c.args.self.now.bound c.args.self.now.state c.args.self.now.next c.args.place c.args.trees.now c.after.result.now c.set-item.result c.in-len1-up.len_at_least c.set-item.is c.after.ensures)
+    (functions_stop c.args.place (outcomes_in c.args.self.now c.after.result.now) (form_in c.args.self.now c.set-item.result) c.value.result c.forms.result
+    (value_in c.args.self.now c.set-item.result) (forms_in c.args.self.now c.after.result.now) c.value.ensures c.forms.ensures _ (sym c.in_err-domain.ensures)))
+
+pub function_set-returns : goal.function_set-returns
+function_set-returns t c =
+    form_gives_as c.functions_from.result
+    (functions_go c.args.place (outcomes_in c.args.self.now c.after.result.now) (form_in c.args.self.now c.set-item.result) c.value.result c.forms.result
+    (value_in c.args.self.now c.set-item.result) (forms_in c.args.self.now c.after.result.now) c.value.ensures c.forms.ensures (c.in_ok-domain.domain, c.in_ok-domain.forms) (sym c.in_ok-domain.ensures)
+    ∙ function_parts c.args.self.now.width c.args.self.now.bound c.args.self.now.state c.args.self.now.next c.args.place c.args.trees.now c.after.result.now c.set-item.result c.in-len1-up.len_at_least c.set-item.is c.after.ensures) c.functions_from.ensures
+
+pub membership-returns : goal.membership-returns
+membership-returns t c =
+    let r = c.args.self.now in
+    let test = membership_test c.args.op.now c.args.place in
+    gives_as c.tested.result
+    (membership_goes c.args.place test (value_in r c.right-item.result ∷ []) (form_in r c.left-item.result) (c.in_ok-v.v, c.in_ok-v.set) c.value.result c.form.result
+    (value_in r c.left-item.result) (form_in r c.right-item.result) c.value.ensures c.form.ensures (sym c.in_ok-v.ensures)
+    ∙ ap (λ es. in_form c.args.place test (outcomes_in r es) (forms_in r es)) (sym (two_items _ _ _ c.in-len2.len_at_least c.in-len2.len_below c.left-item.is c.right-item.is)))
+    c.tested.ensures

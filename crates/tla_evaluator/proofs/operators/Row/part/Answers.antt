@@ -1,9 +1,9 @@
-use Rattle.std.proofs.Common.{ap, ◌∙◌}
+use Rattle.std.proofs.Common.{ap, ◌∙◌, ◌≡◌, ◌+◌, ◌<◌, ◌≤◌, length, pos, subst, IfSome}
 use Rattle.tla_evaluator.proofs.Words.{sequence}
 use Rattle.tla_evaluator.proofs.ListLemmas.{part_value}
 use Rattle.tla_evaluator.proofs.operators.Row.part.Goals as goal
 
-pub returns-in_ok-sequence-in-Some : goal.returns-in_ok-sequence-in-Some
-returns-in_ok-sequence-in-Some c =
-    let r = c.in-Some.ensures.some in
-    part_value c.args.self.now.place c.args.pairs.now _ _ _ _ _ r.0 r.1 r.2 r.3 (c.in_ok-sequence-in-Some.ensures ∙ ap sequence c.in_ok-items-in-Some.ensures)
+pub returns : goal.returns
+returns c =
+    let within = subst (λ o. IfSome o (λ r. (c.args.m.now ≡ pos (1 + r.0)) × (c.args.n.now ≡ pos r.1) × (r.0 < r.1) × (r.1 ≤ length c.args.pairs.now))) c.in_ok-start.ensures.ok_part c.bounds.ensures.some in
+    part_value c.args.self.now.place c.args.pairs.now _ _ _ _ _ within.0 within.1 within.2 within.3 (c.in_ok-sequence-2.ensures ∙ ap sequence c.in_ok-items.ensures)
