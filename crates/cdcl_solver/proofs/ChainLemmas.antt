@@ -1,33 +1,39 @@
-use Rattle.std.proofs.Common.{◌≡◌, ℕ, ◌+◌, ◌-◌, ◌<◌, ◌≤◌, inl, inr, Bool, true, false, not, List, [], ◌∷◌, ◌++◌, length, drop, take, map, Option, Some, None, get_or, refl, sym, ◌∙◌, ap, subst, arith, append_assoc}
-use Rattle.std.specs.Prelude.{Contains, is_some}
+use Rattle.std.proofs.Common.{◌≡◌, ℕ, ◌+◌, ◌<◌, ◌⊎◌, inl, inr, true, false, List, [], ◌∷◌, ◌++◌, length, drop, take, map, Option, Some, None, get_or, refl, sym, ◌∙◌, ap, subst, arith, append_assoc}
+use Rattle.std.specs.Prelude.{Contains, is_some, IfSome}
 use Rattle.std.proofs.lemmas.List.{append-nil, map-append, get_or_append_left, length_push, take_more, drop_more, take-append-drop}
-use Rattle.std.proofs.lemmas.List.Elements.{All-push, Contains-append_left, Contains-append_right, Contains-push, Contains-append_cases}
+use Rattle.std.proofs.lemmas.List.Elements.{All-nil, All-cons, All-contains, All-push, Contains-append_left, Contains-append_right, Contains-push, Contains-append_cases}
 use Rattle.sat_formula.specs.declared.lit.Lit.{Lit}
 use Rattle.refutation_checker.specs.Follows.{negation}
 use Rattle.refutation_checker.specs.Follows.{HasNoOpposites}
 use Rattle.refutation_checker.proofs.TrailLemmas.{Lit-same, Contains-nil, Contains-cons_cases, not_not}
-use Rattle.refutation_checker.proofs.StatusLemmas.{Other-two}
-use Rattle.cdcl_solver.specs.declared.entry.Entry.{Entry}
-use Rattle.cdcl_solver.specs.inner.Trail.{lits_of, IsFree}
-use Rattle.cdcl_solver.specs.inner.Chain.{Quiet, IsForced, Why, IsNext, Chain, decided, decisions, reason_of, reasons}
+use Rattle.watched_search.specs.declared.entry.Entry.{Entry}
+use Rattle.watched_search.specs.Trail.{lits_of, IsFree}
+use Rattle.watched_search.specs.Searching.{IsOpen, IsForcedBy, Forced}
+use Rattle.watched_search.proofs.TrailLemmas.{not_itself}
+use Rattle.cdcl_solver.specs.inner.Chain.{Quiet, Why, IsNext, Chain, decided, decisions, reason_of, reasons, AreReasonsBelow}
 
 pub negation-negation : (l : Lit) → negation (negation l) ≡ l
 negation-negation l = Lit-same (negation (negation l)) l refl (not_not l.neg)
 
-not_itself : (b : Bool) → b ≡ not b → ⊥
-not_itself true e = cc
-not_itself false e = cc
-
 pub no_own_negation : (l : Lit) → l ≡ negation l → ⊥
 no_own_negation l e = not_itself l.neg (ap (λ (x : Lit). x.neg) e)
-
-pub lits-append : (xs ys : List Entry) → lits_of (xs ++ ys) ≡ lits_of xs ++ lits_of ys
-lits-append xs ys = map-append (λ (e : Entry). e.lit) xs ys
 
 -- an entry comes last
 pub Chain-push : (known : List (List Lit)) (T : List Lit) (es : List Entry) (e : Entry) → Chain known T es → IsNext known (T ++ lits_of es) e → Chain known T (es ++ e ∷ [])
 Chain-push known T [] e c n = (rw (append-nil T) at n, tt)
 Chain-push known T (x ∷ es) e c n = (c.0, Chain-push known (T ++ x.lit ∷ []) es e c.1 (rw append_assoc n))
+
+-- a chain behind a chain
+pub Chain-append : (known : List (List Lit)) (T : List Lit) (xs ys : List Entry) → Chain known T xs → Chain known (T ++ lits_of xs) ys → Chain known T (xs ++ ys)
+Chain-append known T [] ys c d = rw (append-nil T) at d
+Chain-append known T (x ∷ xs) ys c d = (c.0, Chain-append known (T ++ x.lit ∷ []) xs ys c.1 (rw append_assoc d))
+
+-- forced entries are a chain
+pub Forced-chain : (known : List (List Lit)) (T : List Lit) (es : List Entry) → Forced known T es → Chain known T es
+Forced-chain known T [] f = tt
+Forced-chain known T (e ∷ es) f =
+    let unit = f.0.2.1 in
+    (record { free = (unit.not_true, unit.not_false); why = rw f.0.1 f.0.2 }, Forced-chain known (T ++ e.lit ∷ []) es f.1)
 
 -- what came first stays a chain
 pub Chain-front : (known : List (List Lit)) (T : List Lit) (xs ys : List Entry) → Chain known T (xs ++ ys) → Chain known T xs
@@ -89,35 +95,15 @@ decisions-within (e ∷ es) l h = elim (Contains-append_cases (decided e.lit e.r
   | inr rest ↦ Contains-append_right (e.lit ∷ []) (lits_of es) l (decisions-within es l rest)
 ]
 
-IsForced-more : (known : List (List Lit)) (D : List Lit) (T : List Lit) (l : Lit) (h : ℕ) → IsForced known T l h → IsForced (known ++ D ∷ []) T l h
-IsForced-more known D T l h f =
-    let some : 0 < h = f.0 in
-    let le : h ≤ length known = f.1.0 in
+IsForced-more : (known : List (List Lit)) (D : List Lit) (T : List Lit) (l : Lit) (c : ℕ) → IsForcedBy known T l c → IsForcedBy (known ++ D ∷ []) T l c
+IsForced-more known D T l c f =
+    let lt : c < length known = f.0 in
     let size = length_push known D in
-    (some, (omega arith, rw (get_or_append_left known (D ∷ []) [] (h - 1) (omega arith)) f.1.1))
+    (omega arith, rw (get_or_append_left known (D ∷ []) [] c lt) f.1)
 
 pub Why-more : (known : List (List Lit)) (D T : List Lit) (l : Lit) (r : Option ℕ) → Why known T l r → (r ≡ None → Quiet T D) → Why (known ++ D ∷ []) T l r
 Why-more known D T l None w q = All-push (Quiet T) known D w (q refl)
 Why-more known D T l (Some h) w q = IsForced-more known D T l h w
-
-decided_here : (l : Lit) (r : Option ℕ) → r ≡ None → Contains (decided l r) l
-decided_here l r e = rw e (Contains-push [] l)
-
--- a clause that is known later, with the negation of each decision and one literal that isn't false at the end
-pub Chain-more : (known : List (List Lit)) (D : List Lit) (u : Lit) → Contains D u → (T : List Lit) (es : List Entry) → Chain known T es
-    → (Contains (T ++ lits_of es) (negation u) → ⊥) → ((l : Lit) → Contains (decisions es) l → Contains D (negation l)) → Chain (known ++ D ∷ []) T es
-Chain-more known D u hu T [] c nu each = tt
-Chain-more known D u hu T (e ∷ es) c nu each = (
-  record {
-    free = c.0.free;
-    why = Why-more known D T e.lit e.reason c.0.why (λ none.
-        Other-two T D u (negation e.lit) hu (each e.lit (Contains-append_left _ (decisions es) e.lit (decided_here e.lit e.reason none)))
-        (λ t. nu (Contains-append_left T (e.lit ∷ lits_of es) (negation u) t))
-        (λ t. c.0.free.0 (rw (negation-negation e.lit) at t))
-        (λ same. nu (rw (same, negation-negation e.lit) (Contains-append_right T (e.lit ∷ lits_of es) e.lit (Contains-append_left (e.lit ∷ []) (lits_of es) e.lit (Contains-push [] e.lit))))));
-  },
-  Chain-more known D u hu (T ++ e.lit ∷ []) es c.1 (λ t. nu (rw append_assoc at t)) (λ l h. each l (Contains-append_right (decided e.lit e.reason) (decisions es) l h)),
-)
 
 -- one more entry
 pub decisions-next : (es : List Entry) (i : ℕ) (d : Entry) → i < length es → decisions (take (i + 1) es) ≡ decisions (take i es) ++ decided (get_or es i d).lit (get_or es i d).reason
@@ -132,10 +118,6 @@ reasons-next es i d lt =
 
 pub split_at : (es : List Entry) (i : ℕ) (d : Entry) → i < length es → es ≡ take i es ++ get_or es i d ∷ drop (i + 1) es
 split_at es i d lt = sym (take-append-drop i es) ∙ ap (λ (r : List Entry). take i es ++ r) (drop_more es i d lt)
-
--- what a read past the end would give
-abbrev pub no_entry : Entry
-no_entry = record { lit = record { var = 0; neg = false }; reason = None }
 
 decided_none : (l : Lit) (r : Option ℕ) → is_some r ≡ false → decided l r ≡ l ∷ []
 decided_none l None e = refl
@@ -158,9 +140,44 @@ negated-same es i d lt some =
     rw (next, append-nil (decisions (take i es))) refl
 
 pub reasons-some : (es : List Entry) (i : ℕ) (d : Entry) (h : ℕ) → i < length es → (get_or es i d).reason ≡ Some h
-    → reasons (take i es) ++ h ∷ [] ≡ reasons (take (i + 1) es)
+    → reasons (take i es) ++ (h + 1) ∷ [] ≡ reasons (take (i + 1) es)
 reasons-some es i d h lt e = sym (reasons-next es i d lt ∙ ap (λ (r : Option ℕ). reasons (take i es) ++ reason_of r) e)
 
 pub reasons-none : (es : List Entry) (i : ℕ) (d : Entry) → i < length es → (get_or es i d).reason ≡ None
     → reasons (take i es) ≡ reasons (take (i + 1) es)
 reasons-none es i d lt e = sym (reasons-next es i d lt ∙ ap (λ (r : Option ℕ). reasons (take i es) ++ reason_of r) e ∙ append-nil (reasons (take i es)))
+
+-- a clause that is open says nothing, where no literal is true beside its negation
+pub open_quiet : (T c : List Lit) → HasNoOpposites T → IsOpen T c → Quiet T c
+open_quiet T c apart (inl h) = (
+  λ f. apart h.0 h.2 (All-contains (λ l. Contains T (negation l)) c h.0 f h.1),
+  λ u unit. elim (All-contains (λ l. (l ≡ u) ⊎ Contains T (negation l)) c h.0 unit.others h.1) [
+    | inl same ↦ unit.not_true (subst (λ (m : Lit). Contains T m) same h.2)
+    | inr f ↦ apart h.0 h.2 f
+  ],
+)
+open_quiet T c apart (inr h) = (
+  λ f. h.5.1 (All-contains (λ l. Contains T (negation l)) c h.0 f h.2),
+  λ u unit. elim (All-contains (λ l. (l ≡ u) ⊎ Contains T (negation l)) c h.0 unit.others h.2) [
+    | inr f ↦ h.5.1 f
+    | inl a ↦ elim (All-contains (λ l. (l ≡ u) ⊎ Contains T (negation l)) c h.1 unit.others h.3) [
+      | inr g ↦ h.6.1 g
+      | inl b ↦ h.4 (a ∙ sym b)
+    ]
+  ],
+)
+
+-- the reasons are numbers of clauses
+reason_below : (known : List (List Lit)) (T : List Lit) (l : Lit) (r : Option ℕ) → Why known T l r → IfSome r (λ c. c < length known)
+reason_below known T l None w = tt
+reason_below known T l (Some c) w = w.0
+
+pub reasons_below : (known : List (List Lit)) (T : List Lit) (es : List Entry) → Chain known T es → AreReasonsBelow (length known) es
+reasons_below known T [] c = All-nil (λ e. IfSome e.reason (λ c. c < length known))
+reasons_below known T (e ∷ es) c =
+    All-cons (λ e. IfSome e.reason (λ c. c < length known)) e es (reason_below known T e.lit e.reason c.0.why) (reasons_below known (T ++ e.lit ∷ []) es c.1)
+
+-- forced entries decide nothing
+pub Forced-none : (known : List (List Lit)) (T : List Lit) (es : List Entry) → Forced known T es → decisions es ≡ []
+Forced-none known T [] f = refl
+Forced-none known T (e ∷ es) f = rw (f.0.1, Forced-none known (T ++ e.lit ∷ []) es f.1) refl

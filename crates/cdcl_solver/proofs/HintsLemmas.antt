@@ -1,4 +1,4 @@
-use Rattle.std.proofs.Common.{◌≡◌, ℕ, ◌⊎◌, inl, inr, List, [], ◌∷◌, ◌++◌, Some, None, subst, append_assoc}
+use Rattle.std.proofs.Common.{◌≡◌, ℕ, ◌+◌, ◌-◌, ◌<◌, ◌⊎◌, inl, inr, List, [], ◌∷◌, ◌++◌, Some, None, length, subst, arith, append_assoc}
 use Rattle.std.specs.Prelude.{Contains}
 use Rattle.std.proofs.lemmas.List.{append-nil}
 use Rattle.std.proofs.lemmas.List.Elements.{All-weaker, Contains-append_left, Contains-append_right, Contains-push, Contains-push_cases, Contains-append_cases}
@@ -6,9 +6,10 @@ use Rattle.sat_formula.specs.declared.lit.Lit.{Lit}
 use Rattle.refutation_checker.specs.Follows.{negation}
 use Rattle.refutation_checker.specs.Follows.{IsFalse, IsUnit, Propagates}
 use Rattle.refutation_checker.proofs.HintLemmas.{Propagates-unit}
-use Rattle.cdcl_solver.specs.declared.entry.Entry.{Entry}
-use Rattle.cdcl_solver.specs.inner.Trail.{lits_of, IsFree}
-use Rattle.cdcl_solver.specs.inner.Chain.{IsConflict, Why, Chain, decided, decisions, reason_of, reasons}
+use Rattle.watched_search.specs.declared.entry.Entry.{Entry}
+use Rattle.watched_search.specs.Trail.{lits_of, IsFree}
+use Rattle.watched_search.specs.Searching.{IsFalseAt}
+use Rattle.cdcl_solver.specs.inner.Chain.{Why, Chain, decided, decisions, reason_of, reasons}
 use Rattle.cdcl_solver.proofs.ChainLemmas.{Chain-later, decisions-within}
 
 -- the two lists have the same members
@@ -34,13 +35,15 @@ not_empty (x ∷ xs) h e = cc
 
 -- the trail's reasons in order, and a false clause behind them, are the hints of a step from the negated decisions
 pub Chain-propagates : (known : List (List Lit)) (h : ℕ) (B : List Lit) (es : List Entry) → Chain known B es → (T : List Lit) → Same T (B ++ decisions es)
-    → IsConflict known (B ++ lits_of es) h → Propagates known T (reasons es ++ h ∷ [])
+    → IsFalseAt known (B ++ lits_of es) h → Propagates known T (reasons es ++ (h + 1) ∷ [])
 Chain-propagates known h B [] c T same f =
-    (f.0, (f.1.0, IsFalse-more B T _ (λ l t. same.sup l (rw (append-nil B) t)) (rw (append-nil B) at f.1.1)))
+    let lt : h < length known = f.0 in
+    let back : h + 1 - 1 ≡ h = omega arith in
+    (omega arith, (omega arith, rw back (IsFalse-more B T _ (λ l t. same.sup l (rw (append-nil B) t)) (rw (append-nil B) at f.1))))
 Chain-propagates known h B (e ∷ es) c T same f =
-    let after : IsConflict known ((B ++ e.lit ∷ []) ++ lits_of es) h = rw append_assoc f in
+    let after : IsFalseAt known ((B ++ e.lit ∷ []) ++ lits_of es) h = rw append_assoc f in
     let later = Chain-later known B e.lit es c.1 in
-    elim e.reason as (λ r. Why known B e.lit r → Same T (B ++ (decided e.lit r ++ decisions es)) → Propagates known T ((reason_of r ++ reasons es) ++ h ∷ [])) [
+    elim e.reason as (λ r. Why known B e.lit r → Same T (B ++ (decided e.lit r ++ decisions es)) → Propagates known T ((reason_of r ++ reasons es) ++ (h + 1) ∷ [])) [
       | None ↦ λ why s. Chain-propagates known h (B ++ e.lit ∷ []) es c.1 T (rw append_assoc s) after
       | Some k ↦ λ why s.
           let free : IsFree T e.lit = (
@@ -53,7 +56,7 @@ Chain-propagates known h B (e ∷ es) c T same f =
               | inr d ↦ later.1 (decisions-within es (negation e.lit) d)
             ],
           ) in
-          let unit = IsUnit-more B T _ e.lit (λ l b. s.sup l (Contains-append_left B (decisions es) l b)) free why.1.1 in
+          let unit = IsUnit-more B T _ e.lit (λ l b. s.sup l (Contains-append_left B (decisions es) l b)) free why.1 in
           let wider : Same (T ++ e.lit ∷ []) ((B ++ e.lit ∷ []) ++ decisions es) = record {
             sub = λ l t. elim (Contains-push_cases T e.lit l t) [
               | inl old ↦ elim (Contains-append_cases B (decisions es) l (s.sub l old)) [
@@ -70,6 +73,8 @@ Chain-propagates known h B (e ∷ es) c T same f =
               | inr d ↦ Contains-append_left T (e.lit ∷ []) l (s.sup l (Contains-append_right B (decisions es) l d))
             ];
           } in
-          (Propagates-unit known T k e.lit (reasons es ++ h ∷ []) why.0 why.1.0 unit (not_empty (reasons es) h)).1
+          let lt : k < length known = why.0 in
+          let back : k + 1 - 1 ≡ k = omega arith in
+          (Propagates-unit known T (k + 1) e.lit (reasons es ++ (h + 1) ∷ []) (omega arith) (omega arith) (rw back unit) (not_empty (reasons es) (h + 1))).1
           (Chain-propagates known h (B ++ e.lit ∷ []) es c.1 (T ++ e.lit ∷ []) wider after)
     ] c.0.why same

@@ -11,9 +11,10 @@ use Rattle.refutation_checker.specs.Follows.{negation}
 use Rattle.refutation_checker.specs.Follows.{IsFalse, IsUnit}
 use Rattle.refutation_checker.specs.Follows.{known, Follows}
 use Rattle.refutation_checker.proofs.TrailLemmas.{Contains-cons_cases, Contains-nil}
-use Rattle.cdcl_solver.specs.declared.entry.Entry.{Entry}
-use Rattle.cdcl_solver.specs.inner.Trail.{lits_of, IsFree}
-use Rattle.cdcl_solver.specs.inner.Chain.{Quiet, IsConflict, Chain, decisions, IsExplained}
+use Rattle.watched_search.specs.declared.entry.Entry.{Entry}
+use Rattle.watched_search.specs.Trail.{lits_of, IsFree}
+use Rattle.watched_search.specs.Searching.{IsFalseAt}
+use Rattle.cdcl_solver.specs.inner.Chain.{Quiet, Chain, decisions, IsExplained}
 use Rattle.cdcl_solver.specs.Answers.{IsNew, EachNew}
 use Rattle.cdcl_solver.proofs.ChainLemmas.{negation-negation, Chain-consistent, decisions-within}
 use Rattle.cdcl_solver.proofs.HintsLemmas.{Chain-propagates}
@@ -66,7 +67,7 @@ Contains-negation (x ∷ ls) l h = elim (Contains-cons_cases x ls l h) [
 ]
 
 -- the negated decisions follow, by the trail's reasons and a false clause
-pub learned-follows : (clauses : List (List Lit)) (es : List Entry) (h : ℕ) (s : Step) → Chain clauses [] es → IsConflict clauses (lits_of es) h
+pub learned-follows : (clauses : List (List Lit)) (es : List Entry) (h : ℕ) (s : Step) → Chain clauses [] es → IsFalseAt clauses (lits_of es) h
     → IsExplained (length clauses) es h s → Follows clauses s
 learned-follows clauses es h s c f made =
     let back : map negation s.lits ≡ decisions es = rw made.lits (map-negation (decisions es)) in

@@ -1,10 +1,9 @@
 pub mod ChainLemmas
 pub mod HintsLemmas
 pub mod LearnLemmas
+pub mod LevelLemmas
 pub mod WeightLemmas
-pub mod TrailLemmas
-pub mod SearchLemmas
+pub mod DecidingLemmas
+pub mod AcceptanceLemmas
+pub mod SolvingLemmas
 pub mod SatisfyLemmas
-pub mod JumpLemmas
-pub mod OccurrenceLemmas
-pub mod ReadyLemmas

@@ -1,6 +1,6 @@
-pub mod Trail
+pub mod Acceptance
 pub mod Chain
+pub mod Deciding
+pub mod Levels
+pub mod Solving
 pub mod Weight
-pub mod Jump
-pub mod Occurrences
-pub mod Search

@@ -1,78 +1,98 @@
-//! Tests of a clause that may be learned.
+//! Tests of a clause that may be learned. They look at its literals alone.
 
 ghost use Rattle.std.specs.Prelude.{◌≡◌, ℕ, ◌+◌, ◌<◌, ◌≤◌, ◌↔◌, [], length, take, IsTrue, All, Contains, List};
 ghost use Rattle.sat_formula.specs.Lit.{IsBelow};
 ghost use Rattle.refutation_checker.specs.Follows.{negation, IsUnit};
-ghost use Rattle.cdcl_solver.specs.inner.Trail.{lits_of};
-ghost use Rattle.cdcl_solver.specs.inner.Jump.{HasSecond, IsJump};
+ghost use Rattle.watched_search.specs.Trail.{lits_of};
+ghost use Rattle.cdcl_solver.specs.inner.Levels.{levels_from};
+ghost use Rattle.cdcl_solver.specs.inner.Acceptance.{HasSecond, IsJump, start_of, IsOtherAt};
 
 use crate::analysis::Candidate;
-use crate::learning::last_decision;
-use crate::trail::Trail;
 use sat_formula::Lit;
+use watched_search::Search;
 
 /// Whether the candidate's clause may be learned, and its literal be forced in the place of the
-/// decision that it names.
-pub fn is_jump(candidate: &Candidate, trail: &Trail) -> bool
-    ensures { IsTrue result →
-        IsJump trail.now.room trail.now.entries candidate.now.lits.items candidate.now.forced candidate.now.at }
+/// decision of its level.
+pub fn is_jump(candidate: &Candidate, search: &Search, levels: &[usize]) -> bool
+    requires { levels.now ≡ levels_from 0 search.now.entries }
+    ensures { IsTrue result → IsJump search.now.vars search.now.entries candidate.now.lits.items
+        candidate.now.forced candidate.now.level }
 {
-    let entries = trail.entries();
     let lits = candidate.lits.as_slice();
     let forced = candidate.forced;
-    let at = candidate.at;
-    if at >= entries.len() || entries[at].reason.is_some() || forced.var >= trail.room() {
+    let level = candidate.level;
+    if level >= levels.len() || forced.var >= search.vars() {
         return false;
     }
-    are_below(lits, trail.room())
-        && is_unit(lits, trail, at, forced)
-        && has_second(lits, trail, at, forced)
+    are_below(lits, search.vars())
+        && is_unit(lits, search, levels[level], forced)
+        && has_second(lits, search, levels, level, forced)
 }
 
-// Whether each literal's variable is below `room`.
-fn are_below(lits: &[Lit], room: usize) -> bool
-    ensures { IsTrue result → All (IsBelow room) lits.now }
+// Whether each literal's variable is below `vars`.
+fn are_below(lits: &[Lit], vars: usize) -> bool
+    ensures { IsTrue result → All (IsBelow vars) lits.now }
 {
     for l in lits {
-        if l.var >= room {
+        if l.var >= vars {
             return false;
         }
     }
     true
 }
 
-// Whether `u` is the one literal that isn't false under the first `count` entries, and isn't true.
-fn is_unit(lits: &[Lit], trail: &Trail, count: usize, u: Lit) -> bool
-    requires below { All (IsBelow trail.now.room) lits.now }
-    requires forced { u.var < trail.now.room }
-    ensures { IsTrue result → IsUnit (lits_of (take count trail.now.entries)) lits.now u }
+// Whether the literal is one of the first `count` entries.
+fn is_among(search: &Search, l: Lit, count: usize) -> bool
+    requires { l.var < search.now.vars }
+    ensures { IsTrue result ↔ Contains (lits_of (take count search.now.entries)) l }
 {
-    if trail.is_among(u, count) || trail.is_among(u.negated(), count) {
+    let entries = search.entries();
+    match search.place(l.var) {
+        None => false,
+        Some(k) => k < count && entries[k].lit == l,
+    }
+}
+
+// Whether `u` is the one literal that isn't false under the first `count` entries, and isn't true.
+fn is_unit(lits: &[Lit], search: &Search, count: usize, u: Lit) -> bool
+    requires below { All (IsBelow search.now.vars) lits.now }
+    requires forced { u.var < search.now.vars }
+    ensures { IsTrue result → IsUnit (lits_of (take count search.now.entries)) lits.now u }
+{
+    if is_among(search, u, count) || is_among(search, u.negated(), count) {
         return false;
     }
     let mut found = false;
     for l in lits {
         if *l == u {
             found = true;
-        } else if !trail.is_among(l.negated(), count) {
+        } else if !is_among(search, l.negated(), count) {
             return false;
         }
     }
     found
 }
 
-// Whether a literal other than `u` wasn't false at the last decision of the first `count` entries.
-fn has_second(lits: &[Lit], trail: &Trail, count: usize, u: Lit) -> bool
-    requires below { All (IsBelow trail.now.room) lits.now }
-    requires count { count ≤ length trail.now.entries }
-    ensures { IsTrue result → HasSecond lits.now u [] (take count trail.now.entries) }
+// Whether a literal other than `u` wasn't false at the last decision before this level.
+fn has_second(lits: &[Lit], search: &Search, levels: &[usize], level: usize, u: Lit) -> bool
+    requires below { All (IsBelow search.now.vars) lits.now }
+    requires levels { levels.now ≡ levels_from 0 search.now.entries }
+    requires level { level < length levels.now }
+    ensures { IsTrue result → HasSecond lits.now u [] (take (start_of search.now.entries level) search.now.entries) }
 {
-    let entries = trail.entries();
-    let Some(last) = last_decision(&entries[..count]) else {
+    if level == 0 {
         return true;
-    };
+    }
+    has_other(lits, search, levels[level - 1], u)
+}
+
+// Whether a literal other than `u` isn't false under the first `count` entries.
+fn has_other(lits: &[Lit], search: &Search, count: usize, u: Lit) -> bool
+    requires { All (IsBelow search.now.vars) lits.now }
+    ensures { IsTrue result → IsOtherAt (lits_of (take count search.now.entries)) lits.now u }
+{
     for l in lits {
-        if *l != u && !trail.is_among(l.negated(), last) {
+        if *l != u && !is_among(search, l.negated(), count) {
             return true;
         }
     }

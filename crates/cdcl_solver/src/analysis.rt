@@ -2,175 +2,210 @@
 
 ghost use Rattle.std.specs.Prelude.{◌≡◌, ℕ, ◌+◌, ◌<◌, ◌≤◌, length};
 
-use crate::entry::Entry;
-use crate::searching::Search;
-use crate::trail::Trail;
+use crate::marks::Marks;
 use sat_formula::Lit;
 use std::alloc::{AllocError, Global};
+use watched_search::{Entry, Search};
 
-/// A clause, the clauses that make it follow, the literal that it forces, and the place of the
-/// decision that gives way.
+/// A clause, the clauses that make it follow, the literal that it forces, and the level whose
+/// decision gives way. The forced literal stands first and the one that became false last second,
+/// since these two watch the clause at first.
 #[derive(Drop)]
 pub struct Candidate {
     pub lits: Vec<Lit>,
     pub hints: Vec<u64>,
     pub forced: Lit,
-    pub at: usize,
+    pub level: usize,
 }
 
-// The variables that a conflict comes from, the literal of the last level that all its causes pass
-// through, and the clauses that lead from there to the conflict, the conflict first.
+// What a conflict comes from: how many marked literals of the last level are still to be resolved,
+// where the others stand, and the clauses that lead from there to the conflict, the conflict first.
 #[derive(Drop)]
 struct Causes {
-    seen: Vec<bool>,
-    point: Lit,
+    last: usize,
+    open: usize,
+    earlier: Vec<usize>,
     hints: Vec<u64>,
 }
 
 /// The clause of the first unique point: the negation of the first literal of the last level that
 /// all causes of the conflict pass through, with the negations of the earlier literals that they
-/// begin at. (Zhang, Madigan, Moskewicz and Malik, "Efficient Conflict Driven Learning in a
-/// Boolean Satisfiability Solver", 2001.)
+/// begin at. A literal is left out where its reason's other literals are causes too, and each one
+/// that is true before the first decision. The variables that were seen are marked. (Zhang, Madigan,
+/// Moskewicz and Malik, "Efficient Conflict Driven Learning in a Boolean Satisfiability Solver",
+/// 2001; Sörensson and Biere, "Minimizing Learned Clauses", 2009.)
 pub fn first_unique_point(
     alloc: Global,
     search: &Search,
-    conflict: u64,
-    last: usize,
-) -> Result<Option<Candidate>, AllocError>
-    requires { last < length search.now.trail.entries }
-{
-    let Some(causes) = causes_of(alloc, search, conflict, last)? else {
+    levels: &[usize],
+    marks: &mut Marks,
+    conflict: usize,
+) -> Result<Option<Candidate>, AllocError> {
+    let (Some(first), Some(last)) = (levels.first(), levels.last()) else {
         return Ok(None);
     };
-    Ok(Some(candidate_of(alloc, search, causes, last)?))
+    let mut causes = Causes {
+        last: *last,
+        open: 0,
+        earlier: Vec::new(alloc),
+        hints: Vec::new(alloc),
+    };
+    causes.resolve(search, marks, conflict)?;
+    let Some(point) = unique_point(search, marks, &mut causes)? else {
+        return Ok(None);
+    };
+    causes.follow_roots(search, marks, *first)?;
+    Ok(Some(candidate_of(alloc, search, levels, marks, causes, point)?))
 }
 
-// Resolves backwards from the conflict along the trail.
-fn causes_of(
-    alloc: Global,
-    search: &Search,
-    conflict: u64,
-    last: usize,
-) -> Result<Option<Causes>, AllocError>
-    requires { last < length search.now.trail.entries }
-{
-    let entries = search.trail.entries();
-    let mut seen = vec![in alloc; false; search.trail.room()]?;
-    let mut hints = Vec::new(alloc);
-    hints.push(conflict)?;
-    let mut open = mark(clause_of(search, conflict), &mut seen, &search.trail, last);
-    for i in (last..entries.len()).rev() {
-        let e = entries[i];
-        if is_marked(&seen, e.lit.var) {
-            if open <= 1 {
-                let point = e.lit;
-                return Ok(Some(Causes { seen, point, hints }));
+impl Causes {
+    // Notes the clause, and marks its variables.
+    fn resolve(&mut self, search: &Search, marks: &mut Marks, c: usize) -> Result<(), AllocError> {
+        if c >= search.count() {
+            return Ok(());
+        }
+        self.hints.push(c as u64 + 1)?;
+        for k in 0..search.size(c) {
+            self.see(search, marks, search.lit(c, k).var)?;
+        }
+        Ok(())
+    }
+
+    // Marks the variable, if it has a value and no mark.
+    fn see(&mut self, search: &Search, marks: &mut Marks, v: usize) -> Result<(), AllocError> {
+        if v >= search.vars() {
+            return Ok(());
+        }
+        if let Some(place) = search.place(v) {
+            if marks.mark(v)? {
+                if place < self.last {
+                    self.earlier.push(place)?;
+                } else {
+                    self.open = self.open.saturating_add(1);
+                }
             }
-            if let Some(h) = e.reason {
-                let more = mark(clause_of(search, h), &mut seen, &search.trail, last);
-                open = (open - 1).saturating_add(more);
-                hints.push(h)?;
+        }
+        Ok(())
+    }
+
+    // Marks all that the marked literals before the first decision come from, so that none of them
+    // is wanted in the clause.
+    fn follow_roots(
+        &mut self,
+        search: &Search,
+        marks: &mut Marks,
+        first: usize,
+    ) -> Result<(), AllocError> {
+        for next in 0..search.vars() {
+            if next >= self.earlier.len() {
+                return Ok(());
+            }
+            let place = self.earlier[next];
+            if place < first {
+                if let Some(c) = reason_at(search, place) {
+                    self.see_all(search, marks, c)?;
+                }
+            }
+        }
+        Ok(())
+    }
+
+    // Marks the variables of the clause.
+    fn see_all(&mut self, search: &Search, marks: &mut Marks, c: usize) -> Result<(), AllocError> {
+        if c >= search.count() {
+            return Ok(());
+        }
+        for k in 0..search.size(c) {
+            self.see(search, marks, search.lit(c, k).var)?;
+        }
+        Ok(())
+    }
+}
+
+// Resolves backwards along the last level, up to the literal that all causes pass through.
+fn unique_point(
+    search: &Search,
+    marks: &mut Marks,
+    causes: &mut Causes,
+) -> Result<Option<Lit>, AllocError> {
+    let entries = search.entries();
+    if causes.last > entries.len() {
+        return Ok(None);
+    }
+    for e in entries[causes.last..].iter().rev() {
+        if marks.has(e.lit.var) {
+            if causes.open <= 1 {
+                return Ok(Some(e.lit));
+            }
+            if let Some(c) = e.reason {
+                causes.open -= 1;
+                causes.resolve(search, marks, c)?;
             }
         }
     }
     Ok(None)
 }
 
-// A literal before the last level is left out where its reason's other literals are causes too.
+// Leaves out each earlier literal whose reason's other literals are causes too.
 fn candidate_of(
     alloc: Global,
     search: &Search,
+    levels: &[usize],
+    marks: &Marks,
     causes: Causes,
-    last: usize,
-) -> Result<Candidate, AllocError>
-    requires { last ≤ length search.now.trail.entries }
-{
+    point: Lit,
+) -> Result<Candidate, AllocError> {
     let Causes {
-        seen,
-        point,
-        hints: later,
+        mut earlier,
+        mut hints,
+        ..
     } = causes;
-    let entries = search.trail.entries();
+    earlier.sort_unstable();
     let mut lits = Vec::new(alloc);
-    let mut hints = Vec::new(alloc);
     lits.push(point.negated())?;
-    let mut from = 0;
-    for i in 0..last {
-        let e = entries[i];
-        if is_marked(&seen, e.lit.var) {
-            match needless(search, &seen, e) {
-                Some(h) => hints.push(h)?,
-                None => {
+    let mut level = 0;
+    for place in earlier.iter().rev() {
+        match needless(search, marks, *place) {
+            Some(c) => hints.push(c)?,
+            None => {
+                if lits.len() == 1 {
+                    level = level_behind(levels, *place);
+                }
+                if let Some(e) = search.entries().get(*place) {
                     lits.push(e.lit.negated())?;
-                    from = i + 1;
                 }
             }
         }
     }
-    for h in later.as_slice().iter().rev() {
-        hints.push(*h)?;
-    }
+    hints.reverse();
     Ok(Candidate {
         lits,
         hints,
         forced: point.negated(),
-        at: first_decision(entries, from),
+        level,
     })
 }
 
-// The clause with this number, or no literals.
-fn clause_of(search: &Search, number: u64) -> &[Lit] {
-    let clauses = search.clauses.clauses();
-    let steps = search.steps.as_slice();
-    if number == 0 {
-        return &[];
-    }
-    let i = (number - 1) as usize;
-    if i < clauses.len() {
-        return clauses[i].lits();
-    }
-    let j = i - clauses.len();
-    if j < steps.len() {
-        steps[j].lits.lits()
-    } else {
-        &[]
-    }
+// The first level that begins behind this place.
+fn level_behind(levels: &[usize], place: usize) -> usize {
+    levels.partition_point(|start| *start <= place)
 }
 
-fn is_marked(marks: &[bool], var: usize) -> bool {
-    var < marks.len() && marks[var]
+// The reason of the entry at this place.
+fn reason_at(search: &Search, place: usize) -> Option<usize> {
+    search.entries().get(place)?.reason
 }
 
-// Marks the variables, and counts those that are new and of the last level.
-fn mark(lits: &[Lit], seen: &mut [bool], trail: &Trail, last: usize) -> usize {
-    let mut count: usize = 0;
-    for l in lits {
-        if l.var < seen.len() && l.var < trail.room() && !seen[l.var] {
-            seen[l.var] = true;
-            if !trail.is_among(l.negated(), last) {
-                count = count.saturating_add(1);
-            }
+// The number, in a log, of the reason of the entry at this place, where all its variables are marked.
+fn needless(search: &Search, marks: &Marks, place: usize) -> Option<u64> {
+    let c = reason_at(search, place)?;
+    if c >= search.count() {
+        return None;
+    }
+    for k in 0..search.size(c) {
+        if !marks.has(search.lit(c, k).var) {
+            return None;
         }
     }
-    count
-}
-
-// The literal's reason, where all its literals are marked.
-fn needless(search: &Search, seen: &[bool], e: Entry) -> Option<u64> {
-    let h = e.reason?;
-    if clause_of(search, h).iter().all(|l| is_marked(seen, l.var)) {
-        Some(h)
-    } else {
-        None
-    }
-}
-
-// The first decision from `from` on.
-fn first_decision(entries: &[Entry], from: usize) -> usize {
-    for i in from..entries.len() {
-        if entries[i].reason.is_none() {
-            return i;
-        }
-    }
-    entries.len()
+    Some(c as u64 + 1)
 }

@@ -3,20 +3,20 @@
 //! `solve` answers an assignment that satisfies the formula, or a log of derived clauses that
 //! refutes it and that `refutation_checker` accepts, so that nothing which the solver does has to
 //! be believed. (Marques-Silva and Sakallah, "GRASP: A Search Algorithm for Propositional
-//! Satisfiability", 1999; Cruz-Filipe and others, "Efficient Certified RAT Verification", 2017,
-//! on the log.)
+//! Satisfiability", 1999; Moskewicz and others, "Chaff: Engineering an Efficient SAT Solver", 2001;
+//! Cruz-Filipe and others, "Efficient Certified RAT Verification", 2017, on the log.)
 #![tactic(auto)]
 
 mod acceptance;
 mod analysis;
 mod answer;
-mod entry;
+mod deciding;
 mod learning;
-mod occurrences;
-mod propagation;
-mod searching;
+mod marks;
+mod model;
+mod scores;
+mod solver;
 mod solving;
-mod trail;
 
 pub use answer::Answer;
 pub use solving::solve;

@@ -6,7 +6,8 @@ ghost use Rattle.refutation_checker.specs.Follows.{IsUnsatisfiable};
 ghost use Rattle.cdcl_solver.specs.Answers.{IsAnswer, clauses_with};
 
 use crate::answer::Answer;
-use crate::searching::{End, Search, run};
+use crate::model::assignment_of;
+use crate::solver::{End, Solver, run};
 use sat_formula::{Formula, Lit};
 use std::alloc::{AllocError, Global};
 
@@ -28,11 +29,10 @@ pub fn solve(
     ensures refuted { IfOk result (λ a. (log : List Step) → a ≡ Answer.Unsat log →
         IsUnsatisfiable (clauses_with formula.now assume)) }
 {
-    let cnf = formula.with_unit(alloc, assume)?;
-    let mut search = Search::new(alloc, cnf)?;
-    match run(alloc, &mut search, budget)? {
-        End::Satisfied => Ok(Answer::Sat(search.trail.assignment(alloc)?)),
-        End::Refuted => Ok(Answer::Unsat(search.into_log())),
-        End::Spent => Ok(Answer::Spent(search.into_log())),
+    let mut solver = Solver::new(alloc, formula, assume)?;
+    match run(alloc, &mut solver, budget)? {
+        End::Satisfied => Ok(Answer::Sat(assignment_of(alloc, &solver.search)?)),
+        End::Refuted => Ok(Answer::Unsat(solver.into_log())),
+        End::Spent => Ok(Answer::Spent(solver.into_log())),
     }
 }

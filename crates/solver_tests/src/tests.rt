@@ -1,4 +1,4 @@
-//! What the solver answers, against known formulas and against the plain search.
+//! What the solver answers, against known formulas, the plain solver and the plain search.
 
 ghost use Rattle.std.specs.Prelude.{◌≡◌, ◌<◌, ◌≤◌};
 
@@ -18,6 +18,7 @@ enum Told {
     Misuse,
 }
 
+// What the solver answers.
 fn answer_to(
     alloc: Global,
     f: &Formula,
@@ -27,7 +28,29 @@ fn answer_to(
     if assume.var >= f.vars() {
         return Ok(Told::Misuse);
     }
-    match solve(alloc, f, assume, budget)? {
+    let answer = solve(alloc, f, assume, budget)?;
+    shown(alloc, f, assume, answer)
+}
+
+// What the plain solver answers.
+fn plain_answer_to(
+    alloc: Global,
+    f: &Formula,
+    assume: Lit,
+    budget: Option<u64>,
+) -> Result<Told, AllocError> {
+    if assume.var >= f.vars() {
+        return Ok(Told::Misuse);
+    }
+    let answer = plain_solver::solve(alloc, f, assume, budget)?;
+    shown(alloc, f, assume, answer)
+}
+
+fn shown(alloc: Global, f: &Formula, assume: Lit, answer: Answer) -> Result<Told, AllocError> {
+    if assume.var >= f.vars() {
+        return Ok(Told::Misuse);
+    }
+    match answer {
         Answer::Sat(a) => {
             let whole = a.values().len() == f.vars();
             Ok(Told::Sat(whole && f.satisfies(&a) && value(assume, &a)))
@@ -156,8 +179,8 @@ fn random_literal(random: &mut Random, count: u8) -> Lit
     }
 }
 
-// What the solver and the plain search say of a random formula and literal.
-fn both(alloc: Global, random: &mut Random) -> Result<(Told, bool), AllocError> {
+// What the two solvers and the plain search say of a random formula and literal.
+fn all_three(alloc: Global, random: &mut Random) -> Result<(Told, Told, bool), AllocError> {
     let count = 4 + random.below(9);
     let mut f = formula_over(alloc, count - 1)?;
     for _ in 0..2 * count + random.below(20) {
@@ -165,7 +188,8 @@ fn both(alloc: Global, random: &mut Random) -> Result<(Told, bool), AllocError> 
     }
     let assume = random_literal(random, count);
     let answer = answer_to(alloc, &f, assume, None)?;
-    Ok((answer, is_satisfiable(alloc, &f, assume)?))
+    let plain = plain_answer_to(alloc, &f, assume, None)?;
+    Ok((answer, plain, is_satisfiable(alloc, &f, assume)?))
 }
 
 fn is_satisfiable(alloc: Global, f: &Formula, assume: Lit) -> Result<bool, AllocError> {
@@ -176,18 +200,18 @@ fn is_satisfiable(alloc: Global, f: &Formula, assume: Lit) -> Result<bool, Alloc
     Ok(search(alloc, &cnf)?.is_some())
 }
 
-// How many of the random formulas the two agree on.
+// How many of the random formulas the three agree on.
 fn agreements(alloc: Global, cases: u32) -> Result<(u32, u32), AllocError> {
     let mut random = Random { state: 18 };
     let mut agreed: u32 = 0;
     let mut satisfiable: u32 = 0;
     for _ in 0..cases {
-        match both(alloc, &mut random)? {
-            (Told::Sat(true), true) => {
+        match all_three(alloc, &mut random)? {
+            (Told::Sat(true), Told::Sat(true), true) => {
                 agreed = agreed.saturating_add(1);
                 satisfiable = satisfiable.saturating_add(1);
             }
-            (Told::Unsat(true), false) => agreed = agreed.saturating_add(1),
+            (Told::Unsat(true), Told::Unsat(true), false) => agreed = agreed.saturating_add(1),
             _ => {}
         }
     }
@@ -195,7 +219,7 @@ fn agreements(alloc: Global, cases: u32) -> Result<(u32, u32), AllocError> {
 }
 
 #[test]
-fn the_solver_agrees_with_the_plain_search(rt: HostRuntime) -> Result<(), Fail> {
+fn the_solver_agrees_with_the_plain_ones(rt: HostRuntime) -> Result<(), Fail> {
     let (agreed, satisfiable) = agreements(rt.alloc(), 4000)?;
     assert_eq!(rt; agreed, 4000);
     assert!(rt; satisfiable > 1000 && satisfiable < 3000, "{satisfiable}");

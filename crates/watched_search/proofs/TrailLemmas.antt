@@ -106,7 +106,7 @@ same_or_opposite_at m l v false false e f = inl (Lit-same m l v (e ∙ sym f))
 same_or_opposite_at m l v true false e f = inr (Lit-same m (negation l) v (e ∙ ap not (sym f)))
 same_or_opposite_at m l v false true e f = inr (Lit-same m (negation l) v (e ∙ ap not (sym f)))
 
-same_or_opposite : (m l : Lit) → m.var ≡ l.var → (m ≡ l) ⊎ (m ≡ negation l)
+pub same_or_opposite : (m l : Lit) → m.var ≡ l.var → (m ≡ l) ⊎ (m ≡ negation l)
 same_or_opposite m l v = same_or_opposite_at m l v m.neg l.neg refl refl
 
 -- no literal of a free variable is true

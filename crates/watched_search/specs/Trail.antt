@@ -28,6 +28,12 @@ pub record AreStarts (n : ℕ) (starts : List ℕ) : Type 0 where
   pub rising : AllPairs (λ s t. s < t) starts
   pub within : All (λ s. s < n) starts
 
+-- what holds of the entries of every search
+pub record AreEntries (vars : ℕ) (es : List Entry) : Type 0 where
+  pub below : All (IsBelow vars) (lits_of es)
+  pub distinct : DistinctVars es
+  pub counted : length es ≤ vars
+
 -- what holds of every trail
 pub record IsTrail (t : TrailView) : Type 0 where
   pub below : All (IsBelow t.room) (lits_of t.entries)

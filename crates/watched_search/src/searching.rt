@@ -4,7 +4,7 @@ ghost use Rattle.std.specs.Prelude.{◌≡◌, ◌<◌, ◌≤◌, ◌++◌, ◌
 ghost use Rattle.sat_formula.specs.Lit.{IsBelow};
 ghost use Rattle.sat_formula.specs.Clause.{NamesBelow};
 ghost use Rattle.refutation_checker.specs.Marks.{TellsValue};
-ghost use Rattle.watched_search.specs.Trail.{lits_of, IsFree, IsPlaceOf};
+ghost use Rattle.watched_search.specs.Trail.{lits_of, IsFree, IsPlaceOf, AreEntries};
 ghost use Rattle.watched_search.specs.Searching.{clause_at, lit_at, Propagates, IsBegun};
 ghost use Rattle.watched_search.specs.Watching.{IsWatched};
 
@@ -101,7 +101,8 @@ impl Search {
 
     /// What is true and why, the oldest first.
     pub fn entries(&self) -> &[Entry]
-        ensures { result.now ≡ self.now.entries }
+        ensures same { result.now ≡ self.now.entries }
+        ensures sound { AreEntries self.now.vars self.now.entries }
     {
         let _ = &self.watched;
         self.trail.entries()

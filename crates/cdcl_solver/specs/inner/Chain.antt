@@ -1,31 +1,20 @@
 -- What ties the trail to the clauses. A clause says nothing under a trail where it is neither false nor a unit there.
-use Rattle.std.specs.Prelude.{◌≡◌, ℕ, ◌+◌, ◌-◌, ◌<◌, ◌≤◌, ◌++◌, List, [], ◌∷◌, length, map, MatchOption, All, slice_index_or, drop, Option, Some, None}
+use Rattle.std.specs.Prelude.{◌≡◌, ℕ, ◌+◌, ◌<◌, ◌++◌, List, [], ◌∷◌, length, map, All, slice_index_or, drop, IfSome, Option, Some, None}
 use Rattle.sat_formula.specs.declared.lit.Lit.{Lit}
-use Rattle.refutation_checker.specs.Follows.{negation}
-use Rattle.refutation_checker.specs.Follows.{IsFalse, IsUnit}
-use Rattle.cdcl_solver.specs.declared.entry.Entry.{Entry}
-use Rattle.cdcl_solver.specs.declared.propagation.Status.{Status}
-use Rattle.cdcl_solver.specs.declared.propagation.Status.TheVariants.{AllFalse, OneLeft, Other}
+use Rattle.refutation_checker.specs.Follows.{negation, IsFalse, IsUnit}
 use Rattle.refutation_checker.specs.declared.log.Step.{Step}
-use Rattle.cdcl_solver.specs.inner.Trail.{DecisionTrail, IsFree, lits_of}
-use Rattle.cdcl_solver.specs.inner.Weight.{weight}
+use Rattle.watched_search.specs.declared.entry.Entry.{Entry}
+use Rattle.watched_search.specs.Trail.{IsFree}
+use Rattle.watched_search.specs.Searching.{IsForcedBy}
 
 -- the clause is neither false nor a unit
 abbrev pub Quiet : List Lit → List Lit → Type 0
 Quiet T c = (IsFalse T c → ⊥) × ((u : Lit) → IsUnit T c u → ⊥)
 
--- the number of a clause that is false
-abbrev pub IsConflict : List (List Lit) → List Lit → ℕ → Type 0
-IsConflict known T h = (0 < h) × ((h ≤ length known) × IsFalse T (slice_index_or known (h - 1) []))
-
--- the number of a clause that is a unit, and the literal that it forces
-abbrev pub IsForced : List (List Lit) → List Lit → Lit → ℕ → Type 0
-IsForced known T l h = (0 < h) × ((h ≤ length known) × IsUnit T (slice_index_or known (h - 1) []) l)
-
 -- nothing was left to force where the literal was decided
 abbrev pub Why : List (List Lit) → List Lit → Lit → Option ℕ → Type 0
 Why known T l None = All (Quiet T) known
-Why known T l (Some h) = IsForced known T l h
+Why known T l (Some c) = IsForcedBy known T l c
 
 pub record IsNext (known : List (List Lit)) (T : List Lit) (e : Entry) : Type 0 where
   pub free : IsFree T e.lit
@@ -38,41 +27,35 @@ Chain known T (e ∷ es) = IsNext known T e × Chain known (T ++ e.lit ∷ []) e
 
 abbrev pub decided : Lit → Option ℕ → List Lit
 decided l None = l ∷ []
-decided l (Some h) = []
+decided l (Some c) = []
 
+-- a clause's number in a log
 abbrev pub reason_of : Option ℕ → List ℕ
 reason_of None = []
-reason_of (Some h) = h ∷ []
+reason_of (Some c) = (c + 1) ∷ []
 
 -- the decided literals
 abbrev pub decisions : List Entry → List Lit
 decisions [] = []
 decisions (e ∷ es) = decided e.lit e.reason ++ decisions es
 
--- the numbers of the clauses that forced the others
+-- the numbers, in a log, of the clauses that forced the others
 abbrev pub reasons : List Entry → List ℕ
 reasons [] = []
 reasons (e ∷ es) = reason_of e.reason ++ reasons es
 
-abbrev pub IsStatus : List Lit → List Lit → Status → Type 0
-IsStatus T c AllFalse = IsFalse T c
-IsStatus T c (OneLeft u) = IsUnit T c u
-IsStatus T c Other = Quiet T c
-
--- the place of the last decision, if there is one
-abbrev pub IsLastDecision : List Entry → Option ℕ → Type 0
-IsLastDecision es None = decisions es ≡ []
-IsLastDecision es (Some k) = (k < length es) × ((decisions (drop (k + 1) es) ≡ []) × ((d : Entry) → (slice_index_or es k d).reason ≡ None))
+-- the last decision stands at this place
+pub record IsLastDecision (es : List Entry) (k : ℕ) : Type 0 where
+  pub within : k < length es
+  pub later : decisions (drop (k + 1) es) ≡ []
+  pub decision : (d : Entry) → (slice_index_or es k d).reason ≡ None
 
 -- the step that the trail explains: its negated decisions, with every reason and then the false clause as hints
 pub record IsExplained (clauses : ℕ) (es : List Entry) (conflict : ℕ) (s : Step) : Type 0 where
   pub next : s.id ≡ clauses + 1
   pub lits : s.lits ≡ map negation (decisions es)
-  pub hints : s.hints ≡ reasons es ++ conflict ∷ []
+  pub hints : s.hints ≡ reasons es ++ (conflict + 1) ∷ []
 
--- the trail went on, until a clause is false or each says nothing
-pub record IsPropagated (known : List (List Lit)) (old new : DecisionTrail) (conflict : Option ℕ) : Type 0 where
-  pub chain : Chain known [] new.entries
-  pub room : new.room ≡ old.room
-  pub weight : weight old.room new.entries ≤ weight old.room old.entries
-  pub found : MatchOption conflict (All (Quiet (lits_of new.entries)) known) (λ h. IsConflict known (lits_of new.entries) h)
+-- each reason is the number of one of n clauses
+abbrev pub AreReasonsBelow : ℕ → List Entry → Type 0
+AreReasonsBelow n es = All (λ e. IfSome e.reason (λ c. c < n)) es

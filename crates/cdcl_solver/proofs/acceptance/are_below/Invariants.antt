@@ -3,4 +3,4 @@ use Rattle.sat_formula.specs.Lit.{IsBelow}
 use Rattle.cdcl_solver.proofs.acceptance.are_below.Given as goal
 
 abbrev pub invariant-loop-l : goal.invariant-loop-l
-invariant-loop-l l = All (IsBelow l.room) (take l.l-index l.lits)
+invariant-loop-l l = All (IsBelow l.vars) (take l.l-index l.lits)

@@ -5,8 +5,8 @@ use Rattle.std.proofs.lemmas.List.{take_all, take_more}
 use Rattle.std.proofs.lemmas.List.Elements.{All-more, Contains-push, Contains-append_left}
 use Rattle.refutation_checker.specs.Follows.{negation}
 use Rattle.refutation_checker.proofs.StatusLemmas.{same_lem}
-use Rattle.cdcl_solver.specs.inner.Trail.{lits_of}
-use Rattle.cdcl_solver.proofs.ChainLemmas.{no_entry}
+use Rattle.watched_search.specs.Trail.{lits_of}
+use Rattle.watched_search.proofs.TrailLemmas.{no_entry}
 use Rattle.cdcl_solver.proofs.acceptance.is_unit.Goals as goal
 use Rattle.cdcl_solver.proofs.acceptance.is_unit.Goals.{then-eq, else-eq+else-not-is_among}
 
@@ -17,13 +17,13 @@ loop-l-preserved c =
       | then-eq w ↦
           (let same = sym (same_lem _ _ (ap not w.if-eq.ensures)) in
           record {
-            each = All-more (λ m. (m ≡ c.args.u) ⊎ Contains (lits_of (take c.args.count c.args.trail.now.entries)) (negation m)) c.args.lits.now c.loop-l.l-index no_entry.lit c.loop-l-test.true c.loop-l.invariant.each (inl same);
+            each = All-more (λ m. (m ≡ c.args.u) ⊎ Contains (lits_of (take c.args.count c.args.search.now.entries)) (negation m)) c.args.lits.now c.loop-l.l-index no_entry.lit c.loop-l-test.true c.loop-l.invariant.each (inl same);
             has = λ t. rw (more, same) (Contains-push (take c.loop-l.l-index c.args.lits.now) c.args.u);
           })
       | else-eq+else-not-is_among w ↦
           (let false' = rw w.negated-else-eq.ensures at (w.if-not-is_among.ensures.0 refl) in
           record {
-            each = All-more (λ m. (m ≡ c.args.u) ⊎ Contains (lits_of (take c.args.count c.args.trail.now.entries)) (negation m)) c.args.lits.now c.loop-l.l-index no_entry.lit c.loop-l-test.true c.loop-l.invariant.each (inr false');
+            each = All-more (λ m. (m ≡ c.args.u) ⊎ Contains (lits_of (take c.args.count c.args.search.now.entries)) (negation m)) c.args.lits.now c.loop-l.l-index no_entry.lit c.loop-l-test.true c.loop-l.invariant.each (inr false');
             has = λ t. rw more (Contains-append_left (take c.loop-l.l-index c.args.lits.now) _ c.args.u (c.loop-l.invariant.has (rw w.found-is at t)));
           })
     ]

@@ -1,25 +1,18 @@
-use Rattle.std.proofs.Common.{◌∙◌, ap}
-use Rattle.sat_formula.specs.declared.cnf.Cnf.{Cnf}
+use Rattle.std.proofs.Common.{◌∙◌}
 use Rattle.refutation_checker.proofs.Soundness.{Refutes-sound}
-use Rattle.cdcl_solver.specs.inner.Trail.{DecisionTrail}
 use Rattle.cdcl_solver.proofs.SatisfyLemmas.{model}
 use Rattle.cdcl_solver.proofs.solving.solve.Goals as goal
 
-pub returns-in_ok-assignment-in-Satisfied-clause-answer : goal.returns-in_ok-assignment-in-Satisfied-clause-answer
-returns-in_ok-assignment-in-Satisfied-clause-answer c =
-    let begun = c.in_ok-search.ensures in
+pub returns-in_ok-assignment_of-in-Satisfied-clause-answer : goal.returns-in_ok-assignment_of-in-Satisfied-clause-answer
+returns-in_ok-assignment_of-in-Satisfied-clause-answer c =
+    let begun = c.in_ok-solver.ensures in
     let ended = rw c.in-Satisfied.is at c.in_ok-run.ensures.end in
-    let cnf = c.in_ok-cnf.ensures.same in
-    model c.args.formula.now c.args.assume c.in_ok-assignment-in-Satisfied.field-0 c.run.new.search.steps c.run.new.search.trail
-    (ended.0.room ∙ ap (λ (t : DecisionTrail). t.room) begun.trail ∙ ap (λ (f : Cnf). f.vars) cnf)
-    (rw cnf at c.in_ok-cnf.ensures.within)
-    (rw (ended.0.clauses, begun.clauses, cnf) at ended.1)
-    c.in_ok-assignment-in-Satisfied.ensures.agrees
-    c.in_ok-assignment-in-Satisfied.ensures.length
+    let told = c.in_ok-assignment_of-in-Satisfied.ensures in
+    model c.args.formula.now c.args.assume c.in_ok-assignment_of-in-Satisfied.field-0 c.run.new.solver ended.1 ended.2 (ended.0.clauses ∙ begun.clauses) (ended.0.vars ∙ begun.vars) told.agrees told.length
 
 pub returns-in-Refuted-clause-refuted : goal.returns-in-Refuted-clause-refuted
 returns-in-Refuted-clause-refuted c = λ log same.
-    let begun = c.in_ok-search.ensures in
+    let begun = c.in_ok-solver.ensures in
     let ended = rw c.in-Refuted.is at c.in_ok-run.ensures.end in
-    let refutes = rw (begun.clauses, c.in_ok-cnf.ensures.same) at ended.refutes in
+    let refutes = rw begun.clauses at ended.refutes in
     Refutes-sound _ _ refutes.0 refutes.1

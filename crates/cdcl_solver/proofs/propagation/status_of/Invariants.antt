@@ -1,7 +1,0 @@
-use Rattle.std.proofs.Common.{take}
-use Rattle.refutation_checker.proofs.StatusLemmas.{Found}
-use Rattle.cdcl_solver.specs.inner.Trail.{lits_of}
-use Rattle.cdcl_solver.proofs.propagation.status_of.Given as goal
-
-abbrev pub invariant-loop-l : goal.invariant-loop-l
-invariant-loop-l l = Found (lits_of l.trail.entries) (take l.l-index l.clause) l.found

@@ -1,7 +1,0 @@
-use Rattle.std.proofs.Common.{refl, true, None}
-use Rattle.cdcl_solver.proofs.SearchLemmas.{decided_next}
-use Rattle.cdcl_solver.proofs.searching.decide.Goals as goal
-
-pub returns : goal.returns
-returns c = rw (c.in_ok-push.ensures.ok, c.entries.ensures.same)
-    (decided_next c.args.search.now (record { lit = record { var = c.args.var; neg = true }; reason = None }) c.requires.searching refl c.requires.quiet c.requires.free c.in_ok-push.ensures.room)

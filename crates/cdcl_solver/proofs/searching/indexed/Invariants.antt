@@ -1,6 +1,0 @@
-use Rattle.std.proofs.Common.{take}
-use Rattle.cdcl_solver.specs.inner.Occurrences.{IsIndex}
-use Rattle.cdcl_solver.proofs.searching.indexed.Given as goal
-
-abbrev pub invariant-loop-k : goal.invariant-loop-k
-invariant-loop-k l = IsIndex l.room l.occurrences (take l.k l.clauses)

@@ -1,5 +1,0 @@
-use Rattle.cdcl_solver.proofs.SearchLemmas.{settled}
-use Rattle.cdcl_solver.proofs.searching.settle.Goals as goal
-
-pub returns : goal.returns
-returns c = settled c.args.search.now c.propagate.new.trail c.in_ok-found.found c.requires.searching (rw (c.clauses.ensures, c.as_slice.ensures) at c.in_ok-found.ensures)

@@ -1,0 +1,8 @@
+use Rattle.std.proofs.Common.{take, None}
+use Rattle.std.specs.Prelude.{Contains}
+use Rattle.refutation_checker.specs.Follows.{known}
+use Rattle.plain_solver.specs.inner.Occurrences.{IsLooked}
+use Rattle.plain_solver.proofs.propagation.look_over.Given as goal
+
+abbrev pub invariant-loop-k : goal.invariant-loop-k
+invariant-loop-k l = IsLooked (known l.clauses l.steps) l.initial.trail l.trail (Contains (take l.k-index l.places)) None
