@@ -74,9 +74,9 @@ two = flat (define (codes "Op") (codes "a" ∷ []) op_body ∷ define (codes "In
 
 -- with the names of its levels
 levels : written_of two (at 0) (codes "Inv") ≡
-    tree 10 op.Exists ((0 ∷ codes "x") ∷ []) (tree 11 op.SetEnum [] []
-    ∷ tree 3 op.Exists ((1 ∷ codes "x") ∷ []) (tree 13 (op.Bound (0 ∷ codes "x")) [] []
-    ∷ tree 5 op.Eq [] (tree 6 (op.Bound (1 ∷ codes "x")) [] [] ∷ tree 13 (op.Bound (0 ∷ codes "x")) [] [] ∷ []) ∷ []) ∷ [])
+    tree 10 op.Exists ((0 ∷ 0 ∷ codes "x") ∷ []) (tree 11 op.SetEnum [] []
+    ∷ tree 3 op.Exists ((0 ∷ 1 ∷ codes "x") ∷ []) (tree 13 (op.Bound (0 ∷ 0 ∷ codes "x")) [] []
+    ∷ tree 5 op.Eq [] (tree 6 (op.Bound (0 ∷ 1 ∷ codes "x")) [] [] ∷ tree 13 (op.Bound (0 ∷ 0 ∷ codes "x")) [] [] ∷ []) ∷ []) ∷ [])
 levels = simp (no_note, with_lambdas-roll, written-at)
 
 -- the inner x is renamed, since the argument is the outer one
@@ -99,8 +99,8 @@ excepts_stay : with_names_back (written_of (flat (define (codes "Inv") [] nested
 excepts_stay = ap with_names_back first ∙ simp (back-at, reads-at, binds-at)
   where
     first : written_of (flat (define (codes "Inv") [] nested ∷ [])) (at 0) (codes "Inv") ≡
-        tree 1 (op.Except (1 ∷ [])) ((0 ∷ at_sign) ∷ []) (tree 2 (op.Name 0 false) [] [] ∷ tree 3 (op.Int (pos 1)) [] []
-        ∷ tree 4 (op.Except (1 ∷ [])) ((1 ∷ at_sign) ∷ []) (tree 5 (op.Bound (0 ∷ at_sign)) [] [] ∷ tree 6 (op.Int (pos 2)) [] [] ∷ tree 7 (op.Bound (1 ∷ at_sign)) [] [] ∷ []) ∷ [])
+        tree 1 (op.Except (1 ∷ [])) ((0 ∷ 0 ∷ at_sign) ∷ []) (tree 2 (op.Name 0 false) [] [] ∷ tree 3 (op.Int (pos 1)) [] []
+        ∷ tree 4 (op.Except (1 ∷ [])) ((0 ∷ 1 ∷ at_sign) ∷ []) (tree 5 (op.Bound (0 ∷ 0 ∷ at_sign)) [] [] ∷ tree 6 (op.Int (pos 2)) [] [] ∷ tree 7 (op.Bound (0 ∷ 1 ∷ at_sign)) [] [] ∷ []) ∷ [])
     first = simp (no_note, with_lambdas-roll, written-at)
 
 abbrev brought : Expr
@@ -116,8 +116,8 @@ an_except_is_named : with_names_back (written_of (flat (define (codes "Up") (cod
 an_except_is_named = ap with_names_back first ∙ simp (back-at, reads-at, binds-at)
   where
     first : written_of (flat (define (codes "Up") (codes "a" ∷ []) brought ∷ define (codes "Inv") [] bringing ∷ [])) (at 0) (codes "Inv") ≡
-        tree 1 (op.Except (1 ∷ [])) ((0 ∷ at_sign) ∷ []) (tree 2 (op.Name 0 false) [] [] ∷ tree 3 (op.Int (pos 1)) [] []
-        ∷ tree 4 (op.Except (1 ∷ [])) ((1 ∷ at_sign) ∷ []) (tree 5 (op.Name 0 false) [] [] ∷ tree 6 (op.Int (pos 2)) [] [] ∷ tree 9 (op.Bound (0 ∷ at_sign)) [] [] ∷ []) ∷ [])
+        tree 1 (op.Except (1 ∷ [])) ((0 ∷ 0 ∷ at_sign) ∷ []) (tree 2 (op.Name 0 false) [] [] ∷ tree 3 (op.Int (pos 1)) [] []
+        ∷ tree 4 (op.Except (1 ∷ [])) ((0 ∷ 1 ∷ at_sign) ∷ []) (tree 5 (op.Name 0 false) [] [] ∷ tree 6 (op.Int (pos 2)) [] [] ∷ tree 9 (op.Bound (0 ∷ 0 ∷ at_sign)) [] [] ∷ []) ∷ [])
     first = simp (no_note, with_lambdas-roll, written-at)
 
 -- UNCHANGED <<v, w>> at place 1: v' = v /\ w' = w, the names at their own places
@@ -146,8 +146,8 @@ abbrev folding : Expr
 folding = tree 4 op.Fold [] (tree 5 (op.Use (codes "Plus")) [] [] ∷ tree 6 (op.Int (pos 0)) [] [] ∷ tree 7 (op.Name 0 false) [] [] ∷ [])
 
 fold_written : written_of (flat (define (codes "Plus") (codes "p" ∷ codes "q" ∷ []) plus ∷ define (codes "Inv") [] folding ∷ [])) (at 0) (codes "Inv") ≡
-    tree 4 op.Fold ((0 ∷ codes "a") ∷ (0 ∷ codes "b") ∷ []) (
-    tree 1 op.Add [] (tree 5 (op.Bound (0 ∷ codes "a")) [] [] ∷ tree 5 (op.Bound (0 ∷ codes "b")) [] [] ∷ [])
+    tree 4 op.Fold ((0 ∷ 0 ∷ codes "a") ∷ (0 ∷ 0 ∷ codes "b") ∷ []) (
+    tree 1 op.Add [] (tree 5 (op.Bound (0 ∷ 0 ∷ codes "a")) [] [] ∷ tree 5 (op.Bound (0 ∷ 0 ∷ codes "b")) [] [] ∷ [])
     ∷ tree 6 (op.Int (pos 0)) [] [] ∷ tree 7 (op.Name 0 false) [] [] ∷ [])
 fold_written = simp (no_note, with_lambdas-roll, out-roll-Expr, written-at)
 
@@ -158,9 +158,9 @@ twice = tree 4 (op.Except (1 ∷ [])) (at_sign ∷ []) (tree 5 (op.Name 0 false)
     ∷ tree 7 (op.Except (1 ∷ [])) (at_sign ∷ []) (tree 8 (op.Name 0 false) [] [] ∷ tree 9 (op.Int (pos 2)) [] [] ∷ tree 10 (op.Param (codes "a")) [] [] ∷ []) ∷ [])
 
 abbrev twice_written : Expr
-twice_written = tree 1 (op.Except (1 ∷ [])) ((0 ∷ at_sign) ∷ []) (tree 2 (op.Name 0 false) [] [] ∷ tree 3 (op.Int (pos 1)) [] []
-    ∷ tree 4 (op.Except (1 ∷ [])) ((1 ∷ at_sign) ∷ []) (tree 5 (op.Name 0 false) [] [] ∷ tree 6 (op.Int (pos 1)) [] []
-    ∷ tree 7 (op.Except (1 ∷ [])) ((2 ∷ at_sign) ∷ []) (tree 8 (op.Name 0 false) [] [] ∷ tree 9 (op.Int (pos 2)) [] [] ∷ tree 9 (op.Bound (0 ∷ at_sign)) [] [] ∷ []) ∷ []) ∷ [])
+twice_written = tree 1 (op.Except (1 ∷ [])) ((0 ∷ 0 ∷ at_sign) ∷ []) (tree 2 (op.Name 0 false) [] [] ∷ tree 3 (op.Int (pos 1)) [] []
+    ∷ tree 4 (op.Except (1 ∷ [])) ((0 ∷ 1 ∷ at_sign) ∷ []) (tree 5 (op.Name 0 false) [] [] ∷ tree 6 (op.Int (pos 1)) [] []
+    ∷ tree 7 (op.Except (1 ∷ [])) ((0 ∷ 2 ∷ at_sign) ∷ []) (tree 8 (op.Name 0 false) [] [] ∷ tree 9 (op.Int (pos 2)) [] [] ∷ tree 9 (op.Bound (0 ∷ 0 ∷ at_sign)) [] [] ∷ []) ∷ []) ∷ [])
 
 nested_names : with_names_back (written_of (flat (define (codes "Up") (codes "a" ∷ []) twice ∷ define (codes "Inv") [] bringing ∷ [])) (at 0) (codes "Inv")) ≡
     tree 1 (op.Except (1 ∷ [])) (at_sign ∷ []) (tree 2 (op.Name 0 false) [] [] ∷ tree 3 (op.Int (pos 1)) [] []

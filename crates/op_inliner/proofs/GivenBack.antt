@@ -39,7 +39,7 @@ text_self (n ∷ x) = ap (λ o. ordering_then o (text_cmp x x)) (tied_itself nat
 same_self : (x : List ℕ) → same_text x x ≡ true
 same_self x = ap is_eq (text_self x)
 
-same_is : (x y : List ℕ) → same_text x y ≡ true → x ≡ y
+pub same_is : (x y : List ℕ) → same_text x y ≡ true → x ≡ y
 same_is x y h = texts_equal x y (equal_of (text_cmp x y) h)
 
 or_left : (b c d : Bool) → (IsTrue c → IsTrue d) → IsTrue (b || c) → IsTrue (b || d)

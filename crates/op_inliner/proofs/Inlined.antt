@@ -1,9 +1,10 @@
 -- A tree that is written out means what the expression means.
-use Rattle.std.proofs.Common.{◌≡◌, ℕ, zero, suc, Bool, true, false, not, ◌&&◌, ◌||◌, arith, IsTrue, List, [], ◌∷◌, ◌++◌, map, zip, take, drop, length, nat_lt, refl, ap, ap₂, ◌∙◌, sym, subst, Option, Some, None, if◌then◌else◌}
+use Rattle.std.proofs.Common.{◌≡◌, ℕ, zero, suc, ◌+◌, ◌*◌, ◌/◌, ◌%◌, Bool, true, false, not, ◌&&◌, ◌||◌, arith, IsTrue, List, [], ◌∷◌, ◌++◌, map, zip, take, drop, length, nat_lt, refl, ap, ap₂, ◌∙◌, sym, subst, Option, Some, None, if◌then◌else◌}
 use Rattle.std.specs.List.{list_any}
 use Rattle.std.specs.Ordering.{is_eq}
-use Rattle.std.specs.Ordering.{ordering_then}
+use Rattle.std.specs.Ordering.{nat_cmp, ordering_then}
 use Rattle.std.proofs.lemmas.Bool.{ltb-true, lt-ltb}
+use Rattle.std.proofs.Math.Nat.{div-add-mod}
 use Rattle.std.proofs.lemmas.Cmp.{nat_cmp_total, tied_itself}
 use Rattle.tla_values.specs.Order.{text_cmp}
 use Rattle.tla_values.specs.declared.value.Value.{Value}
@@ -43,7 +44,8 @@ written-roll x = fold-roll-Expr Writing (λ x. write x (role x.op (length x.bind
 -- the names that may be bound around a tree with n binders around it
 abbrev pub below : ℕ → List ℕ → Bool
 below n [] = true
-below n (l ∷ x) = nat_lt l n
+below n (h ∷ []) = true
+below n (h ∷ l ∷ x) = nat_lt (256 * h + l) n
 
 lt_suc : (l n : ℕ) → IsTrue (nat_lt l n) → IsTrue (nat_lt l (suc n))
 lt_suc l n h = let k = ltb-true l n h in lt-ltb l (suc n) (omega (arith, k))
@@ -57,11 +59,14 @@ lt_self n = lt_self_at n (nat_lt n n) refl
 
 -- names of one level are the same exactly where the names are
 level_one_to_one : (n : ℕ) → OneToOne (level_name n)
-level_one_to_one n x y = ap (λ o. is_eq (ordering_then o (text_cmp x y))) (tied_itself nat_cmp_total n)
+level_one_to_one n x y =
+    ap (λ o. is_eq (ordering_then o (ordering_then (nat_cmp (n % 256) (n % 256)) (text_cmp x y)))) (tied_itself nat_cmp_total (n / 256))
+    ∙ ap (λ o. is_eq (ordering_then o (text_cmp x y))) (tied_itself nat_cmp_total (n % 256))
 
 below_suc : (n : ℕ) (y : List ℕ) → IsTrue (below n y) → IsTrue (below (suc n) y)
 below_suc n [] h = refl
-below_suc n (l ∷ x) h = lt_suc l n h
+below_suc n (h ∷ []) k = refl
+below_suc n (h ∷ l ∷ x) k = lt_suc (256 * h + l) n k
 
 and_both : (a b : Bool) → IsTrue a → IsTrue b → IsTrue (a && b)
 and_both true b h k = k
@@ -69,7 +74,7 @@ and_both false b h k = absurd (false≢true h)
 
 above : (n : ℕ) (xs : List (List ℕ)) → IsTrue (apart (below n) (level_names n xs))
 above n [] = refl
-above n (x ∷ xs) = and_both (not (nat_lt n n)) (apart (below n) (level_names n xs)) (lt_self n) (above n xs)
+above n (x ∷ xs) = and_both (not (nat_lt (256 * (n / 256) + n % 256) n)) (apart (below n) (level_names n xs)) (ap (λ k. not (nat_lt k n)) (div-add-mod n 256) ∙ lt_self n) (above n xs)
 
 -- ---- a scope with more binders around
 
@@ -252,7 +257,7 @@ reads_bind w n a ns b r xs vs = record {
 }
   where
     level_at : (x : List ℕ) (c : Bool) → list_any (same_text x) xs ≡ c → IsTrue (below (suc n) (new_name (find_last x (bind_names n xs ns).bound)))
-    level_at x true h = subst (λ y. IsTrue (below (suc n) y)) (sym (new_in n x xs ns h)) (lt-ltb n (suc n) (omega arith))
+    level_at x true h = subst (λ y. IsTrue (below (suc n) y)) (sym (new_in n x xs ns h)) (ap (λ k. nat_lt k (suc n)) (div-add-mod n 256) ∙ lt-ltb n (suc n) (omega arith))
     level_at x false h =
         subst (λ y. IsTrue (below (suc n) y)) (sym (new_out n x xs ns h)) (below_suc n (new_name (find_last x ns.bound)) (r.levels x))
 

@@ -22,3 +22,4 @@ pub mod NameLemmas
 pub mod PassSteps
 pub mod NoteSteps
 pub mod CheckSteps
+pub mod FrameLemmas

@@ -1,5 +1,5 @@
 -- Definitions written out at their uses.
-use Rattle.std.specs.Prelude.{ℕ, zero, suc, Bool, true, false, List, [], ◌∷◌, ◌++◌, map, zip, length, take, drop, Option, Some, None}
+use Rattle.std.specs.Prelude.{ℕ, zero, suc, ◌/◌, ◌%◌, Bool, true, false, List, [], ◌∷◌, ◌++◌, map, zip, length, take, drop, Option, Some, None}
 use Rattle.tla_meaning.specs.declared.expr.Def.{Def}
 use Rattle.tla_meaning.specs.declared.expr.Expr.{Expr, roll-Expr}
 use Rattle.tla_meaning.specs.declared.expr.Expr.TheOpen.{Expr-F}
@@ -26,9 +26,10 @@ pub record Names : Type 0 where
 abbrev pub Writing : Type 0
 Writing = Names → Tree
 
--- the name of a bound name at a binder with n binders around it: no two binders of a path share one
+-- the name of a bound name at a binder with n binders around it: no two binders of a path share one. The number comes
+-- first, in a form that is text below 65,536
 abbrev pub level_name : ℕ → List ℕ → List ℕ
-level_name n x = n ∷ x
+level_name n x = n / 256 ∷ n % 256 ∷ x
 
 abbrev pub level_names : ℕ → List (List ℕ) → List (List ℕ)
 level_names n xs = map (level_name n) xs

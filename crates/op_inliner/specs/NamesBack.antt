@@ -31,7 +31,8 @@ free_name there x taken = if among x taken then longer_name x (taken ++ there) e
 -- the name of which a name of a level was made
 abbrev pub own_name : List ℕ → List ℕ
 own_name [] = []
-own_name (n ∷ x) = x
+own_name (n ∷ []) = []
+own_name (n ∷ m ∷ x) = x
 
 abbrev pub own_names : List (List ℕ) → List (List ℕ)
 own_names xs = map own_name xs

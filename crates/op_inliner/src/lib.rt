@@ -12,6 +12,7 @@
 mod bodies;
 mod checks;
 mod counts;
+mod frames;
 mod parts;
 mod passes;
 mod scope;

@@ -31,7 +31,7 @@ pub(crate) fn find_last<'a>(name: &Text, scope: &'a [Entry]) -> Option<&'a Entry
     None
 }
 
-fn same_name(a: &Text, b: &Text) -> bool
+pub(crate) fn same_name(a: &Text, b: &Text) -> bool
     ensures { result ≡ same_text a.now b.now }
 {
     a.bytes().cmp(b.bytes()).is_eq()
