@@ -23,3 +23,4 @@ pub mod PassSteps
 pub mod NoteSteps
 pub mod CheckSteps
 pub mod FrameLemmas
+pub mod SpotLemmas

@@ -2,3 +2,5 @@ pub mod Counting
 pub mod Sums
 pub mod Bodies
 pub mod Frames
+pub mod Spots
+pub mod Building

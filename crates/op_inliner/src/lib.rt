@@ -16,8 +16,10 @@ mod frames;
 mod parts;
 mod passes;
 mod scope;
+mod spots;
 mod sums;
 mod theorems;
+mod trees;
 
 pub use parts::{InlineFault, PartKind};
 pub use theorems::{
