@@ -17,17 +17,17 @@ pub depth-roll : (x : Expr-F Expr) → depth (roll-Expr x) ≡ suc (greatest (ma
 unfolding depth
 depth-roll x = fold-roll-Expr ℕ (λ x. suc (greatest x.args)) x
 
-depth_out : (e : Expr) → depth e ≡ suc (greatest (map depth (out-Expr e).args))
+pub depth_out : (e : Expr) → depth e ≡ suc (greatest (map depth (out-Expr e).args))
 depth_out e = ap depth (sym (roll-out-Expr e)) ∙ depth-roll (out-Expr e)
 
-greatest_first : (n : ℕ) (ns : List ℕ) → n ≤ greatest (n ∷ ns)
+pub greatest_first : (n : ℕ) (ns : List ℕ) → n ≤ greatest (n ∷ ns)
 greatest_first n ns = at (nat_lt (greatest ns) n) refl
   where
     at : (b : Bool) → nat_lt (greatest ns) n ≡ b → n ≤ (if b then n else greatest ns)
     at true e = omega arith
     at false e = let k = ltb-false (greatest ns) n e in omega (arith, k)
 
-greatest_rest : (n : ℕ) (ns : List ℕ) → greatest ns ≤ greatest (n ∷ ns)
+pub greatest_rest : (n : ℕ) (ns : List ℕ) → greatest ns ≤ greatest (n ∷ ns)
 greatest_rest n ns = at (nat_lt (greatest ns) n) refl
   where
     at : (b : Bool) → nat_lt (greatest ns) n ≡ b → greatest ns ≤ (if b then n else greatest ns)

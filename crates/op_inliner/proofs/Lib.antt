@@ -24,3 +24,5 @@ pub mod NoteSteps
 pub mod CheckSteps
 pub mod FrameLemmas
 pub mod SpotLemmas
+pub mod BuildSteps
+pub mod MarkSteps

@@ -93,7 +93,7 @@ let_leads old new s r ds xs es h a x w o b l p =
 
 -- ---- primes and notes
 
-seen_node : (fs : List Frame) (s : Spot) (o : Op) (es : List Expr) → (out-Expr s.e.now).op ≡ o → (out-Expr s.e.now).args ≡ es → (part : PartKind) (c : ℕ → Bool) →
+pub seen_node : (fs : List Frame) (s : Spot) (o : Op) (es : List Expr) → (out-Expr s.e.now).op ≡ o → (out-Expr s.e.now).args ≡ es → (part : PartKind) (c : ℕ → Bool) →
     sight fs s part c ≡ seen_under s.primes (turned part c (node_written (out-Expr s.e.now).place o es (out-Expr s.e.now).binds (names_at fs s.scope) s.level))
 seen_node fs s o es h a part c =
     ap (λ (k : Writing). seen_under s.primes (turned part c (k (names_at fs s.scope) s.level)))
@@ -179,7 +179,7 @@ pair_is (x ∷ y ∷ z ∷ es) k m h l e f = absurd (omega (arith, l))
 
 -- ---- the loop
 
-sight_stays : (old new : List Frame) (s : Spot) → Grown old new → s.scope ≤ length old → sight new s ≡ sight old s
+pub sight_stays : (old new : List Frame) (s : Spot) → Grown old new → s.scope ≤ length old → sight new s ≡ sight old s
 sight_stays old new s g h = same_written old new s s (ap (λ ns. written s.e.now ns s.level) (grown_names old new s.scope g h)) refl
 
 pub root_reached : (old now new : List Frame) (s r : Spot) (o : Option Spot) → Leads old now s r → Steps now new r o → o ≡ None → IsRoot old new s r

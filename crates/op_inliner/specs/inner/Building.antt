@@ -1,5 +1,5 @@
 -- Trees that are built level by level.
-use Rattle.std.specs.Prelude.{◌≡◌, ◌<◌, ◌≤◌, ℕ, suc, Bool, true, false, List, [], ◌∷◌, length, map, nat_lt, Result, Ok, Err}
+use Rattle.std.specs.Prelude.{◌≡◌, ◌<◌, ◌≤◌, ℕ, suc, Bool, true, false, List, [], ◌∷◌, length, map, nat_lt, get_or, Result, Ok, Err, if◌then◌else◌}
 use Rattle.tla_meaning.specs.declared.expr.Expr.{Expr, out-Expr}
 use Rattle.tla_meaning.specs.declared.op.Op.{Op}
 use Rattle.tla_meaning.specs.declared.op.Op.TheVariants as op
@@ -14,9 +14,9 @@ use Rattle.op_inliner.specs.declared.trees.Part.{Part}
 use Rattle.op_inliner.specs.declared.trees.Stop.{Stop}
 use Rattle.op_inliner.specs.declared.trees.Stop.TheVariants as stop
 use Rattle.op_inliner.specs.Answers.{depth, greatest}
-use Rattle.op_inliner.specs.Inlining.{Names, children, level_names, new_name, written}
-use Rattle.op_inliner.specs.Primes.{Turned, kept_trees, name_at, turned, turned_trees}
-use Rattle.op_inliner.specs.inner.Frames.{names_at}
+use Rattle.op_inliner.specs.Inlining.{Names, bind_names, children, level_names, new_name, written}
+use Rattle.op_inliner.specs.Primes.{Turned, inner_node, kept_trees, name_at, turned, turned_trees}
+use Rattle.op_inliner.specs.inner.Frames.{Grown, names_at}
 use Rattle.op_inliner.specs.inner.Spots.{Sight, sight}
 
 -- the tree, unless it has more levels or memory ran out
@@ -86,3 +86,19 @@ is_plain op.Unchanged (e ∷ []) = false
 is_plain op.Boxed (a ∷ e ∷ []) = false
 is_plain op.Angled (a ∷ e ∷ []) = false
 is_plain o es = true
+
+-- a spot's node with its bound names in scope
+pub record IsOpened (old new : List Frame) (s : Spot) (n : Node) : Type 0 where
+  pub grown : Grown old new
+  pub node : IsNode new n
+  pub outer : n.outer ≡ s
+  pub marks : n.marks.items ≡ marks_in (role (out-Expr s.e.now).op (length (out-Expr s.e.now).binds))
+  pub names : names_at new n.inner.scope ≡ bind_names s.level (out-Expr s.e.now).binds (names_at old s.scope)
+
+-- the spot of the child of this number
+abbrev pub spot_of : Node → ℕ → Spot
+spot_of n i = if get_or n.marks.items i false then n.inner else n.outer
+
+-- `v' = v`, at a place
+abbrev pub equation_of : Part → List Frame → Spot → Place → Expr
+equation_of p fs s q = inner_node q op.Eq ((seen p fs (record s { primes = suc s.primes })).tree ∷ (seen p fs s).tree ∷ [])
