@@ -1,0 +1,12 @@
+pub mod Walking
+pub mod ItemLemmas
+pub mod Finding
+pub mod LearningLemmas
+pub mod OneByOne
+pub mod InstanceLemmas
+pub mod KnowingLemmas
+pub mod FlatLemmas
+pub mod Mentioning
+pub mod Names
+pub mod Behind
+pub mod Courses

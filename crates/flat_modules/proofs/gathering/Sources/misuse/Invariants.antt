@@ -1,0 +1,7 @@
+use Rattle.std.proofs.Common.{◌≡◌, None, take}
+use Rattle.tla_meaning.specs.Symbols.{least_from}
+use Rattle.flat_modules.specs.inner.Flat.{misuses_among}
+use Rattle.flat_modules.proofs.gathering.Sources.misuse.Given as goal
+
+abbrev pub invariant-loop-name : goal.invariant-loop-name
+invariant-loop-name l = l.told ≡ least_from None (misuses_among l.self.modules.now (take l.name-index l.self.modules.now))

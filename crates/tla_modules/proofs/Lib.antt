@@ -1,9 +1,0 @@
-pub mod Walking
-pub mod ItemLemmas
-pub mod Finding
-pub mod LearningLemmas
-pub mod OneByOne
-pub mod InstanceLemmas
-pub mod KnowingLemmas
-pub mod FlatLemmas
-pub mod Mentioning

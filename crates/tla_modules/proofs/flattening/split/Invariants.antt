@@ -1,7 +1,0 @@
-use Rattle.std.proofs.Common.{map}
-use Rattle.tla_modules.specs.inner.Flat.{IsSplit}
-use Rattle.tla_modules.specs.inner.Items.{item_of}
-use Rattle.tla_modules.proofs.flattening.split.Given as goal
-
-abbrev pub invariant-loop-item : goal.invariant-loop-item
-invariant-loop-item l = IsSplit l.flat (map item_of l.yielded)

@@ -1,7 +1,0 @@
-use Rattle.std.proofs.Common.{◌≡◌, None, take}
-use Rattle.tla_meaning.specs.Symbols.{least_from}
-use Rattle.tla_modules.specs.inner.Flat.{misuses_among}
-use Rattle.tla_modules.proofs.gathering.Sources.misuse.Given as goal
-
-abbrev pub invariant-loop-name : goal.invariant-loop-name
-invariant-loop-name l = l.told ≡ least_from None (misuses_among l.self.modules.now (take l.name-index l.self.modules.now))

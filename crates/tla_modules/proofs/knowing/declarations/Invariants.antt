@@ -1,7 +1,0 @@
-use Rattle.std.proofs.Common.{◌≡◌, map, take}
-use Rattle.tla_meaning.specs.Flattening as flat
-use Rattle.tla_modules.specs.inner.Items.{item_of}
-use Rattle.tla_modules.proofs.knowing.declarations.Given as goal
-
-abbrev pub invariant-loop-d : goal.invariant-loop-d
-invariant-loop-d l = map item_of l.items.items ≡ map flat.Declares (take l.d-index l.decls)

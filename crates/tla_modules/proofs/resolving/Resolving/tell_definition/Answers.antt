@@ -1,8 +1,0 @@
-use Rattle.std.proofs.Common.{◌∙◌, ap, length}
-use Rattle.tla_modules.proofs.LearningLemmas.{definition_told}
-use Rattle.tla_modules.proofs.resolving.Resolving.tell_definition.Goals as goal
-
-pub returns : goal.returns
-returns c =
-    definition_told c.body.new.self c.args.entry.now c.args.d.now c.body.result c.as_slice.ensures c.as_slice-2.ensures c.own-own.ensures
-    c.in_ok-tell_repeated.ensures c.in_ok-tell_parameters.ensures c.body.ensures

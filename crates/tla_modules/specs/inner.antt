@@ -1,9 +1,0 @@
-pub mod Telling
-pub mod Items
-pub mod Copies
-pub mod Instances
-pub mod Learning
-pub mod Standards
-pub mod Gathering
-pub mod Flat
-pub mod Mentions
