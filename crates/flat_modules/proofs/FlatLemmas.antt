@@ -1,9 +1,6 @@
 -- Items of a flat module, one by one.
 use Rattle.std.proofs.Common.{◌≡◌, ◌∙◌, List, [], ◌∷◌, ◌++◌, map, refl, ap, sym}
 use Rattle.std.proofs.lemmas.List.{map-append}
-use Rattle.tla_meaning.specs.declared.expr.Decl.{Decl}
-use Rattle.tla_meaning.specs.declared.expr.Def.{Def}
-use Rattle.tla_meaning.specs.declared.expr.Expr.{Expr}
 use Rattle.tla_meaning.specs.Flattening.{assumptions, declarations, definitions}
 use Rattle.tla_meaning.specs.Flattening as flat
 use Rattle.flat_modules.specs.declared.flattening.FlatItems.{FlatItems}

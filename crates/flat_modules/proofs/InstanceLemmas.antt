@@ -1,5 +1,5 @@
 -- What an INSTANCE brings in, in one line for both.
-use Rattle.std.proofs.Common.{◌≡◌, ◌++◌, ℕ, Bool, List, Option, None, Some, refl}
+use Rattle.std.proofs.Common.{◌≡◌, ℕ, Bool, List, Option, None, Some, refl}
 use Rattle.tla_meaning.specs.declared.symbols.Entry.{Entry}
 use Rattle.tla_meaning.specs.Flattening.{instance_entries}
 use Rattle.flat_modules.specs.inner.Instances.{brought_names}

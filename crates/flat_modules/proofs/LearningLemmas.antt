@@ -1,17 +1,17 @@
 -- Steps of what becomes known of a module.
-use Rattle.std.proofs.Common.{◌≡◌, ◌∙◌, ◌+◌, ◌<◌, ℕ, Bool, true, false, cond, List, [], ◌∷◌, ◌++◌, map, filter, take, drop, length, get_or, refl, ap, sym, subst, append-nil, if◌then◌else◌, Option, OnOk, Result, Ok, Err}
+use Rattle.std.proofs.Common.{◌≡◌, ◌∙◌, ◌+◌, ◌<◌, ℕ, List, [], ◌∷◌, ◌++◌, map, filter, take, drop, length, get_or, refl, ap, sym, subst, append-nil, if◌then◌else◌, Option, OnOk, Result, Ok, Err}
 use Rattle.std.specs.declared.alloc.AllocError.{AllocError}
 use Rattle.std.proofs.lemmas.List.{take_more, drop_more, map-append}
 use Rattle.std.proofs.lemmas.List.Elements.{filter-append}
 use Rattle.std.specs.List.{list_any}
 use Rattle.tla_meaning.specs.declared.expr.Def.{Def}
-use Rattle.tla_meaning.specs.declared.expr.Expr.{Expr, out-Expr}
+use Rattle.tla_meaning.specs.declared.expr.Expr.{Expr}
 use Rattle.tla_meaning.specs.declared.place.Place.{Place}
 use Rattle.tla_meaning.specs.declared.symbols.Entry.{Entry}
 use Rattle.tla_meaning.specs.declared.symbols.Misuse.{Misuse}
 use Rattle.tla_meaning.specs.Flattening.{instance_entries, instance_names, is_definition, is_own, same_item, symbol_misuses, with_items, with_misuses}
 use Rattle.tla_meaning.specs.Flattening as flat
-use Rattle.tla_meaning.specs.Resolving.{Resolved, body_scope, is_function, resolver}
+use Rattle.tla_meaning.specs.Resolving.{body_scope, resolver}
 use Rattle.tla_meaning.specs.Symbols.{all_repeated, is_there, least_from, parameter, repeated, with_new}
 use Rattle.flat_modules.specs.declared.instances.Instance.{Instance}
 use Rattle.flat_modules.specs.declared.items.Item.{Item}

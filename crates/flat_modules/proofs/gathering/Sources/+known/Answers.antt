@@ -1,4 +1,4 @@
-use Rattle.std.proofs.Common.{arith, ◌≡◌, ◌∙◌, ◌-◌, ap, false, sym, subst, suc, Some, IfOk}
+use Rattle.std.proofs.Common.{arith, ◌≡◌, ◌∙◌, ◌-◌, ap, false, subst, suc, Some, IfOk}
 use Rattle.tla_meaning.specs.Flattening.{Known, after_unit, extended, known_within}
 use Rattle.tla_meaning.specs.Flattening as flat
 use Rattle.flat_modules.specs.inner.Copies.{copy_of}

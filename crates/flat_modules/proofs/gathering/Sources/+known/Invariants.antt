@@ -1,4 +1,4 @@
-use Rattle.std.proofs.Common.{◌≡◌, ◌+◌, ◌*◌, take}
+use Rattle.std.proofs.Common.{◌+◌, ◌*◌, take}
 use Rattle.tla_meaning.specs.Flattening.{after_extends, after_units, known_within, nothing_known}
 use Rattle.flat_modules.specs.inner.Copies.{copy_of}
 use Rattle.flat_modules.specs.inner.Gathering.{Advances}
