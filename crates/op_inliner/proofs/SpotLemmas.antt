@@ -32,7 +32,7 @@ use_written : (e : Expr) (z : List ℕ) (ns : Names) (l : ℕ) → is_use (out-E
 use_written e z ns l h =
     ap (λ (k : Writing). k ns l) (written_is e)
     ∙ elim h [
-      inl k ↦ ap (λ (o : Op). node_written (out-Expr e).place o (out-Expr e).args (out-Expr e).binds ns l) k
+      | inl k ↦ ap (λ (o : Op). node_written (out-Expr e).place o (out-Expr e).args (out-Expr e).binds ns l) k
       | inr k ↦ ap (λ (o : Op). node_written (out-Expr e).place o (out-Expr e).args (out-Expr e).binds ns l) k
     ]
 

@@ -20,10 +20,7 @@ pub(crate) struct Spot<'a> {
 }
 
 // The node that the tree of this spot has at its root.
-pub(crate) fn root<'a>(
-    spot: Spot<'a>,
-    frames: &mut Vec<Frame<'a>>,
-) -> Result<Spot<'a>, AllocError>
+pub(crate) fn root<'a>(spot: Spot<'a>, frames: &mut Vec<Frame<'a>>) -> Result<Spot<'a>, AllocError>
     requires scope { spot.scope ≤ length frames.old.items }
     ensures { IfOk result (IsRoot frames.old.items frames.new.items spot.entry) }
 {
@@ -38,10 +35,7 @@ pub(crate) fn root<'a>(
 }
 
 // One step there.
-fn step<'a>(
-    spot: Spot<'a>,
-    frames: &mut Vec<Frame<'a>>,
-) -> Result<Option<Spot<'a>>, AllocError>
+fn step<'a>(spot: Spot<'a>, frames: &mut Vec<Frame<'a>>) -> Result<Option<Spot<'a>>, AllocError>
     requires scope { spot.scope ≤ length frames.old.items }
     ensures { IfOk result (Steps frames.old.items frames.new.items spot.entry) }
 {

@@ -83,7 +83,13 @@ fn single(alloc: Global, place: Place, op: Op, operand: Expr) -> Result<Expr, Al
     })
 }
 
-fn double(alloc: Global, place: Place, op: Op, first: Expr, second: Expr) -> Result<Expr, AllocError>
+fn double(
+    alloc: Global,
+    place: Place,
+    op: Op,
+    first: Expr,
+    second: Expr,
+) -> Result<Expr, AllocError>
     ensures { IfOk result (λ e. e ≡ inner_node place op (first ∷ second ∷ [])) }
 {
     let mut args = Vec::new(alloc);
@@ -410,11 +416,7 @@ impl Part {
     }
 
     // A node with its bound names in scope.
-    fn opened<'a>(
-        self,
-        spot: Spot<'a>,
-        frames: &mut Vec<Frame<'a>>,
-    ) -> Result<Node<'a>, AllocError>
+    fn opened<'a>(self, spot: Spot<'a>, frames: &mut Vec<Frame<'a>>) -> Result<Node<'a>, AllocError>
         requires scope { spot.scope ≤ length frames.old.items }
         ensures { IfOk result (IsOpened frames.old.items frames.new.items spot.entry) }
     {

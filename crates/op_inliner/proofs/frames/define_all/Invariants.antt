@@ -11,7 +11,7 @@ invariant-loop-i l = record {
   third : l.first ≤ length l.names;
   opening : Opening l.fn.frames.items l.frames.items l.scope
       (let_names (drop l.i l.lets) (drop l.first l.names) (map written (drop l.i l.trees)))
-      (let_names l.lets l.names (map written l.trees) (names_at l.fn.frames.items l.fn.scope))
+      (let_names l.lets l.names (map written l.trees) (names_at l.fn.frames.items l.fn.scope));
 }
 
 abbrev pub decreases-loop-i : goal.decreases-loop-i

@@ -15,7 +15,7 @@ loop-scope-preserved c = record {
   same =
       ap (λ (k : ℕ). find_last c.args.name.now (names_at c.args.frames.now k).bound) c.saturating_sub-scope.ensures
       ∙ sym (elim c.match-frame.branch [
-        in-Bound+else-same_name w ↦ level_miss c.args.frames.now c.loop-scope.scope c.index-frames-i.result c.args.name.now c.loop-scope-test.true c.loop-scope.invariant.within c.index-frames-i.is w.in-Bound.level w.in-Bound.is (sym w.if-same_name.ensures)
+        | in-Bound+else-same_name w ↦ level_miss c.args.frames.now c.loop-scope.scope c.index-frames-i.result c.args.name.now c.loop-scope-test.true c.loop-scope.invariant.within c.index-frames-i.is w.in-Bound.level w.in-Bound.is (sym w.if-same_name.ensures)
         | in_default w ↦ level_passed c.args.frames.now c.loop-scope.scope c.index-frames-i.result c.args.name.now c.loop-scope-test.true c.loop-scope.invariant.within c.index-frames-i.is w.in_default.not-Bound
       ]) ∙ c.loop-scope.invariant.same;
 }

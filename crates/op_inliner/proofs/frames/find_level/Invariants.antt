@@ -6,7 +6,7 @@ use Rattle.op_inliner.proofs.frames.find_level.Given as goal
 abbrev pub invariant-loop-scope : goal.invariant-loop-scope
 invariant-loop-scope l = record {
   within : l.scope ≤ length l.frames;
-  same : find_last l.name (names_at l.frames l.scope).bound ≡ find_last l.name (names_at l.frames l.fn.scope).bound
+  same : find_last l.name (names_at l.frames l.scope).bound ≡ find_last l.name (names_at l.frames l.fn.scope).bound;
 }
 
 abbrev pub decreases-loop-scope : goal.decreases-loop-scope

@@ -19,7 +19,7 @@ loop-scope-preserved c = record {
   same =
       ap (λ (k : ℕ). find_last c.args.name.now (names_at c.args.frames.now k).named) c.saturating_sub-scope.ensures
       ∙ sym (elim c.match-frame.branch [
-        in-Tree+else-same_name w ↦ tree_miss c.args.frames.now c.loop-scope.scope c.index-frames-i.result c.args.name.now c.loop-scope-test.true c.loop-scope.invariant.within c.index-frames-i.is w.in-Tree.params w.in-Tree.body w.in-Tree.deeper w.in-Tree.is (sym w.if-same_name.ensures)
+        | in-Tree+else-same_name w ↦ tree_miss c.args.frames.now c.loop-scope.scope c.index-frames-i.result c.args.name.now c.loop-scope-test.true c.loop-scope.invariant.within c.index-frames-i.is w.in-Tree.params w.in-Tree.body w.in-Tree.deeper w.in-Tree.is (sym w.if-same_name.ensures)
         | in_default w ↦ tree_passed c.args.frames.now c.loop-scope.scope c.index-frames-i.result c.args.name.now c.loop-scope-test.true c.loop-scope.invariant.within c.index-frames-i.is w.in_default.not-Tree
       ]) ∙ c.loop-scope.invariant.same;
 }

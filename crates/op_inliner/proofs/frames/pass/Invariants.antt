@@ -10,7 +10,7 @@ invariant-loop-i l = record {
   second : l.i ≤ length l.arguments;
   opening : Opening l.fn.frames.items l.frames.items l.scope
       (pass_names (drop l.i l.params) (trees (map written (drop l.i l.arguments)) (names_at l.fn.frames.items l.here)))
-      (pass_names l.params (trees (map written l.arguments) (names_at l.fn.frames.items l.here)) (names_at l.fn.frames.items l.fn.scope))
+      (pass_names l.params (trees (map written l.arguments) (names_at l.fn.frames.items l.here)) (names_at l.fn.frames.items l.fn.scope));
 }
 
 abbrev pub decreases-loop-i : goal.decreases-loop-i

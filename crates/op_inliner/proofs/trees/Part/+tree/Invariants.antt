@@ -42,12 +42,12 @@ abbrev pub invariant-children-loop-i : goal.invariant-children-loop-i
 invariant-children-loop-i l = record {
   frames : l.frames.items ≡ l.fn.frames.items;
   built : l.all.items ≡ turned_trees (turned_at l.self l.node.marks.items (take l.i (out-Expr l.node.outer.e.now).args)
-      (names_at l.fn.frames.items l.node.outer.scope) (names_at l.fn.frames.items l.node.inner.scope) l.node.outer.level) l.node.outer.primes
+      (names_at l.fn.frames.items l.node.outer.scope) (names_at l.fn.frames.items l.node.inner.scope) l.node.outer.level) l.node.outer.primes;
 }
 
 abbrev pub invariant-kept_items-loop-item : goal.invariant-kept_items-loop-item
 invariant-kept_items-loop-item l = record {
   frames : l.frames.items ≡ l.fn.frames.items;
   built : l.all.items ≡ kept_trees (turned_at l.self [] (take l.item-index (out-Expr l.tuple.e.now).args)
-      (names_at l.fn.frames.items l.tuple.scope) (names_at l.fn.frames.items l.tuple.scope) l.tuple.level) l.place l.tuple.primes
+      (names_at l.fn.frames.items l.tuple.scope) (names_at l.fn.frames.items l.tuple.scope) l.tuple.level) l.place l.tuple.primes;
 }
