@@ -12,6 +12,9 @@ use std::alloc::{AllocError, Global};
 use tla_meaning::Module;
 use tla_values::{List, Text, copy_text};
 
+// How many modules are read.
+const MOST_MODULES: usize = 64;
+
 /// Where the modules that were read lead.
 #[derive(Drop)]
 pub enum Course {
@@ -64,7 +67,7 @@ impl<'a> Sources<'a> {
         if is_among(name, &read) {
             return Ok(Course::Whole(List::from_vec(read)));
         }
-        if read.len() == 64 {
+        if read.len() == MOST_MODULES {
             return Ok(Course::TooMany);
         }
         match find_last(name.bytes(), self.modules) {
