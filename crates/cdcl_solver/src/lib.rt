@@ -2,9 +2,10 @@
 //!
 //! `solve` answers an assignment that satisfies the formula, or a log of derived clauses that
 //! refutes it and that `refutation_checker` accepts, so that nothing which the solver does has to
-//! be believed. (Marques-Silva and Sakallah, "GRASP: A Search Algorithm for Propositional
-//! Satisfiability", 1999; Moskewicz and others, "Chaff: Engineering an Efficient SAT Solver", 2001;
-//! Cruz-Filipe and others, "Efficient Certified RAT Verification", 2017, on the log.)
+//! be believed. It stands on `Search`, the state of a search, which is passed on. (Marques-Silva and
+//! Sakallah, "GRASP: A Search Algorithm for Propositional Satisfiability", 1999; Moskewicz and
+//! others, "Chaff: Engineering an Efficient SAT Solver", 2001; Cruz-Filipe and others, "Efficient
+//! Certified RAT Verification", 2017, on the log.)
 #![tactic(auto)]
 
 mod acceptance;
@@ -20,3 +21,4 @@ mod solving;
 
 pub use answer::Answer;
 pub use solving::solve;
+pub use watched_search::{Entry, Search};

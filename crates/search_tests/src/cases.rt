@@ -17,6 +17,8 @@ Ab ; * +a * =a =A =b =c @b @c => open open true false true free 2 none
 aBc - ; % => [`] [aBc] []
 abc ; * +A * +B * ? <2 +C * ? => open open open [`0 A B c1] open [`0 A C b1]
 abc Bd ; * +A * +C * ? <2 * +B * ? => open open open [`0 A C b1 d2] open open [`0 A B c1]
+a Ab Bcd ; * ? +C * ? <3 ? =c =d => open [`0 a1 b2] open [`0 a1 b2 C d3] [`0 a1 b2] free free
+a Ab Bcd ; * !Ac * ? => open 4 open [`0 a1 b2 c4]
 abcd ; * +A * +B * <2 +C * +D * ? => open open open open open [`0 A C D b1]
 "#;
 

@@ -218,6 +218,48 @@ fn agreements(alloc: Global, cases: u32) -> Result<(u32, u32), AllocError> {
     Ok((agreed, satisfiable))
 }
 
+// Whether an assignment satisfies each of the larger random formulas, as minisat 2.2.1 answers.
+const LARGER: &str =
+    "yyynnnyyyynnynynnyyynyynnnnyyynynnyyyyynynnnyyynnnnnyynnyyyyynynnyyyyyynyynnnnyy\
+nyynnnnnynnnnynnynnnnyyyyynynynnyynynynnnnyyynnnynnyynnyynnyyyyyynnyynyyyyyyynyy\
+nnynyynnnynnnynnnnnnnynnnnyyyynnnynnynnnnyyynnnynnyyyyynnnnnnynnnyynynnnynnnyyny\
+nnnnnynyyynynnnnnnynnnyynyynnyyynynyyynnyynynynyyynynyyyynnn";
+
+// What the solver says of a random formula over 30 to 60 variables.
+fn larger(alloc: Global, random: &mut Random) -> Result<Told, AllocError> {
+    let count = 30 + random.below(31);
+    let mut f = formula_over(alloc, count - 1)?;
+    for _ in 0..3 * count + count / 2 {
+        add_random_clause(random, &mut f, count)?;
+    }
+    let top = f.top();
+    answer_to(alloc, &f, top, None)
+}
+
+// How many of the larger formulas have another answer.
+fn differing(alloc: Global, answers: &str) -> Result<u32, AllocError> {
+    let mut random = Random { state: 60 };
+    let mut count: u32 = 0;
+    for answer in answers.as_bytes() {
+        let wanted = if *answer == b'y' {
+            Told::Sat(true)
+        } else {
+            Told::Unsat(true)
+        };
+        if larger(alloc, &mut random)? != wanted {
+            count = count.saturating_add(1);
+        }
+    }
+    Ok(count)
+}
+
+#[test]
+fn larger_formulas_have_the_answers_of_another_solver(rt: HostRuntime) -> Result<(), Fail> {
+    assert_eq!(rt; LARGER.len(), 300);
+    assert_eq!(rt; differing(rt.alloc(), LARGER)?, 0);
+    Ok(())
+}
+
 #[test]
 fn the_solver_agrees_with_the_plain_ones(rt: HostRuntime) -> Result<(), Fail> {
     let (agreed, satisfiable) = agreements(rt.alloc(), 4000)?;
