@@ -87,11 +87,11 @@ at_more p [] (d ∷ es) e here under l = ap (λ (ks : List Turned). turned p.kin
 at_more p (true ∷ ms) (d ∷ es) e here under l = ap (λ (ks : List Turned). turned p.kind (first p.constants) (written d under (suc l)) ∷ ks) (at_more p ms es e here under l)
 at_more p (false ∷ ms) (d ∷ es) e here under l = ap (λ (ks : List Turned). turned p.kind (first p.constants) (written d here l) ∷ ks) (at_more p ms es e here under l)
 
-map_more : {X Y : Type 0} (f : X → Y) (xs : List X) (x : X) → map f (xs ++ x ∷ []) ≡ map f xs ++ f x ∷ []
+pub map_more : {X Y : Type 0} (f : X → Y) (xs : List X) (x : X) → map f (xs ++ x ∷ []) ≡ map f xs ++ f x ∷ []
 map_more f [] x = refl
 map_more f (y ∷ xs) x = ap (λ zs. f y ∷ zs) (map_more f xs x)
 
-length_taken : {A : Type 0} (xs : List A) (i : ℕ) → i < length xs → length (take i xs) ≡ i
+pub length_taken : {A : Type 0} (xs : List A) (i : ℕ) → i < length xs → length (take i xs) ≡ i
 length_taken xs zero h = refl
 length_taken [] (suc i) h = absurd (omega (arith, h))
 length_taken (x ∷ xs) (suc i) h = ap suc (length_taken xs i (omega (arith, h)))

@@ -269,10 +269,10 @@ defs_begun ds fs = record { grown = grown_same fs; within = omega arith; leads =
 
 -- ---- looking names up
 
-last_hit : {X : Type 0} (z x : List ℕ) (d : X) (es : List (List ℕ × X)) → same_text z x ≡ true → find_last z (es ++ (x, d) ∷ []) ≡ Some d
+pub last_hit : {X : Type 0} (z x : List ℕ) (d : X) (es : List (List ℕ × X)) → same_text z x ≡ true → find_last z (es ++ (x, d) ∷ []) ≡ Some d
 last_hit z x d es h = find-append z es ((x, d) ∷ []) ∙ ap (λ (b : Bool). or_else (if b then Some d else None) (find_last z es)) h
 
-last_miss : {X : Type 0} (z x : List ℕ) (d : X) (es : List (List ℕ × X)) → same_text z x ≡ false → find_last z (es ++ (x, d) ∷ []) ≡ find_last z es
+pub last_miss : {X : Type 0} (z x : List ℕ) (d : X) (es : List (List ℕ × X)) → same_text z x ≡ false → find_last z (es ++ (x, d) ∷ []) ≡ find_last z es
 last_miss z x d es h = find-append z es ((x, d) ∷ []) ∙ ap (λ (b : Bool). or_else (if b then Some d else None) (find_last z es)) h
 
 module _ (fs : List Frame) (s : ℕ) (f : Frame) (z : List ℕ) (more : 0 < s) (within : s ≤ length fs) (at : f ≡ get_or fs (s - 1) f) where

@@ -193,7 +193,7 @@ zip_none (x ∷ xs) [] z h = refl
 zip_none (x ∷ xs) (y ∷ ys) z h =
     ap₂ (λ o (b : Bool). or_else o (if b then Some y else None)) (zip_none xs ys z (or_no_right (same_text z x) (among z xs) h)) (or_no_left (same_text z x) (among z xs) h)
 
-length_free : (there xs taken : List (List ℕ)) → length (free_names there xs taken) ≡ length xs
+pub length_free : (there xs taken : List (List ℕ)) → length (free_names there xs taken) ≡ length xs
 length_free there [] taken = refl
 length_free there (x ∷ xs) taken = ap suc (length_free there xs (free_name there (own_name x) taken ∷ taken))
 

@@ -26,3 +26,4 @@ pub mod FrameLemmas
 pub mod SpotLemmas
 pub mod BuildSteps
 pub mod MarkSteps
+pub mod NamingSteps

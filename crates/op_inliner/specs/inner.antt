@@ -4,3 +4,4 @@ pub mod Bodies
 pub mod Frames
 pub mod Spots
 pub mod Building
+pub mod Naming

@@ -13,6 +13,7 @@ mod bodies;
 mod checks;
 mod counts;
 mod frames;
+mod naming;
 mod parts;
 mod passes;
 mod scope;
