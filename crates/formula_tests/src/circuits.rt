@@ -144,7 +144,13 @@ fn fixed(alloc: Global, f: &mut Formula, known: &Word) -> Result<Word, AllocErro
 }
 
 #[tactic(auto, using(word_blaster::proofs::Words::words))]
-fn word(alloc: Global, f: &mut Formula, n: i128, width: u32, free: bool) -> Result<Word, AllocError>
+pub(crate) fn word(
+    alloc: Global,
+    f: &mut Formula,
+    n: i128,
+    width: u32,
+    free: bool,
+) -> Result<Word, AllocError>
     requires { 0 < width }
     ensures below { IfOk result (λ w. WordBelow f.new.vars w) }
     ensures width { IfOk result (λ w. length w ≡ width) }
@@ -185,7 +191,7 @@ fn settle(values: &mut [Option<bool>], clause: &Clause) {
 
 // Unit propagation that takes each clause once, in order: a gate's clauses stand after those of
 // its operands, so this gives every gate its value.
-fn solved(alloc: Global, f: &Formula) -> Result<Vec<bool>, AllocError> {
+pub(crate) fn solved(alloc: Global, f: &Formula) -> Result<Vec<bool>, AllocError> {
     let mut values = vec![in alloc; None; f.vars()]?;
     for clause in f.clauses().clauses() {
         settle(values.as_mut_slice(), clause);
@@ -193,7 +199,7 @@ fn solved(alloc: Global, f: &Formula) -> Result<Vec<bool>, AllocError> {
     values.iter().map(|v| v.unwrap_or(false)).collect(alloc)
 }
 
-fn is_set(l: Lit, values: &[bool]) -> bool {
+pub(crate) fn is_set(l: Lit, values: &[bool]) -> bool {
     values.get(l.var).copied().unwrap_or(false) != l.neg
 }
 

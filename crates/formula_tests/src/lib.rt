@@ -4,6 +4,8 @@
 #[cfg(test)]
 mod circuits;
 #[cfg(test)]
+mod counts;
+#[cfg(test)]
 mod formulas;
 #[cfg(test)]
 mod refutations;

@@ -7,3 +7,4 @@ pub mod Multiples
 pub mod Divisions
 pub mod FloorLaw
 pub mod Unsigned
+pub mod CountLemmas

@@ -1,5 +1,10 @@
 -- Numbers without a sign.
-use Rattle.std.proofs.Common.{◌≡◌, ℕ, ◌+◌, ◌*◌, ◌^◌, ◌<◌, ◌≤◌, Bool, true, false, ◌&&◌, List, [], ◌∷◌, ◌++◌, length, refl, ◌∙◌, ap, arith, pos, ◌-ℤ◌}
+use Rattle.std.proofs.Common.{◌≡◌, ℕ, ◌+◌, ◌*◌, ◌^◌, ◌<◌, ◌≤◌, Bool, true, false, ◌&&◌, List, [], ◌∷◌, ◌++◌, length, refl, sym, ◌∙◌, ◌/◌, ap, arith, pos, ◌-ℤ◌, inl, inr}
+use Rattle.std.specs.Prelude.{◌⊎◌}
+use Rattle.std.proofs.Math.Nat.{div-eq_of_lt}
+use Rattle.std.proofs.lemmas.Bool.{cases_order}
+use lib.Dec.{eqb}
+use mathlib.Core.Bool.{false≢true}
 use Rattle.std.proofs.Math.Pow.{pow_mono}
 use Rattle.std.proofs.lemmas.Int.{ints}
 use Rattle.sat_formula.specs.Lit.{differ}
@@ -9,6 +14,14 @@ use Rattle.word_blaster.proofs.Signs.{signed-is, taken-push}
 
 pub room : (n k : ℕ) → n < 2 ^ 64 → 64 ≤ k → n < 2 ^ k
 room n k h le = let m : 2 ^ 64 ≤ 2 ^ k = pow_mono le in omega (arith, m)
+
+pub has_more : (n p : ℕ) → eqb (n / p) 0 ≡ false → p ≤ n
+has_more n p h = by (cases_order p n)
+  where
+    by : (p ≡ n) ⊎ ((p < n) ⊎ (n < p)) → p ≤ n
+    by (inl e) = omega (arith, e)
+    by (inr (inl lt)) = omega arith
+    by (inr (inr lt)) = absurd (false≢true (sym h ∙ ap (λ (q : ℕ). eqb q 0) (div-eq_of_lt lt)))
 
 -- a bit and a carry
 pub half_bits : (x c : Bool) → bit (differ x c) + 2 * bit (x && c) ≡ bit x + bit c

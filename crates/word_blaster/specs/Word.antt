@@ -1,6 +1,6 @@
 -- Lists of bits, lowest first, as numbers without a sign and in two's complement (Knuth, The Art of
 -- Computer Programming, volume 2, section 4.1).
-use Rattle.std.specs.Prelude.{◌≡◌, ℕ, ◌+◌, ◌-◌, ◌*◌, ◌^◌, Bool, false, not, List, [], ◌∷◌, length, All, slice_index_or, if◌then◌else◌, ℤ, pos, negsuc, ◌-ℤ◌}
+use Rattle.std.specs.Prelude.{◌≡◌, ℕ, ◌+◌, ◌-◌, ◌*◌, ◌^◌, ◌<◌, ◌≤◌, Bool, false, not, List, [], ◌∷◌, length, All, slice_index_or, nat_lt, if◌then◌else◌, ℤ, pos, negsuc, ◌-ℤ◌}
 pub use Rattle.tla_values.specs.Integers.{fits_width}
 pub use Rattle.sat_formula.specs.Lit.{values}
 use Rattle.sat_formula.specs.declared.lit.Lit.{Lit}
@@ -59,3 +59,13 @@ pub record IsExact (f : Cnf) (n : ℕ) (word : List Lit) (out : Lit) (exact : Li
   pub width : length word ≡ n
   pub outside : HasValue f out (λ a. not (fits_width n (exact a)))
   pub value : (a : List Bool) → Satisfies a f → lit_value out a ≡ false → signed (values word a) ≡ exact a
+
+-- the number is from 0 on and has no more than k bits
+abbrev pub is_below : ℕ → ℤ → Bool
+is_below k (pos n) = nat_lt n (2 ^ k)
+is_below k (negsuc n) = false
+
+-- as many bits as numbers up to this one need, and fewer than a word of so many has
+pub record AreFew (most width : ℕ) (bits : List Lit) : Type 0 where
+  pub least : 0 < length bits → 2 ^ (length bits - 1) ≤ most
+  pub short : length bits < width

@@ -29,7 +29,7 @@ fn agreements(alloc: Global, f: &mut Formula, x: &[Lit], y: &[Lit]) -> Result<Ve
 
 /// Whether an unsigned number is below another.
 #[tactic(auto, using(sat_formula::proofs::Extension::gates, crate::proofs::Words::words))]
-fn number_below(f: &mut Formula, x: &[Lit], y: &[Lit]) -> Result<Lit, AllocError>
+pub(crate) fn number_below(f: &mut Formula, x: &[Lit], y: &[Lit]) -> Result<Lit, AllocError>
     requires words { AreWords f.old.vars x.now y.now }
     ensures value { IfOk result (λ r. HasValue f.new r (λ a. nat_lt (number (values x.now a)) (number (values y.now a)))) }
     ensures grows { Grows f.old f.new }

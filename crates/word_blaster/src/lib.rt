@@ -15,6 +15,7 @@ mod adders;
 mod bitwise;
 mod choices;
 mod comparisons;
+mod counts;
 mod literals;
 mod naturals;
 mod products;
@@ -23,6 +24,10 @@ mod quotients;
 pub use adders::{add, neg, sub};
 pub use choices::choose_word;
 pub use comparisons::{equal, less};
+pub use counts::{
+    add_counts, count_less, equals_number, index_bits, is_above, low_bits, subtract_bit,
+    subtract_counts, trimmed,
+};
 pub use literals::literal;
 pub use naturals::{add_bit, natural};
 pub use products::mul;

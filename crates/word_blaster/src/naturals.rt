@@ -1,6 +1,6 @@
 //! Numbers without a sign, in as many bits as they need.
 
-ghost use Rattle.std.specs.Prelude.{◌≡◌, ◌+◌, ◌^◌, ◌<◌, ◌≤◌, Bool, IsTrue, List, IfOk, pos};
+ghost use Rattle.std.specs.Prelude.{◌≡◌, ◌+◌, ◌^◌, ◌<◌, ◌≤◌, Bool, IsTrue, List, IfOk, false, pos};
 ghost use Rattle.sat_formula.specs.Lit.{lit_value};
 ghost use Rattle.sat_formula.specs.Formula.{Grows, Satisfies};
 ghost use Rattle.word_blaster.specs.Word.{bit, number, values, IsExact, WordBelow};
@@ -11,8 +11,9 @@ use std::alloc::{AllocError, Global};
 
 // Whether the number has at most so many bits.
 #[tactic(auto, using(crate::proofs::Unsigned::room))]
-fn has_room(n: usize, bits: usize) -> bool
-    ensures { IsTrue result → n < 2 ^ bits }
+pub(crate) fn has_room(n: usize, bits: usize) -> bool
+    ensures some { IsTrue result → n < 2 ^ bits }
+    ensures none { result ≡ false → 2 ^ bits ≤ n }
 {
     if bits >= 64 {
         return true;

@@ -52,7 +52,7 @@ returns-then-has_room-clause-value c = λ a s.
     let all : take i x ≡ x = take_all i x (omega arith) in
     let e = c.loop-i.invariant.value a s ∙ ap (λ (w : List Lit). number (values w a) + bit (lit_value c.args.one a)) all in
     let most = c.requires.most a (Satisfies-older _ _ a c.loop-i.invariant.grows s) in
-    let fits = c.has_room.ensures c.if-has_room.true in
+    let fits = c.has_room.ensures.some c.if-has_room.true in
     let same : i ≡ length x = omega arith in
     no_carry (lit_value c.loop-i.carry a) _ _ (2 ^ i) e (rw same (omega (arith, most, fits)))
 
