@@ -18,14 +18,16 @@ pub struct Candidate {
     pub level: usize,
 }
 
-// What a conflict comes from: how many marked literals of the last level are still to be resolved,
-// where the others stand, and the clauses that lead from there to the conflict, the conflict first.
+// What a conflict comes from: how many marked literals of the last level, which begins at `last`, are
+// still to be resolved, where the others stand, and the clauses that lead from there to the conflict,
+// the conflict first.
 #[derive(Drop)]
 struct Causes {
     last: usize,
     open: usize,
     earlier: Vec<usize>,
     hints: Vec<u64>,
+    lits: Vec<Lit>,
 }
 
 /// The clause of the first unique point: the negation of the first literal of the last level that
@@ -49,13 +51,14 @@ pub fn first_unique_point(
         open: 0,
         earlier: Vec::new(alloc),
         hints: Vec::new(alloc),
+        lits: Vec::new(alloc),
     };
     causes.resolve(search, marks, conflict)?;
     let Some(point) = unique_point(search, marks, &mut causes)? else {
         return Ok(None);
     };
     causes.follow_roots(search, marks, *first)?;
-    Ok(Some(candidate_of(alloc, search, levels, marks, causes, point)?))
+    Ok(Some(candidate_of(search, levels, marks, causes, point)?))
 }
 
 impl Causes {
@@ -65,6 +68,14 @@ impl Causes {
             return Ok(());
         }
         self.hints.push(c as u64 + 1)?;
+        self.see_all(search, marks, c)
+    }
+
+    // Marks the variables of the clause.
+    fn see_all(&mut self, search: &Search, marks: &mut Marks, c: usize) -> Result<(), AllocError> {
+        if c >= search.count() {
+            return Ok(());
+        }
         for k in 0..search.size(c) {
             self.see(search, marks, search.lit(c, k).var)?;
         }
@@ -109,17 +120,6 @@ impl Causes {
         }
         Ok(())
     }
-
-    // Marks the variables of the clause.
-    fn see_all(&mut self, search: &Search, marks: &mut Marks, c: usize) -> Result<(), AllocError> {
-        if c >= search.count() {
-            return Ok(());
-        }
-        for k in 0..search.size(c) {
-            self.see(search, marks, search.lit(c, k).var)?;
-        }
-        Ok(())
-    }
 }
 
 // Resolves backwards along the last level, up to the literal that all causes pass through.
@@ -148,7 +148,6 @@ fn unique_point(
 
 // Leaves out each earlier literal whose reason's other literals are causes too.
 fn candidate_of(
-    alloc: Global,
     search: &Search,
     levels: &[usize],
     marks: &Marks,
@@ -158,10 +157,10 @@ fn candidate_of(
     let Causes {
         mut earlier,
         mut hints,
+        mut lits,
         ..
     } = causes;
     earlier.sort_unstable();
-    let mut lits = Vec::new(alloc);
     lits.push(point.negated())?;
     let mut level = 0;
     for place in earlier.iter().rev() {
