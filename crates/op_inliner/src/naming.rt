@@ -72,12 +72,7 @@ fn longer_name(
     Ok(Text::from_vec(bytes))
 }
 
-fn free_name(
-    alloc: Global,
-    there: &[Text],
-    name: &Text,
-    taken: &[Text],
-) -> Result<Text, AllocError>
+fn free_name(alloc: Global, there: &[Text], name: &Text, taken: &[Text]) -> Result<Text, AllocError>
     ensures { IfOk result (λ t. t ≡ free_name there.now name.now taken.now) }
 {
     if is_among(name, taken) {
@@ -144,11 +139,7 @@ fn push_pairs(
     Ok(())
 }
 
-fn push_news(
-    alloc: Global,
-    pairs: &[(Text, Text)],
-    all: &mut Vec<Text>,
-) -> Result<(), AllocError>
+fn push_news(alloc: Global, pairs: &[(Text, Text)], all: &mut Vec<Text>) -> Result<(), AllocError>
     ensures { OnOk result (all.new.items ≡ all.old.items ++ news pairs.now) }
 {
     for pair in pairs {
@@ -157,11 +148,7 @@ fn push_news(
     Ok(())
 }
 
-fn push_own_names(
-    alloc: Global,
-    names: &[Text],
-    all: &mut Vec<Text>,
-) -> Result<(), AllocError>
+fn push_own_names(alloc: Global, names: &[Text], all: &mut Vec<Text>) -> Result<(), AllocError>
     ensures { OnOk result (all.new.items ≡ all.old.items ++ own_names names.now) }
 {
     for name in names {
@@ -293,11 +280,7 @@ fn push_binds(alloc: Global, e: &Expr, all: &mut Vec<Text>) -> Result<(), AllocE
 }
 
 #[cycle(push_binds)]
-fn push_all_binds(
-    alloc: Global,
-    trees: &[Expr],
-    all: &mut Vec<Text>,
-) -> Result<(), AllocError>
+fn push_all_binds(alloc: Global, trees: &[Expr], all: &mut Vec<Text>) -> Result<(), AllocError>
     ensures { OnOk result (all.new.items ≡ all.old.items ++ all_binds (map opened trees.now)) }
 {
     for e in trees {

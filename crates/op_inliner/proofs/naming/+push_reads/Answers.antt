@@ -6,10 +6,10 @@ use Rattle.op_inliner.proofs.naming.+push_reads.Goals.{push_children_reads-then-
 use Rattle.op_inliner.proofs.naming.+push_reads.Goals as goal
 
 pub push_children_reads-loop-i-preserved : goal.push_children_reads-loop-i-preserved
-push_children_reads-loop-i-preserved t c = 
+push_children_reads-loop-i-preserved t c =
     reads_step c.args.inner c.args.marks.now c.args.trees.now c.loop-i.all.items c.args.all.now.items c.if-is_marked-inner.all.items c.loop-i.i c.index-trees-i.result c.loop-i-test.true c.index-trees-i.is c.loop-i.invariant
     (elim c.if-is_marked-inner.branch [
-      push_children_reads-then-is_marked-inner+in_ok-push_reads w ↦ reads_taken c.args.inner _ c.is_marked.result (opened c.index-trees-i.result) c.loop-i.all.items _ c.is_marked.ensures w.if-is_marked-inner.true (ap (λ (v : Vec (List ℕ) Global). v.items) w.all-is ∙ w.in_ok-push_reads.ensures)
+      | push_children_reads-then-is_marked-inner+in_ok-push_reads w ↦ reads_taken c.args.inner _ c.is_marked.result (opened c.index-trees-i.result) c.loop-i.all.items _ c.is_marked.ensures w.if-is_marked-inner.true (ap (λ (v : Vec (List ℕ) Global). v.items) w.all-is ∙ w.in_ok-push_reads.ensures)
       | push_children_reads-else-is_marked-inner w ↦ ap (λ (v : Vec (List ℕ) Global). v.items) w.all-is ∙ reads_passed c.args.inner _ c.is_marked.result (opened c.index-trees-i.result) c.loop-i.all.items c.is_marked.ensures w.if-is_marked-inner.false
     ])
 

@@ -5,7 +5,7 @@ abbrev pub invariant-loop-i : goal.invariant-loop-i
 invariant-loop-i l = record {
   first : l.i ≤ length l.names;
   second : l.i ≤ length l.new_names;
-  is : l.pairs.items ++ zip (drop l.i l.names) (drop l.i l.new_names) ≡ l.fn.pairs.items ++ zip l.names l.new_names
+  is : l.pairs.items ++ zip (drop l.i l.names) (drop l.i l.new_names) ≡ l.fn.pairs.items ++ zip l.names l.new_names;
 }
 
 abbrev pub decreases-loop-i : goal.decreases-loop-i

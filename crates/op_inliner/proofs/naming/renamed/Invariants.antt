@@ -5,7 +5,7 @@ use Rattle.op_inliner.proofs.naming.renamed.Given as goal
 abbrev pub invariant-loop-i : goal.invariant-loop-i
 invariant-loop-i l = record {
   within : l.i ≤ length l.pairs;
-  same : find_last l.name (take l.i l.pairs) ≡ find_last l.name l.pairs
+  same : find_last l.name (take l.i l.pairs) ≡ find_last l.name l.pairs;
 }
 
 abbrev pub decreases-loop-i : goal.decreases-loop-i
