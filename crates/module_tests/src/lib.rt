@@ -1,0 +1,27 @@
+//! Tests of the modules of a root: which flat module they make, and why they make none.
+#![tactic(auto)]
+
+#[cfg(test)]
+mod asking;
+#[cfg(test)]
+mod expansions_cases;
+#[cfg(test)]
+mod extending_cases;
+#[cfg(test)]
+mod further_cases;
+#[cfg(test)]
+mod generated_cases;
+#[cfg(test)]
+mod instances_cases;
+#[cfg(test)]
+mod names_cases;
+#[cfg(test)]
+mod reader;
+#[cfg(test)]
+mod room_cases;
+#[cfg(test)]
+mod showing;
+#[cfg(test)]
+mod sources_cases;
+#[cfg(test)]
+mod users_cases;
