@@ -137,16 +137,16 @@ second_later D u es level k lt next other =
 
 -- the last decision
 module _ (es xs : List Entry) (x : Entry) (ys : List Entry) (split : es ≡ xs ++ x ∷ ys) (later : decisions ys ≡ []) (none : x.reason ≡ None) (K : List (List Lit)) (chain : Chain K [] es) where
-  decisions-last : decisions es ≡ decisions xs ++ x.lit ∷ []
+  pub decisions-last : decisions es ≡ decisions xs ++ x.lit ∷ []
   decisions-last = ap decisions split ∙ decisions-append xs (x ∷ ys) ∙ rw (none, later)
 
-  next-last : IsNext K (lits_of xs) x
+  pub next-last : IsNext K (lits_of xs) x
   next-last = Chain-at K [] xs x ys (rw split at chain)
 
-  unit-last : IsUnit (lits_of xs) (map negation (decisions es)) (negation x.lit)
+  pub unit-last : IsUnit (lits_of xs) (map negation (decisions es)) (negation x.lit)
   unit-last = rw decisions-last (decisions-unit (lits_of xs) (decisions xs) x.lit next-last.free (decisions-within xs))
 
-  second-last : HasSecond (map negation (decisions es)) (negation x.lit) [] xs
+  pub second-last : HasSecond (map negation (decisions es)) (negation x.lit) [] xs
   second-last as' e bs parts undecided =
       let front : Chain K [] xs = Chain-front K [] xs (x ∷ ys) (rw split at chain) in
       let own = Chain-at K [] as' e bs (rw parts at front) in

@@ -240,7 +240,7 @@ complete s solving opened empty = record {
 }
 
 -- what the clauses name, each step names
-names_of : (vars : ℕ) (clauses : List (List Lit)) (steps : List Step) → NamesBelow vars (known clauses steps) → All (λ s. All (IsBelow vars) s.lits) steps
+pub names_of : (vars : ℕ) (clauses : List (List Lit)) (steps : List Step) → NamesBelow vars (known clauses steps) → All (λ s. All (IsBelow vars) s.lits) steps
 names_of vars clauses steps h = λ k d lt.
     let lits : List (List Lit) = map (λ (s : Step). s.lits) steps in
     let size : length lits ≡ length steps = length-map steps (λ (s : Step). s.lits) in
@@ -251,7 +251,7 @@ names_of vars clauses steps h = λ k d lt.
     subst (λ (c : List Lit). All (IsBelow vars) c) (right ∙ get_or-map (λ (s : Step). s.lits) steps k d d.lits lt) (h (length clauses + k) d.lits (omega arith))
 
 -- the empty clause
-ends_empty_by : (steps : List Step) (s : Step) → s.lits ≡ [] → is_empty_step (slice_get (steps ++ s ∷ []) (length (steps ++ s ∷ []) - 1)) ≡ true
+pub ends_empty_by : (steps : List Step) (s : Step) → s.lits ≡ [] → is_empty_step (slice_get (steps ++ s ∷ []) (length (steps ++ s ∷ []) - 1)) ≡ true
 ends_empty_by steps s empty =
     let size = length_push steps s in
     let front : length (steps ++ s ∷ []) - 1 ≡ length steps = omega arith in

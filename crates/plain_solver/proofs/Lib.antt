@@ -1,9 +1,4 @@
-pub mod ChainLemmas
-pub mod HintsLemmas
-pub mod LearnLemmas
-pub mod WeightLemmas
-pub mod TrailLemmas
-pub mod SearchLemmas
-pub mod SatisfyLemmas
 pub mod OccurrenceLemmas
 pub mod ReadyLemmas
+pub mod SatisfyLemmas
+pub mod SearchLemmas

@@ -1,4 +1,4 @@
-use Rattle.std.proofs.Common.{◌≡◌, ℕ, ◌+◌, ◌*◌, ◌-◌, ◌<◌, ◌≤◌, ◌⊎◌, inl, inr, Bool, true, false, List, [], ◌∷◌, ◌++◌, length, take, All, Option, Some, None, get_or, refl, sym, ◌∙◌, ap, subst, arith, append_assoc, length-append, set, length-set}
+use Rattle.std.proofs.Common.{◌≡◌, ℕ, ◌+◌, ◌*◌, ◌<◌, ◌≤◌, ◌⊎◌, inl, inr, Bool, true, false, List, [], ◌∷◌, ◌++◌, length, take, All, Option, Some, None, get_or, refl, sym, ◌∙◌, ap, subst, arith, append_assoc, length-append, set, length-set}
 use Rattle.std.specs.Prelude.{Contains, if◌then◌else◌}
 use Rattle.std.proofs.lemmas.Bool.{cases_eq}
 use Rattle.std.proofs.lemmas.List.{append-nil, take-append-le, take_more, length-map, get_or-map, get_or_default, get_or-set_same, get_or-set_other, take_all}
@@ -8,13 +8,16 @@ use Rattle.refutation_checker.specs.Follows.{negation, IsFalse, IsUnit}
 use Rattle.refutation_checker.proofs.TrailLemmas.{Lit-same, Contains-nil, Contains-cons_cases}
 use Rattle.refutation_checker.proofs.StatusLemmas.{Contains-take}
 use Rattle.refutation_checker.proofs.HintLemmas.{IsUnit-not_false, IsUnit-unique}
-use Rattle.plain_solver.specs.declared.entry.Entry.{Entry}
-use Rattle.plain_solver.specs.inner.Trail.{DecisionTrail, StandsAt, lits_of}
-use Rattle.plain_solver.specs.inner.Chain.{Quiet, Chain, IsConflict}
-use Rattle.plain_solver.specs.inner.Weight.{weight}
+use Rattle.watched_search.specs.declared.entry.Entry.{Entry}
+use Rattle.watched_search.specs.Trail.{TrailView, lits_of}
+use Rattle.watched_search.specs.Searching.{IsFalseAt}
+use Rattle.watched_search.proofs.TrailLemmas.{lits-append}
+use Rattle.cdcl_solver.specs.inner.Chain.{Quiet, Chain}
+use Rattle.cdcl_solver.specs.inner.Weight.{weight}
+use Rattle.plain_solver.specs.inner.Trail.{StandsAt}
 use Rattle.plain_solver.specs.inner.Occurrences.{code_of, places_at, IsIndex, Adds, Kept, AllKept, IsLooked}
-use Rattle.plain_solver.proofs.ChainLemmas.{negation-negation, lits-append, Chain-push}
-use Rattle.plain_solver.proofs.WeightLemmas.{weight-push}
+use Rattle.cdcl_solver.proofs.ChainLemmas.{negation-negation, Chain-push}
+use Rattle.cdcl_solver.proofs.WeightLemmas.{weight-push}
 
 bool_cases : (a b : Bool) → (a ≡ b) ⊎ (a ≡ b → ⊥)
 bool_cases true true = inl refl
@@ -105,7 +108,7 @@ pub sub_grown : (old new more : List Entry) → new ≡ old ++ more → Sub (lit
 sub_grown old new more e = λ l h. rw (e, lits-append old more) (Contains-append_left (lits_of old) (lits_of more) l h)
 
 -- nothing to look at
-pub looked_none : (known : List (List Lit)) (t : DecisionTrail) (Places : ℕ → Type 0) → Chain known [] t.entries → ((k : ℕ) → Places k → k < length known → Quiet (lits_of t.entries) (get_or known k [])) → IsLooked known t t Places None
+pub looked_none : (known : List (List Lit)) (t : TrailView) (Places : ℕ → Type 0) → Chain known [] t.entries → ((k : ℕ) → Places k → k < length known → Quiet (lits_of t.entries) (get_or known k [])) → IsLooked known t t Places None
 looked_none known t Places chain each = record {
   chain = chain;
   room = refl;
@@ -114,7 +117,7 @@ looked_none known t Places chain each = record {
   found = λ k at lt. Quiet-kept (lits_of t.entries) (get_or known k []) (each k at lt);
 }
 
-pub looked_false : (known : List (List Lit)) (t : DecisionTrail) (Places : ℕ → Type 0) (h : ℕ) → Chain known [] t.entries → IsConflict known (lits_of t.entries) h → IsLooked known t t Places (Some h)
+pub looked_false : (known : List (List Lit)) (t : TrailView) (Places : ℕ → Type 0) (h : ℕ) → Chain known [] t.entries → IsFalseAt known (lits_of t.entries) h → IsLooked known t t Places (Some h)
 looked_false known t Places h chain f = record {
   chain = chain;
   room = refl;
@@ -123,21 +126,20 @@ looked_false known t Places h chain f = record {
   found = f;
 }
 
-pub looked_unit : (known : List (List Lit)) (t : DecisionTrail) (k : ℕ) (u : Lit) → Chain known [] t.entries → k < length known → IsUnit (lits_of t.entries) (get_or known k []) u → length t.entries < t.room
-    → IsLooked known t (record t { entries = t.entries ++ record { lit = u; reason = Some (k + 1) } ∷ [] }) (λ j. j ≡ k) None
+pub looked_unit : (known : List (List Lit)) (t : TrailView) (k : ℕ) (u : Lit) → Chain known [] t.entries → k < length known → IsUnit (lits_of t.entries) (get_or known k []) u → length t.entries < t.room
+    → IsLooked known t (record t { entries = t.entries ++ record { lit = u; reason = Some k } ∷ [] }) (λ j. j ≡ k) None
 looked_unit known t k u chain lt unit room =
-    let e : Entry = record { lit = u; reason = Some (k + 1) } in
-    let back : k + 1 - 1 ≡ k = omega arith in
+    let e : Entry = record { lit = u; reason = Some k } in
     let less = weight-push t.room t.entries e room in
     record {
-      chain = Chain-push known [] t.entries e chain (record { free = (unit.not_true, unit.not_false); why = (omega arith, (omega arith, rw back unit)) });
+      chain = Chain-push known [] t.entries e chain (record { free = (unit.not_true, unit.not_false); why = (lt, unit) });
       room = refl;
       weight = omega arith;
       grown = (e ∷ [], refl);
       found = λ j same below. rw (same, lits-append t.entries (e ∷ [])) (Kept-unit (lits_of t.entries) (get_or known k []) u unit);
     }
 
-module _ (known : List (List Lit)) (a b c : DecisionTrail) (P Q R : ℕ → Type 0) (first : IsLooked known a b P None) where
+module _ (known : List (List Lit)) (a b c : TrailView) (P Q R : ℕ → Type 0) (first : IsLooked known a b P None) where
   both_grown : (conflict : Option ℕ) (second : IsLooked known b c Q conflict) → c.entries ≡ a.entries ++ (first.grown.0 ++ second.grown.0)
   both_grown conflict second = second.grown.1 ∙ ap (λ (es : List Entry). es ++ second.grown.0) first.grown.1 ∙ append_assoc a.entries first.grown.0 second.grown.0
 
@@ -173,7 +175,7 @@ module _ (known : List (List Lit)) (a b c : DecisionTrail) (P Q R : ℕ → Type
   }
 
 -- the clauses that name the negation of the next literal were looked at, and so that literal was
-pub kept_step : (known : List (List Lit)) (lists : List (List ℕ)) (room next : ℕ) (old new : DecisionTrail) (p : Lit) → IsIndex room lists known → StandsAt old next p
+pub kept_step : (known : List (List Lit)) (lists : List (List ℕ)) (room next : ℕ) (old new : TrailView) (p : Lit) → IsIndex room lists known → StandsAt old next p
     → AllKept known (take next (lits_of old.entries)) (lits_of old.entries)
     → IsLooked known old new (Contains (places_at lists (negation p))) None
     → AllKept known (take (next + 1) (lits_of new.entries)) (lits_of new.entries)

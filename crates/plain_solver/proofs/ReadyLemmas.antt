@@ -7,14 +7,14 @@ use Rattle.sat_formula.specs.declared.lit.Lit.{Lit}
 use Rattle.refutation_checker.specs.declared.log.Step.{Step}
 use Rattle.refutation_checker.specs.Follows.{IsUnit, known}
 use Rattle.refutation_checker.proofs.TrailLemmas.{Contains-nil}
-use Rattle.plain_solver.specs.declared.entry.Entry.{Entry}
+use Rattle.watched_search.specs.declared.entry.Entry.{Entry}
 use Rattle.plain_solver.specs.declared.searching.Search.{Search}
-use Rattle.plain_solver.specs.inner.Trail.{DecisionTrail, lits_of}
-use Rattle.plain_solver.specs.inner.Chain.{Quiet}
+use Rattle.watched_search.specs.Trail.{TrailView, lits_of}
+use Rattle.watched_search.proofs.TrailLemmas.{lits-append}
+use Rattle.cdcl_solver.specs.inner.Chain.{Quiet}
 use Rattle.plain_solver.specs.inner.Occurrences.{places_at, IsIndex, Adds, AllKept, IsLooked}
 use Rattle.plain_solver.specs.inner.Search.{IsSearching, IsReady, IsOpened, Meets, stepped}
-use Rattle.plain_solver.proofs.ChainLemmas.{lits-append}
-use Rattle.plain_solver.proofs.LearnLemmas.{known-push}
+use Rattle.cdcl_solver.proofs.LearnLemmas.{known-push}
 use Rattle.plain_solver.proofs.OccurrenceLemmas.{Quiet-kept, Kept-more, Kept-less, Kept-unit, sub_grown}
 
 -- one clause more stands in the index
@@ -59,7 +59,7 @@ pub stepped_ready : (s : Search) (step : Step) (forced : Lit) (at : ℕ) (lists 
     → IsUnit (lits_of (take at s.trail.entries)) step.lits forced → IsReady (stepped s step forced at lists)
 stepped_ready s step forced at lists le quiet unit =
     let es : List Entry = take at s.trail.entries in
-    let e : Entry = record { lit = forced; reason = Some step.id } in
+    let e : Entry = record { lit = forced; reason = Some (length (known s.clauses s.steps)) } in
     let size : length es ≡ at = length-take-le at s.trail.entries le in
     let longer = length_push es e in
     record {
@@ -68,7 +68,7 @@ stepped_ready s step forced at lists le quiet unit =
     }
 
 -- each clause was looked at once
-pub opened : (s : Search) (t : DecisionTrail) (conflict : Option ℕ) → IsSearching s → s.head ≡ 0 → IsLooked (known s.clauses s.steps) s.trail t (λ k. Unit {0}) conflict → IsOpened s (record s { trail = t }) conflict
+pub opened : (s : Search) (t : TrailView) (conflict : Option ℕ) → IsSearching s → s.head ≡ 0 → IsLooked (known s.clauses s.steps) s.trail t (λ k. Unit {0}) conflict → IsOpened s (record s { trail = t }) conflict
 opened s t conflict searching head looked = record {
   searching = record {
     search = record {

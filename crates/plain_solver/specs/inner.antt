@@ -1,5 +1,4 @@
-pub mod Trail
-pub mod Chain
-pub mod Weight
+pub mod Looking
 pub mod Occurrences
 pub mod Search
+pub mod Trail

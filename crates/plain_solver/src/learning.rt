@@ -1,18 +1,19 @@
 //! The clause that can always be learned from a conflict: some decision was wrong.
 
-ghost use Rattle.std.specs.Prelude.{◌≡◌, ℕ, ◌+◌, ◌^◌, ◌<◌, ◌++◌, ◌∷◌, [], map, IfOk};
+ghost use Rattle.std.specs.Prelude.{◌≡◌, ℕ, ◌+◌, ◌^◌, ◌<◌, ◌++◌, ◌∷◌, [], All, map, IfOk};
 ghost use Rattle.refutation_checker.specs.Follows.{negation};
-ghost use Rattle.plain_solver.specs.inner.Chain.{IsLastDecision, IsExplained, decisions, reasons};
+ghost use Rattle.cdcl_solver.specs.inner.Chain.{IsExplained, AreReasonsBelow, decisions, reasons};
+ghost use Rattle.plain_solver.specs.inner.Trail.{IsLastOf};
 
-use crate::entry::Entry;
 use refutation_checker::Step;
 use sat_formula::Clause;
 use std::alloc::{AllocError, Global};
 use tla_values::List;
+use watched_search::Entry;
 
 /// The place of the last decision.
 pub fn last_decision(entries: &[Entry]) -> Option<usize>
-    ensures { IsLastDecision entries.now result }
+    ensures { IsLastOf entries.now result }
 {
     let mut i = entries.len();
     while i > 0 {
@@ -24,18 +25,21 @@ pub fn last_decision(entries: &[Entry]) -> Option<usize>
     None
 }
 
-/// The negated decisions, with every reason and then the false clause as hints.
+/// The negated decisions, with every reason and then the false clause as hints. All of the entries
+/// are gone through.
 pub fn explained(
     alloc: Global,
     clauses: usize,
     entries: &[Entry],
-    conflict: u64,
+    conflict: usize,
 ) -> Result<Step, AllocError>
-    requires { clauses + 1 < 2 ^ 64 }
+    requires small { clauses + 1 < 2 ^ 64 }
+    requires conflict { conflict < clauses }
+    requires reasons { AreReasonsBelow clauses entries.now }
     ensures { IfOk result (λ s. IsExplained clauses entries.now conflict s) }
 {
     let lits = negated_decisions(alloc, entries)?;
-    let hints = hints_of(alloc, entries, conflict)?;
+    let hints = hints_of(alloc, clauses, entries, conflict)?;
     Ok(Step {
         id: clauses as u64 + 1,
         lits,
@@ -55,15 +59,23 @@ fn negated_decisions(alloc: Global, entries: &[Entry]) -> Result<Clause, AllocEr
     Ok(Clause::from_vec(lits))
 }
 
-fn hints_of(alloc: Global, entries: &[Entry], conflict: u64) -> Result<List<u64>, AllocError>
-    ensures { IfOk result (λ h. h ≡ reasons entries.now ++ conflict ∷ []) }
+fn hints_of(
+    alloc: Global,
+    clauses: usize,
+    entries: &[Entry],
+    conflict: usize,
+) -> Result<List<u64>, AllocError>
+    requires small { clauses + 1 < 2 ^ 64 }
+    requires conflict { conflict < clauses }
+    requires reasons { AreReasonsBelow clauses entries.now }
+    ensures { IfOk result (λ h. h ≡ reasons entries.now ++ (conflict + 1) ∷ []) }
 {
     let mut ids = Vec::new(alloc);
     for e in entries {
-        if let Some(h) = e.reason {
-            ids.push(h)?;
+        if let Some(c) = e.reason {
+            ids.push(c as u64 + 1)?;
         }
     }
-    ids.push(conflict)?;
+    ids.push(conflict as u64 + 1)?;
     Ok(List::from_vec(ids))
 }

@@ -6,12 +6,11 @@
 //! "GRASP: A Search Algorithm for Propositional Satisfiability", 1999, on learning.)
 #![tactic(auto)]
 
-mod entry;
 mod learning;
+mod model;
 mod occurrences;
 mod propagation;
 mod searching;
 mod solving;
-mod trail;
 
 pub use solving::solve;

@@ -4,16 +4,16 @@ ghost use Rattle.std.specs.Prelude.{◌≡◌, ℕ, ◌+◌, ◌-◌, ◌<◌, �
 ghost use Rattle.sat_formula.specs.Lit.{IsBelow};
 ghost use Rattle.sat_formula.specs.Clause.{NamesBelow};
 ghost use Rattle.refutation_checker.specs.Follows.{known};
-ghost use Rattle.plain_solver.specs.inner.Trail.{lits_of};
-ghost use Rattle.plain_solver.specs.inner.Chain.{Chain, IsStatus, IsPropagated};
+ghost use Rattle.watched_search.specs.Trail.{lits_of};
+ghost use Rattle.cdcl_solver.specs.inner.Chain.{Chain};
+ghost use Rattle.plain_solver.specs.inner.Looking.{IsStatus, IsPropagated};
+ghost use Rattle.plain_solver.specs.inner.Trail.{IsLitAt};
 ghost use Rattle.plain_solver.specs.inner.Occurrences.{AllKept, IsIndex, IsLooked};
 
-use crate::entry::Entry;
 use crate::occurrences::Occurrences;
-use crate::trail::Trail;
 use refutation_checker::Step;
 use sat_formula::{Clause, Lit};
-use std::alloc::AllocError;
+use watched_search::{Entry, Trail};
 
 // What a clause is under a trail: false, a unit with this literal, or neither.
 #[derive(Clone, Copy, Debug)]
@@ -31,45 +31,41 @@ pub fn propagate(
     occurrences: &Occurrences,
     head: usize,
     trail: &mut Trail,
-) -> Result<Option<u64>, AllocError>
+) -> Option<usize>
     requires within { NamesBelow trail.old.room (known clauses.now steps.now) }
     requires chain { Chain (known clauses.now steps.now) [] trail.old.entries }
     requires index { IsIndex trail.old.room occurrences.now (known clauses.now steps.now) }
     requires head { head ≤ length trail.old.entries }
     requires kept { AllKept (known clauses.now steps.now) (take head (lits_of trail.old.entries)) (lits_of trail.old.entries) }
-    ensures { IfOk result (λ o. IsPropagated (known clauses.now steps.now) trail.old trail.new o) }
+    ensures { IsPropagated (known clauses.now steps.now) trail.old trail.new result }
 {
     let mut next = head;
     'literals: loop {
-        let Some(l) = trail.literal(next) else {
-            return Ok(None);
+        let Some(l) = literal_at(trail, next) else {
+            return None;
         };
         let places = occurrences.places(l.negated());
-        let found = look_over(clauses, steps, places, trail)?;
+        let found = look_over(clauses, steps, places, trail);
         if let Some(conflict) = found {
-            return Ok(Some(conflict));
+            return Some(conflict);
         }
         next += 1;
     }
 }
 
 /// Looks at all clauses, once each.
-pub fn look_at_all(
-    clauses: &[Clause],
-    steps: &[Step],
-    trail: &mut Trail,
-) -> Result<Option<u64>, AllocError>
+pub fn look_at_all(clauses: &[Clause], steps: &[Step], trail: &mut Trail) -> Option<usize>
     requires within { NamesBelow trail.old.room (known clauses.now steps.now) }
     requires chain { Chain (known clauses.now steps.now) [] trail.old.entries }
-    ensures { IfOk result (λ o. IsLooked (known clauses.now steps.now) trail.old trail.new (λ k. Unit {0}) o) }
+    ensures { IsLooked (known clauses.now steps.now) trail.old trail.new (λ k. Unit {0}) result }
 {
     for k in 0..clauses.len() + steps.len() {
-        let found = look_at(clauses, steps, k, trail)?;
+        let found = look_at(clauses, steps, k, trail);
         if let Some(conflict) = found {
-            return Ok(Some(conflict));
+            return Some(conflict);
         }
     }
-    Ok(None)
+    None
 }
 
 // Looks at the clauses at these places.
@@ -78,45 +74,52 @@ fn look_over(
     steps: &[Step],
     places: &[usize],
     trail: &mut Trail,
-) -> Result<Option<u64>, AllocError>
+) -> Option<usize>
     requires within { NamesBelow trail.old.room (known clauses.now steps.now) }
     requires chain { Chain (known clauses.now steps.now) [] trail.old.entries }
-    ensures { IfOk result (λ o. IsLooked (known clauses.now steps.now) trail.old trail.new (Contains places.now) o) }
+    ensures { IsLooked (known clauses.now steps.now) trail.old trail.new (Contains places.now) result }
 {
     for k in places {
-        let found = look_at(clauses, steps, *k, trail)?;
+        let found = look_at(clauses, steps, *k, trail);
         if let Some(conflict) = found {
-            return Ok(Some(conflict));
+            return Some(conflict);
         }
     }
-    Ok(None)
+    None
 }
 
 // Looks at the clause at `k`, if there is one, and makes true what it forces.
-fn look_at(
-    clauses: &[Clause],
-    steps: &[Step],
-    k: usize,
-    trail: &mut Trail,
-) -> Result<Option<u64>, AllocError>
+fn look_at(clauses: &[Clause], steps: &[Step], k: usize, trail: &mut Trail) -> Option<usize>
     requires within { NamesBelow trail.old.room (known clauses.now steps.now) }
     requires chain { Chain (known clauses.now steps.now) [] trail.old.entries }
-    ensures { IfOk result (λ o. IsLooked (known clauses.now steps.now) trail.old trail.new (λ j. j ≡ k) o) }
+    ensures { IsLooked (known clauses.now steps.now) trail.old trail.new (λ j. j ≡ k) result }
 {
     if k >= clauses.len() + steps.len() {
-        return Ok(None);
+        return None;
     }
     match status_of(clause_at(clauses, steps, k), trail) {
-        Status::AllFalse => Ok(Some(k as u64 + 1)),
+        Status::AllFalse => Some(k),
         Status::OneLeft(u) => {
             trail.push(Entry {
                 lit: u,
-                reason: Some(k as u64 + 1),
-            })?;
-            Ok(None)
+                reason: Some(k),
+            });
+            let _ = trail.entries();
+            None
         }
-        Status::Other => Ok(None),
+        Status::Other => None,
     }
+}
+
+// The literal at this place of the trail, if there is one.
+fn literal_at(trail: &Trail, place: usize) -> Option<Lit>
+    ensures { IsLitAt trail.now place result }
+{
+    let entries = trail.entries();
+    if place >= entries.len() {
+        return None;
+    }
+    Some(entries[place].lit)
 }
 
 // The clause at `i`: the formula's, and then those of the steps.

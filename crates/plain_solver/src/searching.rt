@@ -4,20 +4,21 @@ ghost use Rattle.std.specs.Prelude.{◌≡◌, ℕ, ◌+◌, ◌-◌, ◌^◌, �
 ghost use Rattle.sat_formula.specs.Lit.{IsBelow};
 ghost use Rattle.sat_formula.specs.Clause.{NamesBelow};
 ghost use Rattle.refutation_checker.specs.Follows.{known};
-ghost use Rattle.plain_solver.specs.inner.Trail.{IsFree, lits_of};
-ghost use Rattle.plain_solver.specs.inner.Chain.{IsLastDecision, Quiet};
+ghost use Rattle.watched_search.specs.Trail.{IsFree, lits_of};
+ghost use Rattle.cdcl_solver.specs.inner.Chain.{Quiet};
+ghost use Rattle.plain_solver.specs.inner.Trail.{IsLastOf};
 ghost use Rattle.plain_solver.specs.inner.Occurrences.{IsIndex};
 ghost use Rattle.plain_solver.specs.inner.Search.{IsSearching, IsReady, Meets, IsEnd, IsBegun, IsOpened, IsSettled, IsDecided, IsUnspent, IsResolved, Advances, IsRefuted, IsStepped};
 
-use crate::entry::Entry;
 use crate::learning::{explained, last_decision};
+use crate::model::first_free;
 use crate::occurrences::Occurrences;
 use crate::propagation::{look_at_all, propagate};
-use crate::trail::Trail;
 use refutation_checker::{Log, Step};
 use sat_formula::{Clause, Clauses, Cnf, Lit};
 use std::alloc::{AllocError, Global};
 use tla_values::List;
+use watched_search::{Entry, Trail};
 
 /// The clauses, the steps that were derived from them, what is true, and which clauses name a literal.
 /// What the entries of the trail before `head` make of the clauses is known.
@@ -91,37 +92,36 @@ pub fn run(alloc: Global, search: &mut Search, budget: Option<u64>) -> Result<En
     requires head { search.old.head ≡ 0 }
     ensures end { IfOk result (λ e. IsEnd budget search.old search.new e) }
 {
-    if let Some(conflict) = begin(search)? {
+    if let Some(conflict) = begin(search) {
         if let Some(end) = resolve(alloc, search, budget, conflict)? {
             return Ok(end);
         }
     }
     'search: loop {
-        if let Some(conflict) = settle(search)? {
+        if let Some(conflict) = settle(search) {
             if let Some(end) = resolve(alloc, search, budget, conflict)? {
                 return Ok(end);
             }
         } else {
-            let Some(var) = search.trail.first_free() else {
+            let Some(var) = first_free(&search.trail) else {
                 return Ok(End::Satisfied);
             };
-            decide(search, var)?;
+            decide(search, var);
         }
     }
 }
 
 // Looks at each clause once, since some force a literal before any is true.
-fn begin(search: &mut Search) -> Result<Option<u64>, AllocError>
+fn begin(search: &mut Search) -> Option<usize>
     requires searching { IsSearching search.old }
     requires head { search.old.head ≡ 0 }
-    ensures { IfOk result (λ o. IsOpened search.old search.new o) }
+    ensures { IsOpened search.old search.new result }
 {
-    let found = look_at_all(
+    look_at_all(
         search.clauses.clauses(),
         search.steps.as_slice(),
         &mut search.trail,
-    )?;
-    Ok(found)
+    )
 }
 
 // Derives a step from a conflict, unless the budget is spent, and goes on behind it.
@@ -129,7 +129,7 @@ fn resolve(
     alloc: Global,
     search: &mut Search,
     budget: Option<u64>,
-    conflict: u64,
+    conflict: usize,
 ) -> Result<Option<End>, AllocError>
     requires searching { IsSearching search.old }
     requires unspent { IsUnspent budget search.old.steps }
@@ -157,42 +157,41 @@ fn is_spent(budget: Option<u64>, count: usize) -> bool
 }
 
 // Makes true what the clauses force, and answers the number of a clause that is false, if one is.
-fn settle(search: &mut Search) -> Result<Option<u64>, AllocError>
+fn settle(search: &mut Search) -> Option<usize>
     requires searching { IsSearching search.old }
     requires ready { IsReady search.old }
-    ensures { IfOk result (λ o. IsSettled search.old search.new o) }
+    ensures { IsSettled search.old search.new result }
 {
-    let found = propagate(
+    propagate(
         search.clauses.clauses(),
         search.steps.as_slice(),
         &search.occurrences,
         search.head,
         &mut search.trail,
-    )?;
-    Ok(found)
+    )
 }
 
 // Tries false for a variable, where no clause forces more.
-fn decide(search: &mut Search, var: usize) -> Result<(), AllocError>
+fn decide(search: &mut Search, var: usize)
     requires searching { IsSearching search.old }
     requires quiet { All (Quiet (lits_of search.old.trail.entries)) (known search.old.clauses search.old.steps) }
     requires below { var < search.old.trail.room }
     requires free { IsFree (lits_of search.old.trail.entries) (record { var = var; neg = true }) }
-    ensures { OnOk result (IsDecided search.old search.new) }
+    ensures { IsDecided search.old search.new }
 {
     search.head = search.trail.entries().len();
     search.trail.push(Entry {
         lit: Lit { var, neg: true },
         reason: None,
-    })?;
-    Ok(())
+    });
+    let _ = search.trail.entries();
 }
 
 // Adds the empty clause, where no decision is left.
-fn refute(alloc: Global, search: &mut Search, conflict: u64) -> Result<(), AllocError>
+fn refute(alloc: Global, search: &mut Search, conflict: usize) -> Result<(), AllocError>
     requires searching { IsSearching search.old }
     requires conflict { Meets search.old conflict }
-    requires none { IsLastDecision search.old.trail.entries None }
+    requires none { IsLastOf search.old.trail.entries None }
     ensures { OnOk result (IsRefuted search.old search.new) }
 {
     let step = explained(alloc, search.count(), search.trail.entries(), conflict)?;
@@ -204,12 +203,12 @@ fn refute(alloc: Global, search: &mut Search, conflict: u64) -> Result<(), Alloc
 fn learn_decisions(
     alloc: Global,
     search: &mut Search,
-    conflict: u64,
+    conflict: usize,
     last: usize,
 ) -> Result<(), AllocError>
     requires searching { IsSearching search.old }
     requires conflict { Meets search.old conflict }
-    requires last { IsLastDecision search.old.trail.entries (Some last) }
+    requires last { IsLastOf search.old.trail.entries (Some last) }
     ensures { OnOk result (Advances search.old search.new) }
 {
     let entries = search.trail.entries();
@@ -227,15 +226,14 @@ fn add_step(search: &mut Search, step: Step, forced: Lit, at: usize) -> Result<(
     requires free { IsFree (lits_of (take at search.old.trail.entries)) forced }
     ensures { OnOk result (IsStepped search.old step forced at search.new) }
 {
-    let id = step.id;
     let place = search.count();
     search.occurrences.add(step.lits.lits(), place)?;
     search.steps.push(step)?;
     search.head = at;
-    search.trail.back(at);
+    let _ = search.trail.back(at);
     search.trail.push(Entry {
         lit: forced,
-        reason: Some(id),
-    })?;
+        reason: Some(place),
+    });
     Ok(())
 }

@@ -5,6 +5,7 @@ ghost use Rattle.refutation_checker.specs.declared.log.Step.{Step};
 ghost use Rattle.refutation_checker.specs.Follows.{IsUnsatisfiable};
 ghost use Rattle.cdcl_solver.specs.Answers.{IsAnswer, clauses_with};
 
+use crate::model::assignment_of;
 use crate::searching::{End, Search, run};
 use cdcl_solver::Answer;
 use sat_formula::{Formula, Lit};
@@ -25,7 +26,7 @@ pub fn solve(
     let cnf = formula.with_unit(alloc, assume)?;
     let mut search = Search::new(alloc, cnf)?;
     match run(alloc, &mut search, budget)? {
-        End::Satisfied => Ok(Answer::Sat(search.trail.assignment(alloc)?)),
+        End::Satisfied => Ok(Answer::Sat(assignment_of(alloc, &search.trail)?)),
         End::Refuted => Ok(Answer::Unsat(search.into_log())),
         End::Spent => Ok(Answer::Spent(search.into_log())),
     }

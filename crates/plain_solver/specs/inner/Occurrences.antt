@@ -2,10 +2,11 @@
 use Rattle.std.specs.Prelude.{◌≡◌, ℕ, ◌+◌, ◌*◌, ◌<◌, ◌≤◌, ◌++◌, List, [], length, Contains, MatchOption, Option, slice_index_or, if◌then◌else◌}
 use Rattle.sat_formula.specs.declared.lit.Lit.{Lit}
 use Rattle.refutation_checker.specs.Follows.{IsFalse, IsUnit}
-use Rattle.plain_solver.specs.declared.entry.Entry.{Entry}
-use Rattle.plain_solver.specs.inner.Trail.{DecisionTrail, lits_of}
-use Rattle.plain_solver.specs.inner.Chain.{Chain, IsConflict}
-use Rattle.plain_solver.specs.inner.Weight.{weight}
+use Rattle.watched_search.specs.declared.entry.Entry.{Entry}
+use Rattle.watched_search.specs.Trail.{TrailView, lits_of}
+use Rattle.watched_search.specs.Searching.{IsFalseAt}
+use Rattle.cdcl_solver.specs.inner.Chain.{Chain}
+use Rattle.cdcl_solver.specs.inner.Weight.{weight}
 
 -- two numbers for each variable
 abbrev pub code_of : Lit → ℕ
@@ -35,11 +36,11 @@ abbrev pub AllKept : List (List Lit) → List Lit → List Lit → Type 0
 AllKept known done T = (k : ℕ) → k < length known → Kept done T (slice_index_or known k [])
 
 -- the trail went on over the clauses at these places, until one is false
-pub record IsLooked (known : List (List Lit)) (old new : DecisionTrail) (Places : ℕ → Type 0) (conflict : Option ℕ) : Type 0 where
+pub record IsLooked (known : List (List Lit)) (old new : TrailView) (Places : ℕ → Type 0) (conflict : Option ℕ) : Type 0 where
   pub chain : Chain known [] new.entries
   pub room : new.room ≡ old.room
   pub weight : weight old.room new.entries ≤ weight old.room old.entries
   pub grown : (more : List Entry) × (new.entries ≡ old.entries ++ more)
   pub found : MatchOption conflict
       ((k : ℕ) → Places k → k < length known → Kept (lits_of old.entries) (lits_of new.entries) (slice_index_or known k []))
-      (λ h. IsConflict known (lits_of new.entries) h)
+      (λ h. IsFalseAt known (lits_of new.entries) h)

@@ -2,29 +2,23 @@
 use Rattle.std.specs.Prelude.{◌≡◌, ℕ, ◌+◌, ◌<◌, ◌≤◌, ◌++◌, List, [], ◌∷◌, length, take, MatchOption, All, Option, Some, None}
 use Rattle.sat_formula.specs.declared.lit.Lit.{Lit}
 use Rattle.sat_formula.specs.declared.cnf.Cnf.{Cnf}
-use Rattle.sat_formula.specs.Clause.{NamesBelow}
 use Rattle.refutation_checker.specs.declared.log.Step.{Step}
-use Rattle.refutation_checker.specs.Follows.{known, EachFollows, Refutes}
+use Rattle.refutation_checker.specs.Follows.{known, Refutes}
 use Rattle.plain_solver.specs.declared.searching.Search.{Search}
 use Rattle.plain_solver.specs.declared.searching.End.{End}
 use Rattle.plain_solver.specs.declared.searching.End.TheVariants.{Satisfied, Refuted, Spent}
-use Rattle.cdcl_solver.specs.Answers.{EachNew, IsDerivation, IsRefutation, IsSpent}
-use Rattle.plain_solver.specs.inner.Trail.{DecisionTrail, lits_of, IsFirstFree}
-use Rattle.plain_solver.specs.inner.Chain.{Quiet, Chain, IsConflict}
+use Rattle.cdcl_solver.specs.Answers.{IsDerivation, IsRefutation, IsSpent}
+use Rattle.watched_search.specs.Trail.{TrailView, lits_of, starts_below}
+use Rattle.watched_search.specs.Searching.{IsFalseAt}
+use Rattle.cdcl_solver.specs.inner.Chain.{Quiet}
+use Rattle.cdcl_solver.specs.inner.Solving.{IsSearch}
+use Rattle.plain_solver.specs.inner.Trail.{IsFirstFree}
 use Rattle.plain_solver.specs.inner.Occurrences.{AllKept, IsIndex, Adds}
-use Rattle.plain_solver.specs.inner.Weight.{weight}
-
--- what ties the trail to the log
-pub record IsSearch (clauses : List (List Lit)) (steps : List Step) (t : DecisionTrail) : Type 0 where
-  pub within : NamesBelow t.room (known clauses steps)
-  pub chain : Chain (known clauses steps) [] t.entries
-  pub follow : EachFollows clauses steps
-  pub new : EachNew clauses steps
-  pub some : All (λ s. 0 < length s.lits) steps
+use Rattle.cdcl_solver.specs.inner.Weight.{weight}
 
 -- each clause stands in the index
 pub record IsSearching (s : Search) : Type 0 where
-  pub search : IsSearch s.clauses s.steps s.trail
+  pub search : IsSearch s.clauses s.steps s.trail.room s.trail.entries
   pub index : IsIndex s.trail.room s.occurrences (known s.clauses s.steps)
 
 -- only what the entries from `head` on make of the clauses is left to look at
@@ -36,13 +30,13 @@ pub record IsReady (s : Search) : Type 0 where
 pub record IsBegun (formula : Cnf) (s : Search) : Type 0 where
   pub clauses : s.clauses ≡ formula.clauses
   pub steps : s.steps ≡ []
-  pub trail : s.trail ≡ record { room = formula.vars; entries = [] }
+  pub trail : s.trail ≡ record { room = formula.vars; entries = []; starts = [] }
   pub head : s.head ≡ 0
   pub searching : IsSearching s
 
 -- the clause of that number is false
 abbrev pub Meets : Search → ℕ → Type 0
-Meets s conflict = IsConflict (known s.clauses s.steps) (lits_of s.trail.entries) conflict
+Meets s conflict = IsFalseAt (known s.clauses s.steps) (lits_of s.trail.entries) conflict
 
 -- the clauses and the number of variables stay
 pub record Keeps (old new : Search) : Type 0 where
@@ -76,7 +70,10 @@ pub record IsDecided (old new : Search) : Type 0 where
 abbrev pub stepped : Search → Step → Lit → ℕ → List (List ℕ) → Search
 stepped s step forced at lists = record s {
   steps = s.steps ++ step ∷ [];
-  trail = record s.trail { entries = take at s.trail.entries ++ record { lit = forced; reason = Some step.id } ∷ [] };
+  trail = record s.trail {
+    entries = take at s.trail.entries ++ record { lit = forced; reason = Some (length (known s.clauses s.steps)) } ∷ [];
+    starts = starts_below at s.trail.starts;
+  };
   head = at;
   occurrences = lists;
 }
@@ -102,7 +99,7 @@ pub record IsRefuted (old new : Search) : Type 0 where
   pub longer : length new.steps ≡ length old.steps + 1
 
 -- each variable has a value, and each clause says nothing
-pub record IsComplete (clauses : List (List Lit)) (t : DecisionTrail) : Type 0 where
+pub record IsComplete (clauses : List (List Lit)) (t : TrailView) : Type 0 where
   pub quiet : All (Quiet (lits_of t.entries)) clauses
   pub full : IsFirstFree t.room (lits_of t.entries) None
 

@@ -1,5 +1,5 @@
 use Rattle.std.proofs.Common.{◌≡◌, take}
-use Rattle.plain_solver.specs.inner.Chain.{reasons}
+use Rattle.cdcl_solver.specs.inner.Chain.{reasons}
 use Rattle.plain_solver.proofs.learning.hints_of.Given as goal
 
 abbrev pub invariant-loop-e : goal.invariant-loop-e

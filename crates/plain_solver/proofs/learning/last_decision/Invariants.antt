@@ -1,5 +1,5 @@
 use Rattle.std.proofs.Common.{◌≡◌, ◌≤◌, length, drop, []}
-use Rattle.plain_solver.specs.inner.Chain.{decisions}
+use Rattle.cdcl_solver.specs.inner.Chain.{decisions}
 use Rattle.plain_solver.proofs.learning.last_decision.Given as goal
 
 abbrev pub invariant-loop-i : goal.invariant-loop-i

@@ -1,4 +1,5 @@
-use Rattle.plain_solver.proofs.ChainLemmas.{no_entry, negated-next, negated-same}
+use Rattle.watched_search.proofs.TrailLemmas.{no_entry}
+use Rattle.cdcl_solver.proofs.ChainLemmas.{negated-next, negated-same}
 use Rattle.plain_solver.proofs.learning.negated_decisions.Goals as goal
 use Rattle.plain_solver.proofs.learning.negated_decisions.Goals.{then-is_none+in_ok-push, else-is_none}
 

@@ -1,6 +1,6 @@
 use Rattle.std.proofs.Common.{◌≡◌, map, take}
 use Rattle.refutation_checker.specs.Follows.{negation}
-use Rattle.plain_solver.specs.inner.Chain.{decisions}
+use Rattle.cdcl_solver.specs.inner.Chain.{decisions}
 use Rattle.plain_solver.proofs.learning.negated_decisions.Given as goal
 
 abbrev pub invariant-loop-e : goal.invariant-loop-e

@@ -1,8 +1,8 @@
 use Rattle.std.proofs.Common.{◌∙◌, arith}
 use Rattle.std.proofs.lemmas.List.{length-map}
 use Rattle.refutation_checker.specs.Follows.{known}
-use Rattle.plain_solver.specs.declared.entry.Entry.{Entry}
-use Rattle.plain_solver.specs.inner.Trail.{lits_of}
+use Rattle.watched_search.specs.declared.entry.Entry.{Entry}
+use Rattle.watched_search.specs.Trail.{lits_of}
 use Rattle.plain_solver.proofs.OccurrenceLemmas.{kept_quiet, kept_step, grown_past}
 use Rattle.plain_solver.proofs.propagation.propagate.Goals as goal
 
@@ -24,7 +24,7 @@ overflow_add-next c = let fits = c.in-Some.ensures.fits in omega arith
 pub literals-preserved : goal.literals-preserved
 literals-preserved c =
     let K = known c.args.clauses.now c.args.steps.now in
-    let looked = rw (c.in_default-found.is, c.places-places.ensures, c.negated.ensures) at c.in_ok-found.ensures in
+    let looked = rw (c.in_default-found.is, c.places-places.ensures, c.negated.ensures) at c.look_over-found.ensures in
     let before = c.literals.invariant in
     let less = rw before.room at looked.weight in
     let lighter = before.weight in
@@ -32,6 +32,6 @@ literals-preserved c =
       chain = looked.chain;
       room = looked.room ∙ before.room;
       weight = omega arith;
-      head = grown_past c.literals.trail.entries c.look_over.new.trail.entries looked.grown.0 c.literals.next looked.grown.1 c.in-Some.ensures.place;
-      kept = kept_step K c.args.occurrences.now c.args.trail.now.room c.literals.next c.literals.trail c.look_over.new.trail c.in-Some.l c.requires.index c.in-Some.ensures before.kept looked;
+      head = grown_past c.literals.trail.entries c.look_over-found.new.trail.entries looked.grown.0 c.literals.next looked.grown.1 c.in-Some.ensures.place;
+      kept = kept_step K c.args.occurrences.now c.args.trail.now.room c.literals.next c.literals.trail c.look_over-found.new.trail c.in-Some.l c.requires.index c.in-Some.ensures before.kept looked;
     }

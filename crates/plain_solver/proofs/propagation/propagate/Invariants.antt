@@ -1,9 +1,9 @@
 use Rattle.std.proofs.Common.{◌≡◌, ◌-◌, ◌≤◌, [], length, take}
 use Rattle.refutation_checker.specs.Follows.{known}
-use Rattle.plain_solver.specs.inner.Trail.{lits_of}
-use Rattle.plain_solver.specs.inner.Chain.{Chain}
+use Rattle.watched_search.specs.Trail.{lits_of}
+use Rattle.cdcl_solver.specs.inner.Chain.{Chain}
 use Rattle.plain_solver.specs.inner.Occurrences.{AllKept}
-use Rattle.plain_solver.specs.inner.Weight.{weight}
+use Rattle.cdcl_solver.specs.inner.Weight.{weight}
 use Rattle.plain_solver.proofs.propagation.propagate.Given as goal
 
 abbrev pub invariant-literals : goal.invariant-literals

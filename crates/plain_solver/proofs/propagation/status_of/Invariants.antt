@@ -1,6 +1,6 @@
 use Rattle.std.proofs.Common.{take}
 use Rattle.refutation_checker.proofs.StatusLemmas.{Found}
-use Rattle.plain_solver.specs.inner.Trail.{lits_of}
+use Rattle.watched_search.specs.Trail.{lits_of}
 use Rattle.plain_solver.proofs.propagation.status_of.Given as goal
 
 abbrev pub invariant-loop-l : goal.invariant-loop-l

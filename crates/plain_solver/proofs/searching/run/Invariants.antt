@@ -1,4 +1,4 @@
-use Rattle.plain_solver.specs.inner.Weight.{weight}
+use Rattle.cdcl_solver.specs.inner.Weight.{weight}
 use Rattle.plain_solver.specs.inner.Search.{IsSearching, IsReady, IsUnspent, Keeps}
 use Rattle.plain_solver.proofs.searching.run.Given as goal
 

@@ -2,7 +2,7 @@ use Rattle.std.proofs.Common.{◌≡◌, ℕ, ◌+◌, ◌*◌, ◌<◌, ◌∙�
 use Rattle.std.proofs.lemmas.List.{take_more, get_or_default}
 use Rattle.sat_formula.specs.declared.lit.Lit.{Lit}
 use Rattle.plain_solver.specs.inner.Occurrences.{code_of, places_at}
-use Rattle.plain_solver.proofs.ChainLemmas.{no_entry}
+use Rattle.watched_search.proofs.TrailLemmas.{no_entry}
 use Rattle.plain_solver.proofs.OccurrenceLemmas.{adds_more, code_below}
 use Rattle.plain_solver.proofs.occurrences.Occurrences.add.Goals as goal
 
