@@ -125,7 +125,7 @@ by_name flat x part e h true k r =
     subst (Told flat (Means flat x)) g.same (expansion_told flat x part h k g.clear)
 
 module _ (flat : Flat) (known : IsTrue (are_known flat)) where
-  definitions : IsTrue (definitions_known flat.defs [])
+  pub definitions : IsTrue (definitions_known flat.defs [])
   definitions = and_left (definitions_known flat.defs []) (list_all (λ e. uses_known (with_lambdas e) (arities_of flat.defs [])) flat.assumes) known
 
   name_told : (x : List ℕ) (part : PartKind) (e : Expr) → expand_answer flat x part ≡ Gives e → Told flat (Means flat x) e

@@ -27,3 +27,4 @@ pub mod SpotLemmas
 pub mod BuildSteps
 pub mod MarkSteps
 pub mod NamingSteps
+pub mod ExpandSteps

@@ -5,3 +5,4 @@ pub mod Frames
 pub mod Spots
 pub mod Building
 pub mod Naming
+pub mod Expanding

@@ -9,10 +9,10 @@ use std::alloc::Global;
 use tla_meaning::{Expr, Form, Op, Place};
 use tla_values::{Text, copy_text};
 
-const NODES: u64 = 1_000_000;
+pub(crate) const NODES: u64 = 1_000_000;
 
 // At most so many, so no stack overflows.
-const LEVELS: usize = 400;
+pub(crate) const LEVELS: usize = 400;
 
 /// A tree within the limits that reaches no form, where its nodes are counted.
 pub(crate) fn checked(

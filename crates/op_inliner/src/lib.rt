@@ -12,6 +12,7 @@
 mod bodies;
 mod checks;
 mod counts;
+mod expanding;
 mod frames;
 mod naming;
 mod parts;
@@ -22,6 +23,7 @@ mod sums;
 mod theorems;
 mod trees;
 
+pub use expanding::{expand, job_of};
 pub use parts::{InlineFault, PartKind};
 pub use theorems::{
     captured_names_are_fresh, jobs_mean_their_definitions, trees_mean_their_definitions,

@@ -184,7 +184,8 @@ pub(crate) fn nodes_of_assumed(
     assumed: &Expr,
     scope: &mut Vec<Entry>,
 ) -> Result<u64, AllocError>
-    ensures { IfOk result (λ n. n ≡ up_to limit (summed assumed.now 0 (scope_of scope.old.items)).tree.base) }
+    ensures counted { IfOk result (λ n. n ≡ up_to limit (summed assumed.now 0 (scope_of scope.old.items)).tree.base) }
+    ensures kept { OnOk result (scope_of scope.new.items ≡ scope_of scope.old.items) }
 {
     let counted = summed(alloc, assumed, 0, scope)?;
     Ok(cut(counted.tree.base))

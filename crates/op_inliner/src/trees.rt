@@ -264,7 +264,7 @@ impl Part {
 impl Part {
     // The tree of a spot.
     #[cycle(tree)]
-    fn tree<'a>(
+    pub(crate) fn tree<'a>(
         self,
         spot: Spot<'a>,
         left: usize,
