@@ -7,7 +7,7 @@ use Rattle.op_inliner.proofs.expanding.is_operator.Given as goal
 abbrev pub invariant-loop-i : goal.invariant-loop-i
 invariant-loop-i l = record {
   within : l.i ≤ length l.defs;
-  same : find_last l.name (map arity_of (take l.i l.defs)) ≡ find_last l.name (arities_of l.defs [])
+  same : find_last l.name (map arity_of (take l.i l.defs)) ≡ find_last l.name (arities_of l.defs []);
 }
 
 abbrev pub decreases-loop-i : goal.decreases-loop-i
