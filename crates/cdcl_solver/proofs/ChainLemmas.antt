@@ -176,8 +176,3 @@ pub reasons_below : (known : List (List Lit)) (T : List Lit) (es : List Entry) �
 reasons_below known T [] c = All-nil (λ e. IfSome e.reason (λ c. c < length known))
 reasons_below known T (e ∷ es) c =
     All-cons (λ e. IfSome e.reason (λ c. c < length known)) e es (reason_below known T e.lit e.reason c.0.why) (reasons_below known (T ++ e.lit ∷ []) es c.1)
-
--- forced entries decide nothing
-pub Forced-none : (known : List (List Lit)) (T : List Lit) (es : List Entry) → Forced known T es → decisions es ≡ []
-Forced-none known T [] f = refl
-Forced-none known T (e ∷ es) f = rw (f.0.1, Forced-none known (T ++ e.lit ∷ []) es f.1) refl

@@ -32,8 +32,8 @@ struct Causes {
 
 /// The clause of the first unique point: the negation of the first literal of the last level that
 /// all causes of the conflict pass through, with the negations of the earlier literals that they
-/// begin at. A literal is left out where its reason's other literals are causes too, and each one
-/// that is true before the first decision. The variables that were seen are marked. (Zhang, Madigan,
+/// begin at. A literal is left out where its reason's other literals are causes too, and mostly each
+/// one that is true before the first decision. The variables that were seen are marked. (Zhang, Madigan,
 /// Moskewicz and Malik, "Efficient Conflict Driven Learning in a Boolean Satisfiability Solver",
 /// 2001; Sörensson and Biere, "Minimizing Learned Clauses", 2009.)
 pub fn first_unique_point(
@@ -100,22 +100,42 @@ impl Causes {
     }
 
     // Marks all that the marked literals before the first decision come from, so that none of them
-    // is wanted in the clause.
+    // is wanted in the clause. Where that is far more than what was marked, it leaves all as it is,
+    // since each needs a hint.
     fn follow_roots(
         &mut self,
         search: &Search,
         marks: &mut Marks,
         first: usize,
     ) -> Result<(), AllocError> {
+        let marked = marks.list().len();
+        let earlier = self.earlier.len();
         for next in 0..search.vars() {
             if next >= self.earlier.len() {
                 return Ok(());
             }
+            if marks.list().len() / 8 > marked.saturating_add(8) {
+                marks.cut(marked);
+                self.earlier.truncate(earlier);
+                return Ok(());
+            }
             let place = self.earlier[next];
-            if place < first {
-                if let Some(c) = reason_at(search, place) {
-                    self.see_all(search, marks, c)?;
-                }
+            self.follow_root(search, marks, place, first)?;
+        }
+        Ok(())
+    }
+
+    // Marks what the literal at this place comes from, if it is before the first decision.
+    fn follow_root(
+        &mut self,
+        search: &Search,
+        marks: &mut Marks,
+        place: usize,
+        first: usize,
+    ) -> Result<(), AllocError> {
+        if place < first {
+            if let Some(c) = reason_at(search, place) {
+                self.see_all(search, marks, c)?;
             }
         }
         Ok(())

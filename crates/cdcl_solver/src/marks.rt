@@ -40,13 +40,13 @@ impl Marks {
         self.list.as_slice()
     }
 
-    /// Takes every mark away.
-    pub fn clear(&mut self) {
-        for v in &self.list {
+    /// Takes away all marks but the first `keep`.
+    pub fn cut(&mut self, keep: usize) {
+        for v in self.list.as_slice().iter().skip(keep) {
             if *v < self.marked.len() {
                 self.marked[*v] = false;
             }
         }
-        self.list.clear();
+        self.list.truncate(keep);
     }
 }

@@ -274,7 +274,7 @@ fn propose(
 ) -> Result<Option<Candidate>, AllocError>
     ensures { OnOk result (solver.new ≡ record solver.old { marks = solver.new.marks }) }
 {
-    solver.marks.clear();
+    solver.marks.cut(0);
     let proposed = first_unique_point(
         alloc,
         &solver.search,
