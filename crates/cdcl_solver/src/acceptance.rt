@@ -78,7 +78,8 @@ fn has_second(lits: &[Lit], search: &Search, levels: &[usize], level: usize, u: 
     requires below { All (IsBelow search.now.vars) lits.now }
     requires levels { levels.now ≡ levels_from 0 search.now.entries }
     requires level { level < length levels.now }
-    ensures { IsTrue result → HasSecond lits.now u [] (take (start_of search.now.entries level) search.now.entries) }
+    ensures { IsTrue result →
+        HasSecond lits.now u [] (take (start_of search.now.entries level) search.now.entries) }
 {
     if level == 0 {
         return true;

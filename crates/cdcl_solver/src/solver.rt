@@ -59,7 +59,8 @@ impl Solver {
     /// The formula's clauses with that of the one literal, where nothing is true yet.
     pub fn new(alloc: Global, formula: &Formula, assume: Lit) -> Result<Solver, AllocError>
         requires { assume.var < formula.now.vars }
-        ensures { IfOk result (λ s. IsBegun (record formula.now { clauses = clauses_with formula.now assume }) s) }
+        ensures { IfOk result (λ s.
+            IsBegun (record formula.now { clauses = clauses_with formula.now assume }) s) }
     {
         let cnf = formula.with_unit(alloc, assume)?;
         let vars = cnf.vars;
@@ -147,7 +148,8 @@ fn step(
 fn proceed(solver: &mut Solver) -> Result<Next, AllocError>
     requires solving { IsSolving solver.old }
     requires found { IsFound solver.old.search None }
-    ensures { IfOk result (λ n. (budget : _) → IsUnspent budget solver.old.steps → IsStepped budget solver.old solver.new n) }
+    ensures { IfOk result (λ n. (budget : _) → IsUnspent budget solver.old.steps →
+        IsStepped budget solver.old solver.new n) }
 {
     let Some(l) = solver.deciding.next() else {
         return Ok(Next::Ends(End::Satisfied));
