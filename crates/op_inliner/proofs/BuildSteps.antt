@@ -1,5 +1,5 @@
 -- What is built of a spot, by its node.
-use Rattle.std.proofs.Common.{◌≡◌, ◌≤◌, ◌<◌, ◌⊎◌, inl, inr, ℕ, zero, suc, ◌+◌, ◌-◌, Bool, true, false, IsTrue, List, [], ◌∷◌, ◌++◌, get_or, length, map, take, Option, Some, None, Result, Ok, Err, arith, refl, ap, ap₂, ◌∙◌, sym, subst, if◌then◌else◌}
+use Rattle.std.proofs.Common.{◌≡◌, ◌≤◌, ◌<◌, ◌⊎◌, inl, inr, ℕ, zero, suc, ◌+◌, ◌-◌, Bool, true, false, List, [], ◌∷◌, ◌++◌, get_or, length, map, take, Result, Err, arith, refl, ap, ap₂, ◌∙◌, sym, subst, if◌then◌else◌}
 use Rattle.std.proofs.lemmas.List.{take_more}
 use Rattle.tla_meaning.specs.declared.expr.Expr.{Expr, out-Expr, roll-Expr}
 use Rattle.tla_meaning.specs.declared.op.Op.{Op}
@@ -8,22 +8,21 @@ use Rattle.tla_meaning.specs.declared.place.Place.{Place}
 use Rattle.tla_meaning.specs.Meaning.{role}
 use Rattle.tla_meaning.specs.Scopes.{find_last}
 use Rattle.op_inliner.specs.declared.frames.Frame.{Frame}
-use Rattle.op_inliner.specs.declared.parts.PartKind.{PartKind}
 use Rattle.op_inliner.specs.declared.spots.Spot.{Spot}
 use Rattle.op_inliner.specs.declared.trees.Node.{Node}
 use Rattle.op_inliner.specs.declared.trees.Part.{Part}
 use Rattle.op_inliner.specs.declared.trees.Stop.{Stop}
 use Rattle.op_inliner.specs.declared.trees.Stop.TheVariants as stop
 use Rattle.op_inliner.specs.Answers.{depth, greatest}
-use Rattle.op_inliner.specs.Inlining.{Names, Writing, bind_names, children, level_names, new_name, rename_held, written}
+use Rattle.op_inliner.specs.Inlining.{Names, Writing, bind_names, children, level_names, new_name, written}
 use Rattle.op_inliner.specs.Primes.{Turned, equation, inner_node, kept_of, kept_trees, stays, tree_of, tuple_of, turned, turned_node, turned_trees}
 use Rattle.op_inliner.specs.inner.Building.{Builds, BuildsAll, IsChild, IsNode, IsOpened, binds_at, child_trees, equation_of, first, is_plain, kept_children, marks_in, op_at, seen, spot_of, turned_at}
-use Rattle.op_inliner.specs.inner.Frames.{Grown, names_at}
-use Rattle.op_inliner.specs.inner.Spots.{IsBelow, IsRoot, Sight, aside, is_noted, seen_under, sight, stands_aside}
+use Rattle.op_inliner.specs.inner.Frames.{names_at}
+use Rattle.op_inliner.specs.inner.Spots.{IsBelow, IsRoot, Sight, aside, is_noted, seen_under, stands_aside}
 use Rattle.op_inliner.proofs.CheckSteps.{depth-roll, depth_out, greatest_first, greatest_rest}
-use Rattle.op_inliner.proofs.FrameLemmas.{grown_length, grown_names}
+use Rattle.op_inliner.proofs.FrameLemmas.{grown_names}
 use Rattle.op_inliner.proofs.Rolls.{turned-roll}
-use Rattle.op_inliner.proofs.SpotLemmas.{node_written, pair_is, seen_node, sight_stays, single_is, written_is}
+use Rattle.op_inliner.proofs.SpotLemmas.{node_written, seen_node, sight_stays}
 
 -- ---- no level is left
 

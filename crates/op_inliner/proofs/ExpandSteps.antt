@@ -1,14 +1,12 @@
 -- What is built of a module's expressions.
-use Rattle.std.proofs.Common.{◌≡◌, ◌<◌, ◌≤◌, ℕ, suc, Bool, true, false, List, [], ◌∷◌, ◌++◌, map, filter, drop, get_or, length, ◌+◌, nat_lt, Result, Ok, Err, IfOk, IsTrue, Option, arith, refl, ap, ◌∙◌, sym, subst, if◌then◌else◌}
-use Rattle.std.proofs.lemmas.Bool.{ltb-true, ltb-false}
+use Rattle.std.proofs.Common.{◌≡◌, ◌<◌, ◌≤◌, ℕ, suc, Bool, true, List, [], ◌∷◌, ◌++◌, map, drop, get_or, length, ◌+◌, Result, Ok, Err, IfOk, IsTrue, Option, arith, refl, ap, ◌∙◌, sym, subst, if◌then◌else◌}
 use Rattle.std.proofs.lemmas.List.{append-nil, append_assoc, drop_all, drop_more}
 use Rattle.tla_meaning.specs.declared.expr.Def.{Def}
 use Rattle.tla_meaning.specs.Scopes.{find_last}
 use Rattle.op_inliner.specs.Known.{Arities, arities_of, wants}
 use Rattle.op_inliner.specs.declared.parts.InlineFault.{InlineFault}
 use Rattle.op_inliner.specs.declared.parts.InlineFault.TheVariants.{Memory, NoOperator, Reached, TooDeep, TooLarge}
-use Rattle.op_inliner.specs.declared.parts.PartKind.TheVariants.{Constants, Inv, Start, Step}
-use Rattle.tla_meaning.specs.declared.expr.Decl.{Decl}
+use Rattle.op_inliner.specs.declared.parts.PartKind.TheVariants.{Inv, Start, Step}
 use Rattle.tla_meaning.specs.declared.expr.Expr.{Expr}
 use Rattle.tla_meaning.specs.declared.modules.Flat.{Flat}
 use Rattle.tla_meaning.specs.Renamings.{Renaming}
@@ -18,15 +16,14 @@ use Rattle.op_inliner.specs.declared.parts.PartKind.{PartKind}
 use Rattle.op_inliner.specs.declared.spots.Spot.{Spot}
 use Rattle.op_inliner.specs.declared.trees.Part.{Part}
 use Rattle.op_inliner.specs.declared.trees.Stop.{Stop}
-use Rattle.op_inliner.specs.declared.trees.Stop.TheVariants as stop
-use Rattle.op_inliner.specs.Answers.{Answer, Gives, IsAnswered, Refuses, checked, expand_answer, assume_answer, cinit_answer, invs_answer, job_answer, then_with, depth, forms, greatest, size, up_to, without_forms}
+use Rattle.op_inliner.specs.Answers.{Answer, Gives, IsAnswered, Refuses, checked, expand_answer, assume_answer, cinit_answer, invs_answer, job_answer, then_with, depth, greatest, size, up_to}
 use Rattle.op_inliner.specs.Expansion.{assumed, assumptions_expanded, expansion, finish, first_place, is_constant}
-use Rattle.op_inliner.specs.Inlining.{Names, Writing, names_of_module, no_names, with_names, written}
+use Rattle.op_inliner.specs.Inlining.{Writing, names_of_module, no_names, with_names, written}
 use Rattle.op_inliner.specs.NamesBack.{opened, with_names_back}
 use Rattle.op_inliner.specs.Primes.{turned}
 use Rattle.op_inliner.specs.inner.Building.{Builds, first, seen}
 use Rattle.op_inliner.specs.inner.Expanding.{IsReady, finished, use_of}
-use Rattle.op_inliner.specs.inner.Frames.{Opens, names_at}
+use Rattle.op_inliner.specs.inner.Frames.{Opens}
 use Rattle.op_inliner.specs.inner.Naming.{news, renaming}
 use Rattle.op_inliner.specs.inner.Sums.{Scope, definitions_sums, nodes_of, scope_of, summed}
 use Rattle.tla_meaning.specs.declared.op.Op.TheVariants as op

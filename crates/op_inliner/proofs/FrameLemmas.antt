@@ -1,5 +1,5 @@
 -- Frames that grow, and what stands at a frame.
-use Rattle.std.proofs.Common.{◌≡◌, ◌≤◌, ◌<◌, ℕ, zero, suc, ◌+◌, ◌-◌, Bool, true, false, List, [], ◌∷◌, ◌++◌, fold, get_or, length, map, min, take, drop, zip, Bor, Option, Some, None, if◌then◌else◌, arith, refl, ap, ap₂, ◌∙◌, sym, subst}
+use Rattle.std.proofs.Common.{◌≡◌, ◌≤◌, ◌<◌, ℕ, zero, suc, ◌+◌, ◌-◌, Bool, true, false, List, [], ◌∷◌, ◌++◌, fold, get_or, length, map, min, take, drop, zip, Bor, Some, None, if◌then◌else◌, arith, refl, ap, ap₂, ◌∙◌, sym}
 use Rattle.std.proofs.lemmas.Grind.{fold-append}
 use Rattle.std.proofs.lemmas.List.{append-nil, append_assoc, drop-drop, drop_all, drop_min, drop_more, length-drop, take-append-drop, take_min}
 use Rattle.tla_meaning.specs.declared.expr.Def.{Def}
@@ -7,14 +7,13 @@ use Rattle.tla_meaning.specs.declared.expr.Expr.{Expr}
 use Rattle.tla_meaning.specs.Scopes.{find_last, or_else, same_text}
 use Rattle.tla_meaning.proofs.Laws.{find-append}
 use Rattle.op_inliner.proofs.GivenBack.{same_is}
-use Rattle.op_inliner.specs.declared.frames.Closure.{Closure}
 use Rattle.op_inliner.specs.declared.frames.Frame.{Frame}
 use Rattle.op_inliner.specs.declared.frames.Stands.{Stands}
 use Rattle.op_inliner.specs.declared.frames.Stands.TheVariants as stands
 use Rattle.op_inliner.specs.Annotations.{body_of}
-use Rattle.op_inliner.specs.Inlining.{Names, Tree, Writing, bind_names, define_name, let_names, level_name, level_names, no_names, pass_names, trees, with_names, written}
+use Rattle.op_inliner.specs.Inlining.{Names, Tree, bind_names, define_name, let_names, level_name, level_names, no_names, pass_names, trees, with_names, written}
 use Rattle.op_inliner.specs.inner.Bodies.{bodies_of}
-use Rattle.op_inliner.specs.inner.Frames.{Grown, IsFound, Opens, all_names, closed, closure_of, deeper, levelled, names_at, names_in, one_frame, with_frame, with_one}
+use Rattle.op_inliner.specs.inner.Frames.{Grown, Opens, all_names, closed, deeper, names_at, names_in, one_frame, with_frame, with_one}
 
 -- ---- lists of names
 

@@ -28,3 +28,4 @@ pub mod BuildSteps
 pub mod MarkSteps
 pub mod NamingSteps
 pub mod ExpandSteps
+pub mod KnowSteps

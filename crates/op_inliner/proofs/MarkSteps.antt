@@ -1,6 +1,6 @@
 -- Marks of the children of an EXCEPT.
-use Rattle.std.proofs.Common.{◌≡◌, ◌<◌, ℕ, suc, ◌+◌, Bool, true, false, List, [], ◌∷◌, ◌++◌, get_or, length, replicate, take, arith, refl, ap, ◌∙◌, sym}
-use Rattle.std.proofs.lemmas.List.{append-nil, append_assoc, take_more}
+use Rattle.std.proofs.Common.{◌≡◌, ◌<◌, ℕ, ◌+◌, Bool, true, false, List, [], ◌∷◌, ◌++◌, get_or, length, replicate, take, refl, ap, ◌∙◌, sym}
+use Rattle.std.proofs.lemmas.List.{append_assoc, take_more}
 use Rattle.tla_meaning.specs.Meaning.{except_marks}
 
 except_more : (ns : List ℕ) (n : ℕ) → except_marks (ns ++ n ∷ []) ≡ except_marks ns ++ (replicate n false ++ true ∷ [])

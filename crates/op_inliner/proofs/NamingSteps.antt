@@ -1,9 +1,8 @@
 -- Steps of giving names back.
-use Rattle.std.proofs.Common.{◌≡◌, ◌≤◌, ◌<◌, ℕ, zero, suc, ◌+◌, ◌-◌, Bool, true, false, cond, List, [], ◌∷◌, ◌++◌, drop, get_or, length, map, replicate, take, zip, nat_lt, Option, Some, None, arith, refl, ap, ap₂, ◌∙◌, sym, subst, if◌then◌else◌}
+use Rattle.std.proofs.Common.{◌≡◌, ◌≤◌, ◌<◌, ℕ, suc, ◌+◌, ◌-◌, Bool, true, false, List, [], ◌∷◌, ◌++◌, drop, get_or, length, map, replicate, take, zip, nat_lt, Option, Some, None, arith, refl, ap, ap₂, ◌∙◌, sym, if◌then◌else◌}
 use Rattle.std.specs.Bool.{beq}
 use Rattle.std.proofs.lemmas.List.{append-nil, append_assoc, drop_all, take_more}
 use Rattle.tla_meaning.specs.declared.expr.Expr.{Expr, out-Expr, roll-Expr, roll-out-Expr}
-use Rattle.tla_meaning.specs.declared.expr.Expr.TheOpen.{Expr-F}
 use Rattle.tla_meaning.specs.declared.expr.Expr.TheFolds.{map-Expr}
 use Rattle.tla_meaning.specs.declared.op.Op.{Op}
 use Rattle.tla_meaning.specs.declared.op.Op.TheVariants as op
@@ -13,7 +12,7 @@ use Rattle.tla_meaning.specs.Renamings.{Renaming}
 use Rattle.tla_meaning.specs.Scopes.{find_last, or_else, same_text}
 use Rattle.tla_meaning.proofs.Laws.{find-append}
 use Rattle.op_inliner.specs.declared.naming.Binder.{Binder}
-use Rattle.op_inliner.specs.NamesBack.{Open, all_binds, among, backs, either_name, free_names, inner_reads, longer_name, longest, new_names, open_node, opened, outer_reads, own_names, renamed_to, without}
+use Rattle.op_inliner.specs.NamesBack.{Open, all_binds, among, backs, either_name, inner_reads, longer_name, longest, new_names, open_node, opened, outer_reads, own_names, renamed_to, without}
 use Rattle.op_inliner.specs.inner.Building.{marks_in}
 use Rattle.op_inliner.specs.inner.Naming.{Pairs, back_binds, back_op, backs_at, binds_names, child_back, longest_from, news, own_binds, own_read, reads_of, renaming}
 use Rattle.op_inliner.proofs.BuildSteps.{length_taken, map_more}

@@ -1,7 +1,6 @@
 -- What a spot becomes, followed to the root of its tree.
-use Rattle.std.proofs.Common.{◌≡◌, ◌≤◌, ◌<◌, ◌⊎◌, inl, inr, ℕ, zero, suc, Bool, true, false, IsTrue, List, [], ◌∷◌, ◌++◌, get_or, length, map, Option, Some, None, Bor, arith, refl, ap, ap₂, ◌∙◌, sym, subst, if◌then◌else◌}
-use Rattle.tla_meaning.specs.declared.expr.Expr.{Expr, out-Expr, roll-Expr, roll-out-Expr}
-use Rattle.tla_meaning.specs.declared.expr.Expr.TheOpen.{Expr-F}
+use Rattle.std.proofs.Common.{◌≡◌, ◌≤◌, ◌<◌, inl, inr, ℕ, zero, suc, Bool, true, false, IsTrue, List, [], ◌∷◌, get_or, length, map, Option, Some, None, arith, refl, ap, ap₂, ◌∙◌, sym, subst, if◌then◌else◌}
+use Rattle.tla_meaning.specs.declared.expr.Expr.{Expr, out-Expr, roll-out-Expr}
 use Rattle.tla_meaning.specs.declared.op.Op.{Op}
 use Rattle.tla_meaning.specs.declared.op.Op.TheVariants as op
 use Rattle.tla_meaning.specs.declared.place.Place.{Place}
@@ -13,8 +12,8 @@ use Rattle.op_inliner.specs.declared.parts.PartKind.{PartKind}
 use Rattle.op_inliner.specs.declared.spots.Spot.{Spot}
 use Rattle.op_inliner.specs.Inlining.{Names, Tree, Writing, called, let_names, level_names, pass_names, tree_at, trees, write, written}
 use Rattle.op_inliner.specs.Primes.{Turned, equation, turned, turned_node}
-use Rattle.op_inliner.specs.inner.Frames.{Grown, IsFound, Opens, closed, closure_of, names_at}
-use Rattle.op_inliner.specs.inner.Spots.{IsBelow, IsOperand, IsRoot, Leads, Reaches, UnderNotes, Sight, Steps, aside, is_noted, is_use, seen_under, sight, stands_aside}
+use Rattle.op_inliner.specs.inner.Frames.{Grown, IsFound, Opens, names_at}
+use Rattle.op_inliner.specs.inner.Spots.{IsOperand, IsRoot, Leads, Reaches, UnderNotes, Sight, Steps, aside, is_use, seen_under, sight}
 use Rattle.op_inliner.proofs.FrameLemmas.{grown_length, grown_more, grown_names, grown_same}
 use Rattle.op_inliner.proofs.Inlined.{written-roll}
 use Rattle.op_inliner.proofs.Rolls.{turned-roll}

@@ -6,3 +6,4 @@ pub mod Spots
 pub mod Building
 pub mod Naming
 pub mod Expanding
+pub mod Knowing

@@ -4,9 +4,12 @@
 //! definition's body, with its arguments by name, primes stand at the variables, and UNCHANGED is spelled out. The
 //! tree means what the definition means in the module (Specifying Systems, section 17.1).
 //!
-//! `theorems` says so of the answers as definitions. `bodies` are what each use stands for: LAMBDAs in folds, and the
-//! annotation at the result and at each argument. `passes` (over `scope`, `counts` and `sums`) counts the nodes of the
-//! trees without building them, in one pass over each body. `checks` tests a built tree.
+//! Begin with `expanding`, the public calls: an operator's nodes are counted, then its tree is built, then its bound names
+//! are given back. `passes` (over `scope`, `counts` and `sums`) counts without a tree, in one pass over each body.
+//! `trees` builds from the root on, no deeper than a tree may be, with primes at the variables; where a root stands is
+//! found in loops (`spots`), over names and what they stand for (`frames`). `naming` gives bound names back. `bodies` are
+//! what each use stands for: LAMBDAs in folds, and the annotation at the result and at each argument. `checks` tests a
+//! built tree. `theorems` are laws of the definitions.
 #![tactic(auto)]
 
 mod bodies;
@@ -14,6 +17,7 @@ mod checks;
 mod counts;
 mod expanding;
 mod frames;
+mod known;
 mod naming;
 mod parts;
 mod passes;
@@ -24,6 +28,7 @@ mod theorems;
 mod trees;
 
 pub use expanding::{expand, job_of};
+pub use known::is_known;
 pub use parts::{InlineFault, PartKind};
 pub use theorems::{
     captured_names_are_fresh, jobs_mean_their_definitions, trees_mean_their_definitions,

@@ -4,10 +4,9 @@ use Rattle.tla_meaning.specs.declared.expr.Expr.{Expr, out-Expr}
 use Rattle.tla_meaning.specs.declared.op.Op.{Op}
 use Rattle.tla_meaning.specs.declared.op.Op.TheVariants as op
 use Rattle.tla_meaning.specs.declared.place.Place.{Place}
-use Rattle.tla_meaning.specs.Meaning.{Held, Lets, Named, Plain_role, Role, role}
+use Rattle.tla_meaning.specs.Meaning.{Plain_role, Role, role}
 use Rattle.tla_meaning.specs.Scopes.{find_last}
 use Rattle.op_inliner.specs.declared.frames.Frame.{Frame}
-use Rattle.op_inliner.specs.declared.parts.PartKind.{PartKind}
 use Rattle.op_inliner.specs.declared.spots.Spot.{Spot}
 use Rattle.op_inliner.specs.declared.trees.Node.{Node}
 use Rattle.op_inliner.specs.declared.trees.Part.{Part}

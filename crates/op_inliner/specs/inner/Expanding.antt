@@ -2,7 +2,6 @@
 use Rattle.std.specs.Prelude.{◌≡◌, ℕ, Bool, IsTrue, List, [], filter, length, not, if◌then◌else◌}
 use Rattle.tla_meaning.specs.declared.expr.Decl.{Decl}
 use Rattle.tla_meaning.specs.declared.expr.Expr.{Expr}
-use Rattle.tla_meaning.specs.declared.modules.Flat.{Flat}
 use Rattle.op_inliner.specs.declared.expanding.Module.{Module}
 use Rattle.op_inliner.specs.declared.parts.PartKind.{PartKind}
 use Rattle.tla_meaning.specs.declared.op.Op.TheVariants as op

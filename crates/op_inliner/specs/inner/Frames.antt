@@ -1,6 +1,5 @@
 -- What the names of a list of frames stand for.
-use Rattle.std.specs.Prelude.{◌≡◌, ◌≤◌, ℕ, suc, ◌-◌, List, [], ◌∷◌, ◌++◌, fold, get_or, length, Option, Some, None}
-use Rattle.std.proofs.Common.{Bor}
+use Rattle.std.specs.Prelude.{◌≡◌, ◌≤◌, ℕ, ◌-◌, List, [], ◌∷◌, ◌++◌, fold, get_or, length, Option, Some, None}
 use Rattle.tla_meaning.specs.declared.expr.Expr.{Expr}
 use Rattle.op_inliner.specs.declared.frames.Closure.{Closure}
 use Rattle.op_inliner.specs.declared.frames.Frame.{Frame}

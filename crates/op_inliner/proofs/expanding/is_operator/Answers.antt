@@ -1,4 +1,4 @@
-use Rattle.std.proofs.Common.{arith, ◌≡◌, ◌∙◌, ◌+◌, ◌-◌, ◌<◌, ◌==◌, ◌≤◌, ap, sym, length, map, take, List, ℕ}
+use Rattle.std.proofs.Common.{arith, ◌≡◌, ◌∙◌, ◌+◌, ◌-◌, ◌<◌, ◌==◌, ap, sym, length, map, List, ℕ}
 use Rattle.std.proofs.lemmas.List.{take_all}
 use Rattle.tla_meaning.specs.declared.expr.Def.{Def}
 use Rattle.tla_meaning.specs.Scopes.{find_last}

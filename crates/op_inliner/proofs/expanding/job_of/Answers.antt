@@ -1,4 +1,4 @@
-use Rattle.std.proofs.Common.{subst, ◌≡◌, List, ℕ}
+use Rattle.std.proofs.Common.{subst}
 use Rattle.tla_meaning.specs.declared.job.Job.{Job}
 use Rattle.op_inliner.specs.Answers.{Answer, IsAnswered, job_answer}
 use Rattle.op_inliner.specs.inner.Sums.{scope_of}

@@ -1,4 +1,4 @@
-use Rattle.std.proofs.Common.{◌≡◌, ◌-◌, ◌∙◌, ◌∷◌, [], ap, arith, ℕ}
+use Rattle.std.proofs.Common.{◌∙◌, ◌∷◌, [], ap, arith, ℕ}
 use Rattle.op_inliner.specs.Inlining.{bind_names}
 use Rattle.op_inliner.specs.inner.Frames.{names_at}
 use Rattle.op_inliner.proofs.FrameLemmas.{back_again, one_opens}

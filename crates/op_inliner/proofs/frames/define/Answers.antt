@@ -1,4 +1,4 @@
-use Rattle.std.proofs.Common.{◌≡◌, ◌-◌, ◌∙◌, ap₂, arith, ℕ}
+use Rattle.std.proofs.Common.{◌∙◌, ap₂, arith, ℕ}
 use Rattle.op_inliner.specs.Inlining.{define_name}
 use Rattle.op_inliner.specs.inner.Frames.{closed, names_at}
 use Rattle.op_inliner.proofs.FrameLemmas.{back_again, one_opens}

@@ -1,4 +1,4 @@
-use Rattle.std.proofs.Common.{arith, refl, ◌+◌, ◌≤◌, length}
+use Rattle.std.proofs.Common.{arith, refl}
 use Rattle.op_inliner.proofs.FrameLemmas.{let_end, let_step}
 use Rattle.op_inliner.proofs.frames.define_all.Goals as goal
 

@@ -1,7 +1,7 @@
-use Rattle.std.proofs.Common.{arith, ◌≡◌, ◌∙◌, ◌-◌, ap, sym, length, ℕ, Some, None}
+use Rattle.std.proofs.Common.{arith, ◌≡◌, ◌∙◌, ap, sym, ℕ}
 use Rattle.tla_meaning.specs.Scopes.{find_last}
 use Rattle.op_inliner.specs.Inlining.{Names}
-use Rattle.op_inliner.specs.inner.Frames.{closed, names_at}
+use Rattle.op_inliner.specs.inner.Frames.{names_at}
 use Rattle.op_inliner.proofs.FrameLemmas.{names_zero, level_hit, level_miss, level_passed}
 use Rattle.op_inliner.proofs.frames.find_level.Goals as goal
 use Rattle.op_inliner.proofs.frames.find_level.Goals.{in-Bound+else-same_name, in_default}

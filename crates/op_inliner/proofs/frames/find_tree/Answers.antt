@@ -1,4 +1,4 @@
-use Rattle.std.proofs.Common.{arith, ◌≡◌, ◌∙◌, ◌-◌, ap, sym, length, ℕ, Some, None}
+use Rattle.std.proofs.Common.{arith, ◌≡◌, ◌∙◌, ap, sym, ℕ, Some}
 use Rattle.tla_meaning.specs.Scopes.{find_last}
 use Rattle.op_inliner.specs.Inlining.{Names}
 use Rattle.op_inliner.specs.inner.Frames.{closed, names_at}

@@ -1,4 +1,4 @@
-use Rattle.std.proofs.Common.{arith, ◌+◌, ◌≤◌, length}
+use Rattle.std.proofs.Common.{arith}
 use Rattle.op_inliner.proofs.FrameLemmas.{pass_end, pass_step}
 use Rattle.op_inliner.proofs.frames.pass.Goals as goal
 

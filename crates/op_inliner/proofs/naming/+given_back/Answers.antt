@@ -1,5 +1,5 @@
-use Rattle.std.proofs.Common.{◌∙◌, ap, sym, refl, List, ℕ}
-use Rattle.op_inliner.specs.inner.Naming.{Pairs, back_binds, back_op, backs_at, child_back, renaming}
+use Rattle.std.proofs.Common.{◌∙◌, ap, refl}
+use Rattle.op_inliner.specs.inner.Naming.{Pairs, child_back}
 use Rattle.op_inliner.proofs.NamingSteps.{back_is, backs_step}
 use Rattle.op_inliner.proofs.naming.+given_back.Goals as goal
 

@@ -1,4 +1,4 @@
-use Rattle.std.proofs.Common.{◌∙◌, ap, sym, refl, Vec, Global, List, ℕ, Bool, ◌++◌, map, true}
+use Rattle.std.proofs.Common.{◌∙◌, ap, Vec, Global, List, ℕ, ◌++◌, map, true}
 use Rattle.op_inliner.specs.inner.Naming.{reads_of}
 use Rattle.op_inliner.proofs.NamingSteps.{reads_done, reads_passed, reads_step, reads_taken}
 use Rattle.op_inliner.specs.NamesBack.{opened}

@@ -1,4 +1,4 @@
-use Rattle.std.proofs.Common.{refl, arith, ◌<◌, length}
+use Rattle.std.proofs.Common.{refl, arith}
 use Rattle.op_inliner.proofs.SpotLemmas.{let_leads}
 use Rattle.op_inliner.proofs.spots.let_body.Goals as goal
 

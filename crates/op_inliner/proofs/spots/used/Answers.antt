@@ -1,4 +1,4 @@
-use Rattle.std.proofs.Common.{refl, subst, sym, List}
+use Rattle.std.proofs.Common.{refl, subst, List}
 use Rattle.tla_meaning.specs.Scopes.{find_last}
 use Rattle.op_inliner.specs.declared.frames.Frame.{Frame}
 use Rattle.op_inliner.specs.inner.Frames.{IsFound, names_at}

@@ -1,7 +1,6 @@
 use Rattle.std.proofs.Common.{◌∙◌, ap, refl, subst, List}
 use Rattle.std.proofs.lemmas.Result.{err_from_is_err_and}
 use Rattle.tla_meaning.specs.declared.expr.Def.{Def}
-use Rattle.tla_meaning.specs.declared.expr.Expr.{Expr}
 use Rattle.op_inliner.specs.Inlining.{no_names, with_names}
 use Rattle.op_inliner.specs.NamesBack.{opened}
 use Rattle.op_inliner.specs.inner.Frames.{Opens}

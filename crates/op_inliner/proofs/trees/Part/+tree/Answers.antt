@@ -1,11 +1,9 @@
-use Rattle.std.proofs.Common.{arith, refl, ◌≡◌, ◌∙◌, ◌<◌, ◌-◌, ap, sym, inl, inr, Err, ℕ, suc, List}
+use Rattle.std.proofs.Common.{arith, ◌∙◌, ◌-◌, ap, sym, Err, List}
 use Rattle.std.proofs.lemmas.Result.{err_from_is_err_and}
-use Rattle.tla_meaning.specs.declared.expr.Expr.{Expr, out-Expr, roll-Expr}
-use Rattle.tla_meaning.specs.declared.op.Op.TheVariants as op
+use Rattle.tla_meaning.specs.declared.expr.Expr.{out-Expr}
 use Rattle.op_inliner.specs.declared.frames.Frame.{Frame}
-use Rattle.op_inliner.specs.inner.Building.{equation_of, op_at, seen}
+use Rattle.op_inliner.specs.inner.Building.{op_at}
 use Rattle.op_inliner.specs.inner.Frames.{names_at}
-use Rattle.op_inliner.specs.Primes.{inner_node, stays}
 use Rattle.op_inliner.proofs.BuildSteps.{angled_seen, boxed_seen, child_fails, children_fail, children_step, deep_any, first_fails, item_fails, items_step, moved_changed, moved_kept, moved_tree, next_fails, now_fails, kept_by_tuple, kept_equation, kept_lacking, node_made, node_seen, root_tree, same_built, same_tree, second_fails, single_fails, unchanged_seen}
 use Rattle.op_inliner.proofs.SpotLemmas.{pair_is, single_is}
 use Rattle.op_inliner.proofs.trees.Part.+tree.Goals as goal

@@ -1,4 +1,4 @@
-use Rattle.std.proofs.Common.{◌≡◌, ◌+◌, ◌*◌, [], map, take}
+use Rattle.std.proofs.Common.{◌≡◌, ◌+◌, ◌*◌, [], take}
 use Rattle.tla_meaning.specs.declared.expr.Expr.{out-Expr}
 use Rattle.op_inliner.specs.Primes.{kept_trees, turned_trees}
 use Rattle.op_inliner.specs.inner.Building.{turned_at}
