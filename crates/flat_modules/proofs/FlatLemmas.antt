@@ -1,11 +1,12 @@
 -- Items of a flat module, one by one.
-use Rattle.std.proofs.Common.{◌≡◌, ◌∙◌, List, [], ◌∷◌, ◌++◌, map, refl, ap, sym}
+use Rattle.std.proofs.Common.{IfOk, Result, Ok, Err, subst, ℕ, ◌≡◌, ◌∙◌, List, [], ◌∷◌, ◌++◌, map, refl, ap, sym}
 use Rattle.std.proofs.lemmas.List.{map-append}
-use Rattle.tla_meaning.specs.Flattening.{assumptions, declarations, definitions}
+use Rattle.tla_meaning.specs.Flattening.{Modules, assumptions, declarations, declared_names, definitions, known, root_copy}
+use Rattle.tla_meaning.specs.declared.expr.Decl.{Decl}
 use Rattle.tla_meaning.specs.Flattening as flat
 use Rattle.flat_modules.specs.declared.flattening.FlatItems.{FlatItems}
 use Rattle.flat_modules.specs.declared.items.Item.{Item}
-use Rattle.flat_modules.specs.inner.Flat.{Adds, IsSplit}
+use Rattle.flat_modules.specs.inner.Flat.{Adds, IsFlatItems, IsSplit}
 use Rattle.flat_modules.specs.inner.Items.{item_of}
 
 declarations_more : (is : List flat.Item) (i : flat.Item) → declarations (is ++ i ∷ []) ≡ declarations is ++ declarations (i ∷ [])
@@ -37,3 +38,9 @@ split_step {old} {new} is i s a =
       defs = a.defs ∙ ap (λ l. l ++ definitions (j ∷ [])) s.defs ∙ sym (definitions_more js j) ∙ ap definitions more;
       assumes = a.assumes ∙ ap (λ l. l ++ assumptions (j ∷ [])) s.assumes ∙ sym (assumptions_more js j) ∙ ap assumptions more;
     }
+
+pub flat_split : {E : Type 0} (r : Result FlatItems E) (ms : Modules) (x : List ℕ) (ds : List Decl) (is : List flat.Item) → IfOk r (λ f. IsSplit f is) →
+    is ≡ (known ms (root_copy x ds)).items → ds ≡ declared_names ms x → IfOk r (λ f. IsFlatItems f ms x)
+flat_split (Err e) ms x ds is h i d = tt
+flat_split (Ok f) ms x ds is h i d =
+    subst (λ l. IsSplit f (known ms (root_copy x l)).items) d (subst (IsSplit f) i h)

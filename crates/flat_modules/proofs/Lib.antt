@@ -10,3 +10,4 @@ pub mod Mentioning
 pub mod Names
 pub mod Behind
 pub mod Courses
+pub mod Places

@@ -8,3 +8,4 @@ pub mod Gathering
 pub mod Flat
 pub mod Mentions
 pub mod Orders
+pub mod Places

@@ -8,6 +8,7 @@ mod course;
 mod entries;
 mod flattening;
 mod gathering;
+mod index;
 mod instances;
 mod items;
 mod knowing;

@@ -150,6 +150,9 @@ impl Resolving {
     pub(crate) fn tell_repeated(&mut self, new: &Entry) -> Result<(), AllocError>
         ensures { OnOk result (Told self.old self.new (repeated self.old.scope new.now)) }
     {
+        if self.scope.find(new.name.bytes()).is_none() {
+            return Ok(());
+        }
         let told = self.told.take();
         self.told = with_repeated(self.alloc, told, self.scope.entries(), new)?;
         Ok(())

@@ -1,10 +1,11 @@
 // Names in scope.
-ghost use Rattle.std.specs.Prelude.{◌≡◌, ◌∷◌, ◌++◌, ◌≤◌, [], length, take, option_copied, OnOk, IfOk};
+ghost use Rattle.std.specs.Prelude.{◌≡◌, ◌∷◌, ◌++◌, ◌≤◌, ◌<◌, ◌-◌, [], length, take, option_copied, OnOk, IfOk};
 ghost use Rattle.tla_meaning.specs.Flattening.{declared_origins};
 ghost use Rattle.tla_meaning.specs.Scopes.{same_text};
 ghost use Rattle.tla_meaning.specs.Symbols.{entry_of, is_there, serves, with_new};
 
 use crate::entries::{same, same_bytes};
+use crate::index::{Index, key_of};
 use std::alloc::{AllocError, Global};
 use std::marker::Model;
 use tla_meaning::{Entry, Kind};
@@ -14,10 +15,13 @@ use tla_meaning::{Entry, Kind};
 pub(crate) struct Scope {
     alloc: Global,
     entries: Vec<Entry>,
+    // The keys of their names.
+    index: Index,
 }
 
 impl Model for Scope {
-    ghost use Rattle.std.specs.Prelude.{List as Items};
+    ghost use Rattle.std.specs.Prelude.{◌≡◌, List as Items};
+    ghost use Rattle.flat_modules.specs.inner.Places.{keys_of};
     ghost use Rattle.std.specs.Coded.{coded_list, codes};
     ghost use Rattle.tla_meaning.specs.declared.symbols.Entry.{Entry as Name};
     ghost use Rattle.tla_meaning.specs.contracts.symbols.Entry as entry;
@@ -27,6 +31,8 @@ impl Model for Scope {
     ghost coded = { coded_list entry.the_row.coded };
 
     ghost view = { λ s. s.entries.items };
+
+    ghost invariant = { λ s. s.index ≡ keys_of s.entries.items };
 }
 
 impl Scope {
@@ -36,6 +42,7 @@ impl Scope {
         Scope {
             alloc,
             entries: Vec::new(alloc),
+            index: Index::new(alloc),
         }
     }
 
@@ -49,13 +56,13 @@ impl Scope {
     pub(crate) fn find(&self, name: &[u8]) -> Option<&Entry>
         ensures { option_copied result ≡ entry_of name.now self.now }
     {
-        let mut i = self.entries.len();
-        while i > 0 {
-            i -= 1;
-            let entry = &self.entries[i];
+        let mut place = self.index.last(key_of(name));
+        while place > 0 {
+            let entry = &self.entries[place - 1];
             if is_name(entry, name) {
                 return Some(entry);
             }
+            place = self.index.before(place);
         }
         None
     }
@@ -69,7 +76,9 @@ impl Scope {
     pub(crate) fn push(&mut self, entry: Entry) -> Result<(), AllocError>
         ensures { OnOk result (self.new ≡ self.old ++ (entry ∷ [])) }
     {
-        self.entries.push(entry)?;
+        self.entries.reserve(1)?;
+        self.index.push(key_of(entry.name.bytes()))?;
+        self.entries.push_reserved(entry);
         Ok(())
     }
 
@@ -96,14 +105,23 @@ impl Scope {
     pub(crate) fn append(&mut self, entries: Vec<Entry>) -> Result<(), AllocError>
         ensures { OnOk result (self.new ≡ self.old ++ entries.items) }
     {
-        let mut entries = entries;
-        self.entries.append(&mut entries)
+        for entry in entries {
+            self.push(entry)?;
+        }
+        Ok(())
     }
 
     fn is_there(&self, new: &Entry) -> bool
         ensures { result ≡ is_there self.now new.now }
     {
-        self.entries.iter().any(|entry| serves(entry, new))
+        let mut place = self.index.last(key_of(new.name.bytes()));
+        while place > 0 {
+            if serves(&self.entries[place - 1], new) {
+                return true;
+            }
+            place = self.index.before(place);
+        }
+        false
     }
 
     // The origins of the declared names.
@@ -123,7 +141,18 @@ impl Scope {
     pub(crate) fn cut(&mut self, n: usize)
         ensures { self.new ≡ take n self.old }
     {
-        self.entries.truncate(n);
+        while self.entries.len() > n {
+            self.pop();
+        }
+    }
+
+    // Takes the last name out.
+    fn pop(&mut self)
+        requires { 0 < length self.old }
+        ensures { self.new ≡ take (length self.old - 1) self.old }
+    {
+        self.entries.truncate(self.entries.len() - 1);
+        self.index.pop();
     }
 }
 

@@ -8,10 +8,11 @@ ghost use Rattle.flat_modules.specs.inner.Learning.{TellsItems, one_symbol, told
 ghost use Rattle.flat_modules.specs.inner.Instances.{with_item};
 ghost use Rattle.flat_modules.specs.inner.Telling.{Tells, Told, own_count};
 
-use crate::entries::{same, with_repeated};
+use crate::entries::{copy_entry, same, with_repeated};
 use crate::instances::with_definition;
 use crate::items::Item;
 use crate::resolving::Resolving;
+use crate::scope::Scope;
 use std::alloc::AllocError;
 use tla_meaning::{Def, Entry, Expr, Kind, Misuse, Op, Place};
 use tla_values::{Text, copy_text};
@@ -21,19 +22,25 @@ impl Resolving {
     pub(crate) fn tell_names(&mut self, entries: &[Entry]) -> Result<(), AllocError>
         ensures { OnOk result (Told self.old self.new (all_repeated self.old.scope entries.now)) }
     {
-        for i in 0..entries.len() {
-            self.tell_beside(&entries[..i], &entries[i])?;
+        let mut before = Scope::new(self.alloc);
+        for new in entries {
+            self.tell_beside(&before, new)?;
+            let new = copy_entry(self.alloc, new)?;
+            before.push(new)?;
         }
         Ok(())
     }
 
     // Tells where a new name repeats one in scope, or a new one before it.
-    fn tell_beside(&mut self, before: &[Entry], new: &Entry) -> Result<(), AllocError>
+    fn tell_beside(&mut self, before: &Scope, new: &Entry) -> Result<(), AllocError>
         ensures { OnOk result (Told self.old self.new (repeated (self.old.scope ++ before.now) new.now)) }
     {
         self.tell_repeated(new)?;
+        if before.find(new.name.bytes()).is_none() {
+            return Ok(());
+        }
         let told = self.told.take();
-        self.told = with_repeated(self.alloc, told, before, new)?;
+        self.told = with_repeated(self.alloc, told, before.entries(), new)?;
         Ok(())
     }
 

@@ -1,4 +1,4 @@
-use Rattle.std.proofs.Common.{arith, ◌≡◌, ◌-◌, ◌∙◌, suc, ap, sym}
+use Rattle.std.proofs.Common.{arith, ◌-◌, ◌∙◌, ap, sym}
 use Rattle.tla_meaning.specs.ReadingOrder.{is_among}
 use Rattle.tla_meaning.specs.Scopes.{find_last}
 use Rattle.flat_modules.proofs.Courses.{mention_inside}

@@ -1,6 +1,17 @@
+use Rattle.std.proofs.Common.{◌∙◌, ◌++◌, ◌∷◌, [], ap, subst, sym, take}
+use Rattle.std.proofs.lemmas.List.{take_more}
+use Rattle.tla_meaning.specs.Symbols.{repeated}
+use Rattle.flat_modules.specs.inner.Telling.{Told}
 use Rattle.flat_modules.proofs.LearningLemmas.{names_next}
 use Rattle.flat_modules.proofs.resolving.Resolving.tell_names.Goals as goal
 
-pub loop-i-preserved : goal.loop-i-preserved
-loop-i-preserved c =
-    names_next c.args.entries.now c.loop-i.i c.index-entries-i.result c.loop-i-test.true c.index-entries-i.is c.loop-i.invariant c.in_ok-tell_beside.ensures
+pub loop-new-preserved : goal.loop-new-preserved
+loop-new-preserved c =
+    let i = c.loop-new.new-index in
+    let fs = c.args.entries.now in
+    let f = c.new-item.result in (
+      names_next fs i f c.loop-new-test.true c.new-item.is c.loop-new.invariant.0
+          (subst (λ l. Told c.loop-new.self c.tell_beside.new.self (repeated (c.loop-new.self.scope ++ l) f)) c.loop-new.invariant.1 c.in_ok-tell_beside.ensures),
+      c.in_ok-push.ensures ∙ ap (λ l. l ++ c.in_ok-new.new ∷ []) c.loop-new.invariant.1 ∙ ap (λ x. take i fs ++ x ∷ []) (c.in_ok-new.ensures ∙ c.new-item.is)
+          ∙ sym (take_more fs i f c.loop-new-test.true),
+    )
