@@ -29,7 +29,8 @@ pub fn resolve<F: Files>(alloc: Global, root: &str, files: &mut F) -> Result<Fla
         (IsRefused (F.held files.old) root.now) }
 
     // Where the files are told, a flat module is the one answer but for a failed read and want of memory.
-    ensures one { (f : Joined) → IsTold (F.held files.old) → IsFlatModule (F.held files.old) root.now f
+    ensures one { (f : Joined) → IsTold (F.held files.old)
+        → IsFlatModule (F.held files.old) root.now f
         → MatchResult result (λ g. g ≡ f) (λ r. IsOutside r.fault) }
 {
     let root = root.as_bytes();
