@@ -114,13 +114,12 @@ fn put_twice(
     alloc: Global,
     files: &[Text],
     name: &Text,
-    first: Place,
-    second: Place,
+    places: (Place, Place),
     out: &mut Vec<u8>,
 ) -> Result<(), AllocError> {
     put_words(&[b"name ", name.bytes(), b" is declared"], out)?;
-    put_at(alloc, files, b"", first, out)?;
-    put_at(alloc, files, b" and", second, out)
+    put_at(alloc, files, b"", places.0, out)?;
+    put_at(alloc, files, b" and", places.1, out)
 }
 
 fn put_arity(
@@ -154,7 +153,11 @@ fn put_cause(
             put_at(alloc, files, b"", *place, out)
         }
         ModuleFault::Twice(name, first, second) => put_twice(
-            alloc, files, name, *first, *second, out,
+            alloc,
+            files,
+            name,
+            (*first, *second),
+            out,
         ),
         ModuleFault::Arity(place, found, wanted) => put_arity(
             alloc,
