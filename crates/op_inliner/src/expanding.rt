@@ -351,8 +351,10 @@ pub fn job_of(
     invs: &List<Text>,
 ) -> Result<Job, InlineFault>
     requires known { IsTrue (are_known flat.now) }
-    ensures answer { IsAnswered (job_answer flat.now init.now next.now (option_copied cinit.entry) invs.now) result }
-    ensures means { IfOk result (IsJobOf flat.now init.now next.now (option_copied cinit.entry) invs.now) }
+    ensures answer { IsAnswered
+        (job_answer flat.now init.now next.now (option_copied cinit.entry) invs.now) result }
+    ensures means { IfOk result
+        (IsJobOf flat.now init.now next.now (option_copied cinit.entry) invs.now) }
 {
     let defs = flat.defs.as_slice();
     let bodies = bodies_of(alloc, defs)?;
