@@ -2,7 +2,7 @@ use Rattle.std.proofs.Common.{◌≡◌, ℕ, ◌+◌, ◌<◌, ◌≤◌, inl, 
 use Rattle.std.specs.Prelude.{Contains}
 use Rattle.std.specs.Bool.{beq}
 use Rattle.std.proofs.lemmas.Bool.{cases_lt, cases_order}
-use Rattle.std.proofs.lemmas.List.{append-nil, drop-append-le, take-take, take_at, take-map, take_more, length-take, get_or-take, take_all}
+use Rattle.std.proofs.lemmas.List.{append-nil, map-append, drop-append-le, take-take, take_at, take-map, take_more, length-take, get_or-take, take_all}
 use Rattle.std.proofs.lemmas.List.Elements.{All-map, All-weaker, All-contains, All-contains_itself, Contains-append_left, Contains-append_right, Contains-push}
 use Rattle.sat_formula.specs.declared.lit.Lit.{Lit}
 use Rattle.sat_formula.specs.Lit.{IsBelow}
@@ -82,6 +82,13 @@ Chain-learn K D u hu T (e ∷ es) c nu second = (
       let s = second (e ∷ xs) x ys (ap (λ (r : List Entry). e ∷ r) split) none in
       (s.0, (s.1.0, (s.1.1.0, λ t. s.1.1.1 (rw append_assoc at t))))),
 )
+
+-- what is so of a trail is so of its front
+pub not_false_before : (u : Lit) (xs ys : List Entry) → (Contains (lits_of (xs ++ ys)) (negation u) → ⊥) → Contains (lits_of xs) (negation u) → ⊥
+not_false_before u xs ys none has = none (rw (map-append (λ (e : Entry). e.lit) xs ys) (Contains-append_left (lits_of xs) (lits_of ys) (negation u) has))
+
+pub second_before : (D : List Lit) (u : Lit) (xs ys : List Entry) → HasSecond D u [] (xs ++ ys) → HasSecond D u [] xs
+second_before D u xs ys second = λ front e rest split none. second front e (rest ++ ys) (ap (λ (r : List Entry). r ++ ys) split ∙ append_assoc front (e ∷ rest) ys) none
 
 decision_in : (xs : List Entry) (e : Entry) (ys : List Entry) → e.reason ≡ None → Contains (decisions (xs ++ e ∷ ys)) e.lit
 decision_in xs e ys none =

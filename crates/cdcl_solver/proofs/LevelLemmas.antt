@@ -1,5 +1,6 @@
-use Rattle.std.proofs.Common.{◌≡◌, ℕ, suc, ◌+◌, ◌<◌, List, [], ◌∷◌, ◌++◌, length, drop, take, Option, Some, None, get_or, refl, sym, ◌∙◌, ap, subst, arith, append_assoc, length-append}
-use Rattle.std.proofs.lemmas.List.{take_at, take-append-drop, drop_more}
+use Rattle.std.proofs.Common.{◌≡◌, ℕ, suc, ◌+◌, ◌<◌, ◌≤◌, inl, inr, List, [], ◌∷◌, ◌++◌, length, drop, take, Option, Some, None, get_or, refl, sym, ◌∙◌, ap, subst, arith, append_assoc, length-append}
+use Rattle.std.proofs.lemmas.Bool.{cases_lt}
+use Rattle.std.proofs.lemmas.List.{take_at, take-append-drop, take-take, drop_more, get_or-take, length-take}
 use Rattle.sat_formula.specs.declared.lit.Lit.{Lit}
 use Rattle.watched_search.specs.declared.entry.Entry.{Entry}
 use Rattle.watched_search.specs.Searching.{Forced}
@@ -140,3 +141,28 @@ level_start es level lt =
     let at : get_or ls level 0 ≡ length s.front = let place : get_or ls level 0 ≡ 0 + length s.front = s.place in omega arith in
     subst (λ (q : ℕ). Start es (take level ls) q) (sym at)
     (subst (λ (x : List Entry). Start x (take level ls) (length s.front)) (sym s.split) (start_at s.front s.entry s.rest (take level ls) s.decision s.before))
+
+-- where an earlier level begins
+start_before : (es : List Entry) (back level : ℕ) → back < level → level < length (levels_from 0 es) → start_of es back ≤ start_of es level
+start_before es back level lt within =
+    let at : ℕ = start_of es level in
+    let start = level_start es level within in
+    let count = length-take level (levels_from 0 es) in
+    let among : back < length (levels_from 0 (take at es)) = rw start.levels (omega arith) in
+    let inner = level_start (take at es) back among in
+    let same : start_of (take at es) back ≡ start_of es back = ap (λ (ls : List ℕ). get_or ls back 0) start.levels ∙ get_or-take level (levels_from 0 es) back 0 lt in
+    let size = length-take at es in
+    let there : start_of (take at es) back < length (take at es) = inner.within in
+    omega arith
+
+-- what stands before an earlier level is a front of what stands before this one
+pub cut_at : (es : List Entry) (back level : ℕ) → back ≤ level → level < length (levels_from 0 es)
+    → (rest : List Entry) × (take (start_of es level) es ≡ take (start_of es back) es ++ rest)
+cut_at es back level le within =
+    let at : ℕ = start_of es level in
+    let to : ℕ = start_of es back in
+    let before : to ≤ at = elim (cases_lt back level) [
+      | inl lt ↦ start_before es back level lt within
+      | inr ge ↦ (let same : back ≡ level = omega arith in rw same (omega arith))
+    ] in
+    (drop to (take at es), sym (take-append-drop to (take at es)) ∙ ap (λ (r : List Entry). r ++ drop to (take at es)) (take-take to at es before))

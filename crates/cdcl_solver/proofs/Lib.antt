@@ -3,6 +3,7 @@ pub mod HintsLemmas
 pub mod LearnLemmas
 pub mod LevelLemmas
 pub mod WeightLemmas
+pub mod RoundsLemmas
 pub mod DecidingLemmas
 pub mod AcceptanceLemmas
 pub mod SolvingLemmas

@@ -15,21 +15,21 @@ use Rattle.watched_search.specs.declared.entry.Entry.{Entry}
 use Rattle.watched_search.specs.Trail.{lits_of, IsFree, AreEntries}
 use Rattle.watched_search.specs.Searching.{SearchView, IsOpen, IsFalseAt, Forced, Propagates}
 use Rattle.watched_search.proofs.TrailLemmas.{no_entry}
+use Rattle.cdcl_solver.specs.declared.deciding.Deciding.{Deciding}
 use Rattle.cdcl_solver.specs.declared.marks.Marks.{Marks}
 use Rattle.cdcl_solver.specs.declared.solver.Solver.{Solver}
 use Rattle.cdcl_solver.specs.Answers.{IsSpent}
 use Rattle.cdcl_solver.specs.inner.Acceptance.{IsJump, start_of}
 use Rattle.cdcl_solver.specs.inner.Chain.{Quiet, Chain, IsExplained, decisions}
-use Rattle.cdcl_solver.specs.inner.Deciding.{AreUndecided}
+use Rattle.cdcl_solver.specs.inner.Deciding.{AreDecided, IsUndecided}
 use Rattle.cdcl_solver.specs.inner.Levels.{levels_from}
-use Rattle.cdcl_solver.specs.inner.Solving.{IsSearch, IsSolving, IsSettled, IsLighter, IsDecided, IsLearned, IsAdded, IsFound, IsRefuted, IsComplete, IsUnspent, Advances, Keeps}
-use Rattle.cdcl_solver.specs.inner.Weight.{weight}
-use Rattle.cdcl_solver.proofs.AcceptanceLemmas.{Chain-learn, decisions_jump, decisions_below}
+use Rattle.cdcl_solver.specs.inner.Solving.{IsSearch, IsSolving, IsSettled, IsDecided, IsLearned, IsAdded, IsFound, IsRefuted, IsComplete, IsUnspent, Advances, Keeps}
+use Rattle.cdcl_solver.proofs.AcceptanceLemmas.{Chain-learn, not_false_before, second_before, decisions_jump, decisions_below}
 use Rattle.cdcl_solver.proofs.ChainLemmas.{Chain-append, Chain-push, Chain-front, Chain-at, Chain-consistent, Forced-chain, open_quiet, split_at}
-use Rattle.cdcl_solver.proofs.DecidingLemmas.{waiting_free, none_waiting}
+use Rattle.cdcl_solver.proofs.DecidingLemmas.{undecided_free, decided_full}
 use Rattle.cdcl_solver.proofs.LearnLemmas.{IsUnit-new, EachNew-push, known-push, learned-follows}
-use Rattle.cdcl_solver.proofs.LevelLemmas.{levels-append, levels-forced, levels-none, level_start}
-use Rattle.cdcl_solver.proofs.WeightLemmas.{weight-more, weight-jumped}
+use Rattle.cdcl_solver.proofs.LevelLemmas.{levels-append, levels-forced, levels-none, level_start, cut_at}
+use Rattle.cdcl_solver.proofs.RoundsLemmas.{steps_bounded, left-decided, left-learned}
 
 -- the log stays
 pub record Rest (old new : Solver) : Type 0 where
@@ -38,8 +38,8 @@ pub record Rest (old new : Solver) : Type 0 where
   pub checking : new.checking ≡ old.checking
 
 again : (old new : Solver) → Rest old new → IsSolving old → new.search.vars ≡ old.search.vars → new.search.clauses ≡ old.search.clauses → Chain (known old.clauses old.steps) [] new.search.entries
-    → AreUndecided old.search.vars new.deciding new.search.entries → new.levels.items ≡ levels_from 0 new.search.entries → IsSolving new
-again old new rest solving vars clauses chain undecided levels = record {
+    → new.levels.items ≡ levels_from 0 new.search.entries → IsSolving new
+again old new rest solving vars clauses chain levels = record {
   log = rw (rest.clauses, rest.steps, vars) (record {
     within = solving.log.within;
     chain = chain;
@@ -48,7 +48,6 @@ again old new rest solving vars clauses chain undecided levels = record {
     some = solving.log.some;
   });
   same = rw (rest.clauses, rest.steps) (clauses ∙ solving.same);
-  undecided = rw vars undecided;
   levels = levels;
   checking = rest.checking ∙ solving.checking;
 }
@@ -59,8 +58,8 @@ all_quiet K es chain opened = All-weaker (IsOpen (lits_of es)) (Quiet (lits_of e
 
 -- propagation
 pub settled : (old new : Solver) (found : Option ℕ) → Rest old new → new.levels.items ≡ old.levels.items → IsSolving old → Propagates old.search new.search found
-    → AreEntries new.search.vars new.search.entries → AreUndecided old.search.vars new.deciding new.search.entries → IsSettled old new found
-settled old new found rest same solving driven sound undecided =
+    → AreEntries new.search.vars new.search.entries → IsSettled old new found
+settled old new found rest same solving driven sound =
     let K : List (List Lit) = known old.clauses old.steps in
     let es : List Entry = old.search.entries in
     let more : List Entry = driven.each.0 in
@@ -71,7 +70,7 @@ settled old new found rest same solving driven sound undecided =
     let levels : levels_from 0 (es ++ more) ≡ levels_from 0 es =
     levels-append 0 (length es) es more (omega arith) ∙ ap (λ (r : List ℕ). levels_from 0 es ++ r) (levels-forced K (lits_of es) (length es) more forced) ∙ append-nil (levels_from 0 es) in
     record {
-      solving = again old new rest solving vars clauses (rw longer (Chain-append K [] es more solving.log.chain (Forced-chain K (lits_of es) more forced))) undecided
+      solving = again old new rest solving vars clauses (rw longer (Chain-append K [] es more solving.log.chain (Forced-chain K (lits_of es) more forced)))
           (same ∙ solving.levels ∙ sym levels ∙ ap (levels_from 0) (sym longer));
       keeps = record { clauses = rest.clauses; vars = vars };
       steps = rest.steps;
@@ -82,8 +81,8 @@ settled old new found rest same solving driven sound undecided =
 -- a decision
 pub decided_next : (old new : Solver) (l : Lit) → Rest old new → new.levels.items ≡ old.levels.items ++ length old.search.entries ∷ [] → IsSolving old
     → new.search ≡ record old.search { entries = old.search.entries ++ record { lit = l; reason = None } ∷ [] } → All (IsOpen (lits_of old.search.entries)) old.search.clauses
-    → Contains old.deciding.items l.var → AreUndecided old.search.vars new.deciding new.search.entries → IsDecided old new
-decided_next old new l rest same solving pushed opened waits undecided =
+    → IsUndecided old.search.vars old.search.entries l.var → IsDecided old new
+decided_next old new l rest same solving pushed opened undecided =
     let K : List (List Lit) = known old.clauses old.steps in
     let es : List Entry = old.search.entries in
     let e : Entry = record { lit = l; reason = None } in
@@ -91,76 +90,39 @@ decided_next old new l rest same solving pushed opened waits undecided =
     let clauses : new.search.clauses ≡ old.search.clauses = ap (λ (v : SearchView). v.clauses) pushed in
     let longer : new.search.entries ≡ es ++ e ∷ [] = ap (λ (v : SearchView). v.entries) pushed in
     let quiet : All (Quiet (lits_of es)) K = all_quiet K es solving.log.chain (rw solving.same at opened) in
-    let free : IsFree (lits_of es) l = waiting_free old.search.vars old.deciding es l solving.undecided waits in
+    let free : IsFree (lits_of es) l = undecided_free old.search.vars es l undecided in
     record {
-      solving = again old new rest solving vars clauses (rw longer (Chain-push K [] es e solving.log.chain (record { free = free; why = quiet }))) undecided
+      solving = again old new rest solving vars clauses (rw longer (Chain-push K [] es e solving.log.chain (record { free = free; why = quiet })))
           (same ∙ ap (λ (r : List ℕ). r ++ length es ∷ []) solving.levels ∙ sym (levels-append 0 (length es) es (e ∷ []) (omega arith)) ∙ ap (levels_from 0) (sym longer));
       keeps = record { clauses = rest.clauses; vars = vars };
       steps = rest.steps;
-      lighter = λ after found driven counted.
-          let all : after.entries ≡ (es ++ e ∷ []) ++ driven.each.0 = driven.each.1 ∙ ap (λ (r : List Entry). r ++ driven.each.0) longer in
-          let same_vars : after.vars ≡ old.search.vars = ap (λ (v : SearchView). v.vars) driven.same ∙ vars in
-          let fits : length ((es ++ e ∷ []) ++ driven.each.0) ≤ old.search.vars = rw (all, same_vars) at counted in
-          rw all (weight-more old.search.vars es e driven.each.0 fits);
+      more = let size = length_push es e in rw longer (omega arith);
     }
 
--- a unit that is learned where each clause says nothing is never left open
-no_rest : (K : List (List Lit)) (D : List Lit) (u : Lit) (T : List Lit) → IsUnit T D u → All (Quiet T) K → HasNoOpposites T → (found : Option ℕ)
-    → MatchOption found (All (IsOpen T) (K ++ D ∷ [])) (λ c. IsFalseAt (K ++ D ∷ []) T c) → ⊥
-no_rest K D u T unit quiet apart None all =
-    let size = length_push K D in
-    let last : IsOpen T D = rw (get_or_push K D [] (length K) refl) at (all (length K) [] (omega arith)) in
-    (open_quiet T D apart last).1 u unit
-no_rest K D u T unit quiet apart (Some c) is_false =
-    let size = length_push K D in
-    let lt : c < length (K ++ D ∷ []) = is_false.0 in
-    elim (cases_lt c (length K)) [
-      | inl older ↦ (quiet c [] older).0 (rw (get_or_append_left K (D ∷ []) [] c older) at is_false.1)
-      | inr ge ↦
-          (let last : length K ≡ c = omega arith in
-          IsUnit-not_false T D u unit (rw (get_or_push K D [] c last) at is_false.1))
-    ]
-
--- so something takes the place of the decision that gave way
-module _ (K : List (List Lit)) (D : List Lit) (u : Lit) (vars : ℕ) (es : List Entry) (at : ℕ) (lt : at < length es) (none : (get_or es at no_entry).reason ≡ None)
-    (unit : IsUnit (lits_of (take at es)) D u) (quiet : All (Quiet (lits_of (take at es))) K) (apart : HasNoOpposites (lits_of (take at es))) where
-  lighter_by : (more : List Entry) → Forced (K ++ D ∷ []) (lits_of (take at es)) more → (found : Option ℕ)
-      → MatchOption found (All (IsOpen (lits_of (take at es ++ more))) (K ++ D ∷ [])) (λ c. IsFalseAt (K ++ D ∷ []) (lits_of (take at es ++ more)) c)
-      → length (take at es ++ more) ≤ vars → weight vars (take at es ++ more) < weight vars es
-  lighter_by [] forced found answer fits = absurd (no_rest K D u (lits_of (take at es)) unit quiet apart found (rw (append-nil (take at es)) at answer))
-  lighter_by (e ∷ more) forced found answer fits =
-      let less = weight-jumped vars (take at es) (get_or es at no_entry) (drop (at + 1) es) e more forced.0.0 none forced.0.1 fits in
-      subst (λ (r : List Entry). weight vars (take at es ++ e ∷ more) < weight vars r) (sym (split_at es at no_entry lt)) less
-
-  pub lighter_jump : (old s : SearchView) → old.vars ≡ vars → old.entries ≡ es → s.vars ≡ vars → s.clauses ≡ K ++ D ∷ [] → s.entries ≡ take at es → IsLighter old s
-  lighter_jump old s old_vars old_entries vars_same clauses entries after found driven counted =
-      let more : List Entry = driven.each.0 in
-      let all : after.entries ≡ take at es ++ more = driven.each.1 ∙ ap (λ (r : List Entry). r ++ more) entries in
-      let after_clauses : after.clauses ≡ K ++ D ∷ [] = ap (λ (v : SearchView). v.clauses) driven.same ∙ clauses in
-      let after_vars : after.vars ≡ vars = ap (λ (v : SearchView). v.vars) driven.same ∙ vars_same in
-      rw (old_vars, old_entries, all) (lighter_by more (rw (clauses, entries) at driven.each.2) found (rw (after_clauses, all) at driven.answer) (rw (all, after_vars) at counted))
-
 -- a clause that is learned
-pub learned : (old new : Solver) (step : Step) (level : ℕ) (u : Lit) → IsSolving old → IsAdded old step level new → Follows (known old.clauses old.steps) step
+pub learned : (old new : Solver) (step : Step) (level back : ℕ) (u : Lit) → back ≤ level → IsSolving old → IsAdded old step back new → Follows (known old.clauses old.steps) step
     → IsJump old.search.vars old.search.entries step.lits u level → IsLearned old new
-learned old new step level u solving added follows jump =
+learned old new step level back u le solving added follows jump =
     let K : List (List Lit) = known old.clauses old.steps in
     let D : List Lit = step.lits in
     let es : List Entry = old.search.entries in
     let at : ℕ = start_of es level in
     let start = level_start es level jump.within in
-    let split = split_at es at no_entry start.within in
-    let chain : Chain K [] (take at es ++ get_or es at no_entry ∷ drop (at + 1) es) = rw split at solving.log.chain in
+    let chain : Chain K [] (take at es ++ get_or es at no_entry ∷ drop (at + 1) es) = rw (split_at es at no_entry start.within) at solving.log.chain in
     let none = start.decision no_entry in
     let quiet : All (Quiet (lits_of (take at es))) K = rw none at (Chain-at K [] (take at es) (get_or es at no_entry) (drop (at + 1) es) chain).why in
     let front : Chain K [] (take at es) = Chain-front K [] (take at es) (get_or es at no_entry ∷ drop (at + 1) es) chain in
+    let kept : List Entry = take (start_of es back) es in
+    let cut = cut_at es back level le jump.within in
+    let begun = level_start es back (let within : level < length (levels_from 0 es) = jump.within in omega arith) in
     let longer : known old.clauses (old.steps ++ step ∷ []) ≡ K ++ D ∷ [] = known-push old.clauses old.steps step in
     let vars : new.search.vars ≡ old.search.vars = ap (λ (v : SearchView). v.vars) added.search in
-    let entries : new.search.entries ≡ take at es = ap (λ (v : SearchView). v.entries) added.search in
+    let entries : new.search.entries ≡ kept = ap (λ (v : SearchView). v.entries) added.search in
     let clauses : new.search.clauses ≡ K ++ D ∷ [] = ap (λ (v : SearchView). v.clauses) added.search ∙ ap (λ (r : List (List Lit)). r ++ D ∷ []) solving.same in
-    let log : IsSearch old.clauses (old.steps ++ step ∷ []) old.search.vars (take at es) = record {
+    let log : IsSearch old.clauses (old.steps ++ step ∷ []) old.search.vars kept = record {
       within = rw longer (All-push (λ c. All (IsBelow old.search.vars) c) K D solving.log.within jump.below);
-      chain = rw longer (Chain-learn K D u jump.unit.member [] (take at es) front jump.unit.not_false jump.second);
+      chain = rw longer (Chain-learn K D u jump.unit.member [] kept (Chain-front K [] kept cut.0 (rw cut.1 at front))
+          (not_false_before u kept cut.0 (rw cut.1 at jump.unit.not_false)) (second_before D u kept cut.0 (rw cut.1 at jump.second)));
       follow = EachFollows-push old.clauses old.steps step solving.log.follow follows;
       new = EachNew-push old.clauses old.steps step solving.log.new (λ _. IsUnit-new (lits_of (take at es)) D u K jump.unit quiet);
       some = All-push (λ t. 0 < length t.lits) old.steps step solving.log.some (let p : jump.unit.member.0 < length D = jump.unit.member.1 in omega arith);
@@ -169,31 +131,33 @@ learned old new step level u solving added follows jump =
       solving = record {
         log = rw (added.clauses, added.steps, vars, entries) log;
         same = rw (added.clauses, added.steps) (clauses ∙ sym longer);
-        undecided = added.undecided;
-        levels = added.levels ∙ ap (take level) solving.levels ∙ sym start.levels ∙ ap (levels_from 0) (sym entries);
+        levels = added.levels ∙ ap (take back) solving.levels ∙ sym begun.levels ∙ ap (levels_from 0) (sym entries);
         checking = added.checking ∙ solving.checking;
       };
       keeps = record { clauses = added.clauses; vars = vars };
       longer = ap length added.steps ∙ length_push old.steps step;
-      lighter = lighter_jump K D u old.search.vars es at start.within none jump.unit quiet (Chain-consistent K [] (take at es) front) old.search new.search refl refl vars clauses entries;
     }
 
 -- marks play no part
-jumped_at : (s new : Solver) (marks : Marks) (trail : List Lit) (step : Step) (level : ℕ) (u : Lit) → IsSolving s → trail ≡ [] → Follows (known s.clauses s.steps) step
-    → IsJump s.search.vars s.search.entries step.lits u level → IsAdded (record s { marks = marks; checking = trail }) step level new → IsLearned s new
-jumped_at s new marks trail step level u solving empty follows jump added =
-    let mid : Solver = record s { marks = marks; checking = trail } in
-    let same : IsSolving mid = record { log = solving.log; same = solving.same; undecided = solving.undecided; levels = solving.levels; checking = empty } in
-    let all = learned mid new step level u same added follows jump in
-    record { solving = all.solving; keeps = record { clauses = all.keeps.clauses; vars = all.keeps.vars }; longer = all.longer; lighter = all.lighter }
+jumped_at : (s mid new : Solver) (marks : Marks) → mid ≡ record s { marks = marks; checking = mid.checking; pace = mid.pace } → (step : Step) (level back : ℕ) (u : Lit) → back ≤ level
+    → IsSolving s → mid.checking ≡ [] → Follows (known s.clauses s.steps) step → IsJump s.search.vars s.search.entries step.lits u level → IsAdded mid step back new → IsLearned s new
+jumped_at s mid new marks is step level back u le solving empty follows jump added =
+    let same : IsSolving mid = rw is (record { log = solving.log; same = solving.same; levels = solving.levels; checking = empty }) in
+    let all = learned mid new step level back u le same added (rw is follows) (rw is jump) in
+    record {
+      solving = all.solving;
+      keeps = record { clauses = all.keeps.clauses ∙ ap (λ (t : Solver). t.clauses) is; vars = all.keeps.vars ∙ ap (λ (t : Solver). t.search.vars) is };
+      longer = all.longer ∙ ap (λ (t : Solver). length t.steps + 1) is;
+    }
 
-pub jumped : (s p new : Solver) (trail : List Lit) (step : Step) (level : ℕ) (u : Lit) → IsSolving s → p ≡ record s { marks = p.marks } → trail ≡ [] → Follows (known p.clauses p.steps) step
-    → IsJump p.search.vars p.search.entries step.lits u level → IsAdded (record p { checking = trail }) step level new → IsLearned s new
-jumped s p new trail step level u solving same empty follows jump added =
-    jumped_at s new p.marks trail step level u solving empty (rw same at follows) (rw same at jump) (rw same at added)
+pub jumped : (s p mid new : Solver) (step : Step) (level back : ℕ) (u : Lit) → back ≤ level → IsSolving s → p ≡ record s { marks = p.marks }
+    → mid ≡ record p { checking = mid.checking; pace = mid.pace } → mid.checking ≡ [] → Follows (known p.clauses p.steps) step
+    → IsJump p.search.vars p.search.entries step.lits u level → IsAdded mid step back new → IsLearned s new
+jumped s p mid new step level back u le solving same is empty follows jump added =
+    jumped_at s mid new p.marks (rw same at is) step level back u le solving empty (rw same at follows) (rw same at jump) added
 
 learned_at : (s new : Solver) (marks : Marks) → IsLearned (record s { marks = marks }) new → IsLearned s new
-learned_at s new marks all = record { solving = all.solving; keeps = record { clauses = all.keeps.clauses; vars = all.keeps.vars }; longer = all.longer; lighter = all.lighter }
+learned_at s new marks all = record { solving = all.solving; keeps = record { clauses = all.keeps.clauses; vars = all.keeps.vars }; longer = all.longer }
 
 pub learned_from : (s p new : Solver) → p ≡ record s { marks = p.marks } → IsLearned p new → IsLearned s new
 learned_from s p new same all = learned_at s new p.marks (rw same at all)
@@ -204,7 +168,7 @@ pub decided_learned : (old new : Solver) (c : ℕ) (step : Step) (level : ℕ) �
 decided_learned old new c step level solving conflict sound made last added =
     let K : List (List Lit) = known old.clauses old.steps in
     let es : List Entry = old.search.entries in
-    learned old new step level (negation (get_or es (start_of es level) no_entry).lit) solving added
+    learned old new step level level (negation (get_or es (start_of es level) no_entry).lit) (omega arith) solving added
     (learned-follows K es c step solving.log.chain (rw solving.same at conflict) made)
     (rw made.lits (decisions_jump K old.search.vars es level solving.log.chain sound (sym (ap length solving.levels) ∙ last)))
 
@@ -216,29 +180,6 @@ pub last_index : (xs : List ℕ) (n : ℕ) → (xs ≡ [] → ⊥) → n ≡ len
 last_index [] n some same = absurd (some refl)
 last_index (x ∷ xs) n some same = omega arith
 
--- propagation behind a decision or a clause
-pub advanced : (old mid new : Solver) (found : Option ℕ) → Keeps old mid → IsLighter old.search mid.search → IsSettled mid new found → Advances old new found
-advanced old mid new found keeps lighter settled = record {
-  solving = settled.solving;
-  keeps = record { clauses = settled.keeps.clauses ∙ keeps.clauses; vars = settled.keeps.vars ∙ keeps.vars };
-  answer = settled.driven.answer;
-  smaller = lighter new.search found settled.driven settled.counted;
-}
-
-pub unspent_more : (budget : Option ℕ) (old new : List Step) → IsUnspent budget old → (budget ≡ Some (length old) → ⊥) → length new ≡ length old + 1 → IsUnspent budget new
-unspent_more None old new le ne size = tt
-unspent_more (Some n) old new le ne size = elim (cases_lt (length old) n) [
-  | inl lt ↦ omega arith
-  | inr ge ↦ (let same : n ≡ length old = omega arith in absurd (ne (ap (λ (m : ℕ). Some m) same)))
-]
-
--- each variable has a value
-pub complete : (s : Solver) → IsSolving s → IsFound s.search None → s.deciding.items ≡ [] → IsComplete s.search
-complete s solving opened empty = record {
-  opened = opened;
-  full = λ l lt. none_waiting s.search.vars s.deciding s.search.entries l solving.undecided empty lt;
-}
-
 -- what the clauses name, each step names
 pub names_of : (vars : ℕ) (clauses : List (List Lit)) (steps : List Step) → NamesBelow vars (known clauses steps) → All (λ s. All (IsBelow vars) s.lits) steps
 names_of vars clauses steps h = λ k d lt.
@@ -249,6 +190,56 @@ names_of vars clauses steps h = λ k d lt.
     let right : get_or (clauses ++ lits) (length clauses + k) d.lits ≡ get_or lits k d.lits =
     get_or-append_right clauses lits (length clauses) (length clauses + k) d.lits refl (omega arith) ∙ ap (λ (i : ℕ). get_or lits i d.lits) back in
     subst (λ (c : List Lit). All (IsBelow vars) c) (right ∙ get_or-map (λ (s : Step). s.lits) steps k d d.lits lt) (h (length clauses + k) d.lits (omega arith))
+
+-- propagation behind a decision
+pub advanced_decided : (old mid new : Solver) (found : Option ℕ) → IsDecided old mid → IsSettled mid new found → Advances old new found
+advanced_decided old mid new found decided settled =
+    let more : length old.search.entries < length mid.search.entries = decided.more in
+    let grown = ap length settled.driven.each.1 in
+    let size = length-append mid.search.entries settled.driven.each.0 in
+    let vars : new.search.vars ≡ old.search.vars = settled.keeps.vars ∙ decided.keeps.vars in
+    let most : length new.search.entries ≤ old.search.vars = rw vars at settled.counted in
+    record {
+      solving = settled.solving;
+      keeps = record { clauses = settled.keeps.clauses ∙ decided.keeps.clauses; vars = vars };
+      answer = settled.driven.answer;
+      less = rw (vars, settled.steps, decided.steps) (left-decided old.search.vars (length old.steps) (length old.search.entries) (length new.search.entries) (omega arith) most);
+    }
+
+-- and behind a clause
+pub advanced_learned : (old mid new : Solver) (found : Option ℕ) → Keeps old mid → length mid.steps ≡ length old.steps + 1 → IsSettled mid new found → Advances old new found
+advanced_learned old mid new found keeps longer settled =
+    let vars : new.search.vars ≡ old.search.vars = settled.keeps.vars ∙ keeps.vars in
+    let log = settled.solving.log in
+    let most = steps_bounded new.clauses new.steps new.search.vars (names_of new.search.vars new.clauses new.steps log.within) log.new log.some in
+    let size : length new.steps ≡ length old.steps + 1 = ap length settled.steps ∙ longer in
+    record {
+      solving = settled.solving;
+      keeps = record { clauses = settled.keeps.clauses ∙ keeps.clauses; vars = vars };
+      answer = settled.driven.answer;
+      less = rw (vars, size) (left-learned old.search.vars (length old.steps) (length old.search.entries) (length new.search.entries) (rw (vars, size) at most));
+    }
+
+pub unspent_more : (budget : Option ℕ) (old new : List Step) → IsUnspent budget old → (budget ≡ Some (length old) → ⊥) → length new ≡ length old + 1 → IsUnspent budget new
+unspent_more None old new le ne size = tt
+unspent_more (Some n) old new le ne size = elim (cases_lt (length old) n) [
+  | inl lt ↦ omega arith
+  | inr ge ↦ (let same : n ≡ length old = omega arith in absurd (ne (ap (λ (m : ℕ). Some m) same)))
+]
+
+-- each variable has a value
+pub complete : (s : Solver) → IsFound s.search None → AreDecided s.search.entries s.search.vars → IsComplete s.search
+complete s opened all = record {
+  opened = opened;
+  full = λ l lt. decided_full s.search.entries s.search.vars l all lt;
+}
+
+-- what is decided next plays no part
+pub proposed : (s : Solver) (deciding : Deciding) → IsSolving s → IsSolving (record s { deciding = deciding })
+proposed s deciding solving = record { log = solving.log; same = solving.same; levels = solving.levels; checking = solving.checking }
+
+pub decided_from : (s new : Solver) (deciding : Deciding) → IsDecided (record s { deciding = deciding }) new → IsDecided s new
+decided_from s new deciding all = record { solving = all.solving; keeps = record { clauses = all.keeps.clauses; vars = all.keeps.vars }; steps = all.steps; more = all.more }
 
 -- the empty clause
 pub ends_empty_by : (steps : List Step) (s : Step) → s.lits ≡ [] → is_empty_step (slice_get (steps ++ s ∷ []) (length (steps ++ s ∷ []) - 1)) ≡ true

@@ -7,8 +7,8 @@ use sat_formula::Lit;
 use std::alloc::{AllocError, Global};
 use watched_search::{Entry, Search};
 
-/// A clause, the clauses that make it follow, the literal that it forces, and the level whose
-/// decision gives way. The forced literal stands first and the one that became false last second,
+/// A clause, the clauses that make it follow, the literal that it forces, the level whose decision
+/// gives way, and how many levels its literals are of. The forced literal stands first and the one that became false last second,
 /// since these two watch the clause at first.
 #[derive(Drop)]
 pub struct Candidate {
@@ -16,6 +16,7 @@ pub struct Candidate {
     pub hints: Vec<u64>,
     pub forced: Lit,
     pub level: usize,
+    pub spread: u64,
 }
 
 // What a conflict comes from: how many marked literals of the last level, which begins at `last`, are
@@ -197,12 +198,30 @@ fn candidate_of(
         }
     }
     hints.reverse();
+    let spread = spread_of(search, levels, &lits);
     Ok(Candidate {
         lits,
         hints,
         forced: point.negated(),
         level,
+        spread,
     })
+}
+
+// How many levels the literals are of, which stand in the order of their levels.
+fn spread_of(search: &Search, levels: &[usize], lits: &[Lit]) -> u64 {
+    let mut spread: u64 = 0;
+    let mut last = None;
+    for l in lits {
+        if l.var < search.vars() {
+            let level = search.place(l.var).map(|place| level_behind(levels, place));
+            if level != last {
+                spread = spread.saturating_add(1);
+                last = level;
+            }
+        }
+    }
+    spread
 }
 
 // The first level that begins behind this place.

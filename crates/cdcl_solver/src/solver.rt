@@ -9,25 +9,25 @@ ghost use Rattle.watched_search.specs.Searching.{IsOpen, IsFalseAt};
 ghost use Rattle.cdcl_solver.specs.Answers.{clauses_with};
 ghost use Rattle.cdcl_solver.specs.inner.Acceptance.{IsJump};
 ghost use Rattle.cdcl_solver.specs.inner.Chain.{IsLastDecision, decisions};
-ghost use Rattle.cdcl_solver.specs.inner.Deciding.{AreUndecided};
+ghost use Rattle.cdcl_solver.specs.inner.Deciding.{IsUndecided};
 ghost use Rattle.cdcl_solver.specs.inner.Levels.{levels_from};
-ghost use Rattle.cdcl_solver.specs.inner.Solving.{IsSolving, IsBegun, IsFound, IsSettled, IsDecided, IsLearned, IsRefuted, IsAdded, IsRetreated, IsReordered, IsUnspent, IsEnd, IsStepped};
+ghost use Rattle.cdcl_solver.specs.inner.Solving.{IsSolving, IsBegun, IsFound, IsSettled, IsDecided, IsLearned, IsRefuted, IsAdded, IsRetreated, IsUnspent, IsEnd, IsStepped};
 
 use crate::acceptance::is_jump;
 use crate::analysis::{Candidate, first_unique_point};
 use crate::deciding::Deciding;
 use crate::learning::explained;
 use crate::marks::Marks;
-use crate::scores::Scores;
+use crate::pace::Pace;
 use refutation_checker::{Log, Step, Trail as Checking, follows};
 use sat_formula::{Clause, Clauses, Formula, Lit};
 use std::alloc::{AllocError, Global};
 use tla_values::List;
 use watched_search::Search;
 
-/// The clauses and the steps that were derived from them, the search that holds them all, the
-/// variables that wait for a decision, where the decisions stand, the checker's own trail, by which a
-/// proposed step is tested, and what analyses keep.
+/// The clauses and the steps that were derived from them, the search that holds them all, what is
+/// decided next, where the decisions stand, the checker's own trail, by which a proposed step is
+/// tested, what analyses keep, and when the search begins anew.
 #[derive(Drop)]
 pub struct Solver {
     pub clauses: Clauses,
@@ -37,7 +37,7 @@ pub struct Solver {
     pub levels: Vec<usize>,
     pub checking: Checking,
     pub marks: Marks,
-    pub scores: Scores,
+    pub pace: Pace,
 }
 
 /// Why a solver ended.
@@ -70,7 +70,6 @@ impl Solver {
         let deciding = Deciding::new(alloc, vars)?;
         let checking = Checking::new(alloc, vars)?;
         let marks = Marks::new(alloc, vars)?;
-        let scores = Scores::new(alloc, vars)?;
         Ok(Solver {
             clauses: cnf.clauses,
             steps: List::new(alloc),
@@ -79,7 +78,7 @@ impl Solver {
             levels: Vec::new(alloc),
             checking,
             marks,
-            scores,
+            pace: Pace::new(),
         })
     }
 
@@ -120,9 +119,8 @@ fn settle(solver: &mut Solver) -> Option<usize>
     requires { IsSolving solver.old }
     ensures { IsSettled solver.old solver.new result }
 {
-    let from = solver.search.entries().len();
     let found = solver.search.propagate();
-    solver.deciding.take(solver.search.entries(), from);
+    let _ = solver.search.entries();
     found
 }
 
@@ -151,7 +149,7 @@ fn proceed(solver: &mut Solver) -> Result<Next, AllocError>
     ensures { IfOk result (λ n. (budget : _) → IsUnspent budget solver.old.steps →
         IsStepped budget solver.old solver.new n) }
 {
-    let Some(l) = solver.deciding.next() else {
+    let Some(l) = solver.deciding.next(&solver.search) else {
         return Ok(Next::Ends(End::Satisfied));
     };
     decide(solver, l)?;
@@ -190,17 +188,16 @@ fn is_spent(budget: Option<u64>, count: usize) -> bool
     }
 }
 
-// Decides a literal of a variable that waits for it, where no clause forces more.
+// Decides a literal of a variable without a value, where no clause forces more.
 fn decide(solver: &mut Solver, l: Lit) -> Result<(), AllocError>
     requires solving { IsSolving solver.old }
     requires opened { All (IsOpen (lits_of solver.old.search.entries)) solver.old.search.clauses }
-    requires undecided { Contains solver.old.deciding.items l.var }
+    requires undecided { IsUndecided solver.old.search.vars solver.old.search.entries l.var }
     ensures { OnOk result (IsDecided solver.old solver.new) }
 {
     let place = solver.search.entries().len();
     solver.levels.push(place)?;
     solver.search.push(l);
-    solver.deciding.take(solver.search.entries(), place);
     Ok(())
 }
 
@@ -248,6 +245,7 @@ fn jump(alloc: Global, solver: &mut Solver, conflict: usize) -> Result<bool, All
         lits,
         hints,
         level,
+        spread,
         ..
     } = candidate;
     let step = Step {
@@ -264,7 +262,8 @@ fn jump(alloc: Global, solver: &mut Solver, conflict: usize) -> Result<bool, All
     if !works {
         return Ok(false);
     }
-    add_step(alloc, solver, step, level)?;
+    let back = solver.pace.level_after(spread, level);
+    add_step(solver, step, back)?;
     Ok(true)
 }
 
@@ -296,19 +295,19 @@ fn learn_decisions(alloc: Global, solver: &mut Solver, conflict: usize) -> Resul
 {
     let level = solver.levels.len() - 1;
     let step = explained(alloc, solver.count(), solver.search.entries(), conflict)?;
-    add_step(alloc, solver, step, level)?;
+    add_step(solver, step, level)?;
     Ok(())
 }
 
 // Adds the step, and goes back before the decision of the level.
-fn add_step(alloc: Global, solver: &mut Solver, step: Step, level: usize) -> Result<(), AllocError>
+fn add_step(solver: &mut Solver, step: Step, level: usize) -> Result<(), AllocError>
     requires solving { IsSolving solver.old }
     requires names { All (IsBelow solver.old.search.vars) step.lits }
     requires level { level < length solver.old.levels.items }
     ensures { OnOk result (IsAdded solver.old step level solver.new) }
 {
     retreat(solver, level);
-    prefer_seen(alloc, solver)?;
+    solver.deciding.raise(solver.marks.list());
     solver.search.learn(step.lits.lits())?;
     solver.steps.push(step)?;
     Ok(())
@@ -324,14 +323,4 @@ fn retreat(solver: &mut Solver, level: usize)
     solver.deciding.give_back(solver.search.entries(), keep);
     solver.search.back(keep);
     solver.levels.truncate(level);
-}
-
-// Lets what the last analysis saw be decided first.
-fn prefer_seen(alloc: Global, solver: &mut Solver) -> Result<(), AllocError>
-    requires { AreUndecided solver.old.search.vars solver.old.deciding solver.old.search.entries }
-    ensures { OnOk result (IsReordered solver.old solver.new) }
-{
-    let order = solver.scores.raise(alloc, solver.marks.list())?;
-    solver.deciding.bump(&order, &solver.search);
-    Ok(())
 }

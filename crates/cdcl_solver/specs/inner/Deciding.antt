@@ -1,10 +1,13 @@
--- Which variables wait for a decision.
-use Rattle.std.specs.Prelude.{◌≡◌, ◌≢◌, ℕ, ◌<◌, ◌↔◌, List, All, Contains}
-use Rattle.decision_queue.specs.Queue.{Queue}
+-- Which variables have a value.
+use Rattle.std.specs.Prelude.{◌≢◌, ℕ, ◌<◌, List, All, Some}
 use Rattle.watched_search.specs.declared.entry.Entry.{Entry}
+use Rattle.watched_search.specs.Trail.{IsPlaceOf}
 
--- the queue holds just the variables without an entry
-pub record AreUndecided (vars : ℕ) (q : Queue) (es : List Entry) : Type 0 where
-  pub room : q.room ≡ vars
-  pub below : All (λ v. v < vars) q.items
-  pub each : (v : ℕ) → v < vars → (Contains q.items v ↔ All (λ e. e.lit.var ≢ v) es)
+-- each variable below v has an entry
+abbrev pub AreDecided : List Entry → ℕ → Type 0
+AreDecided es v = (w : ℕ) → w < v → (k : ℕ) × IsPlaceOf es w (Some k)
+
+-- the variable has none
+pub record IsUndecided (vars : ℕ) (es : List Entry) (v : ℕ) : Type 0 where
+  pub below : v < vars
+  pub none : All (λ e. e.lit.var ≢ v) es

@@ -16,9 +16,8 @@ use Rattle.cdcl_solver.specs.declared.solver.Next.TheVariants.{Ends, Goes}
 use Rattle.cdcl_solver.specs.Answers.{EachNew, IsDerivation, IsRefutation, IsSpent}
 use Rattle.cdcl_solver.specs.inner.Acceptance.{start_of}
 use Rattle.cdcl_solver.specs.inner.Chain.{Chain}
-use Rattle.cdcl_solver.specs.inner.Deciding.{AreUndecided}
 use Rattle.cdcl_solver.specs.inner.Levels.{levels_from}
-use Rattle.cdcl_solver.specs.inner.Weight.{weight}
+use Rattle.cdcl_solver.specs.inner.Rounds.{rounds_left}
 
 -- what ties the entries to the log
 pub record IsSearch (clauses : List (List Lit)) (steps : List Step) (vars : ℕ) (es : List Entry) : Type 0 where
@@ -28,12 +27,11 @@ pub record IsSearch (clauses : List (List Lit)) (steps : List Step) (vars : ℕ)
   pub new : EachNew clauses steps
   pub some : All (λ s. 0 < length s.lits) steps
 
--- the search holds the formula's clauses and then those of the steps; the other parts go with its entries, and the
--- checker's trail is empty between two tests
+-- the search holds the formula's clauses and then those of the steps, the levels go with its entries, and the checker's
+-- trail is empty between two tests
 pub record IsSolving (s : Solver) : Type 0 where
   pub log : IsSearch s.clauses s.steps s.search.vars s.search.entries
   pub same : s.search.clauses ≡ known s.clauses s.steps
-  pub undecided : AreUndecided s.search.vars s.deciding s.search.entries
   pub levels : s.levels.items ≡ levels_from 0 s.search.entries
   pub checking : s.checking ≡ []
 
@@ -61,35 +59,23 @@ pub record IsSettled (old new : Solver) (found : Option ℕ) : Type 0 where
   pub driven : Propagates old.search new.search found
   pub counted : length new.search.entries ≤ new.search.vars
 
--- whatever propagation makes of it is lighter than what was there before
-abbrev pub IsLighter : SearchView → SearchView → Type 0
-IsLighter before s = (after : SearchView) (found : Option ℕ) → Propagates s after found → length after.entries ≤ after.vars
-    → weight before.vars after.entries < weight before.vars before.entries
-
 -- a literal was decided
 pub record IsDecided (old new : Solver) : Type 0 where
   pub solving : IsSolving new
   pub keeps : Keeps old new
   pub steps : new.steps ≡ old.steps
-  pub lighter : IsLighter old.search new.search
+  pub more : length old.search.entries < length new.search.entries
 
 -- one step more, and what it makes true is not yet there
 pub record IsLearned (old new : Solver) : Type 0 where
   pub solving : IsSolving new
   pub keeps : Keeps old new
   pub longer : length new.steps ≡ length old.steps + 1
-  pub lighter : IsLighter old.search new.search
 
 -- the entries from the decision of the level on are taken back
 pub record IsRetreated (old : Solver) (level : ℕ) (new : Solver) : Type 0 where
   pub same : new ≡ record old { search = record old.search { entries = take (start_of old.search.entries level) old.search.entries }; deciding = new.deciding; levels = new.levels }
-  pub undecided : AreUndecided new.search.vars new.deciding new.search.entries
   pub levels : new.levels.items ≡ take level old.levels.items
-
--- the variables that wait for a decision stand in another order
-pub record IsReordered (old new : Solver) : Type 0 where
-  pub same : new ≡ record old { deciding = new.deciding; scores = new.scores }
-  pub undecided : AreUndecided new.search.vars new.deciding new.search.entries
 
 -- the step is added, and the entries from the decision of the level on are taken back
 pub record IsAdded (old : Solver) (step : Step) (level : ℕ) (new : Solver) : Type 0 where
@@ -101,15 +87,18 @@ pub record IsAdded (old : Solver) (step : Step) (level : ℕ) (new : Solver) : T
     entries = take (start_of old.search.entries level) old.search.entries;
     chains = new.search.chains;
   }
-  pub undecided : AreUndecided new.search.vars new.deciding new.search.entries
   pub levels : new.levels.items ≡ take level old.levels.items
 
--- propagation is done, under a lower trail
+-- what may come yet
+abbrev pub left : Solver → ℕ
+left s = rounds_left s.search.vars (length s.steps) (length s.search.entries)
+
+-- propagation is done, and less is left to do
 pub record Advances (old new : Solver) (found : Option ℕ) : Type 0 where
   pub solving : IsSolving new
   pub keeps : Keeps old new
   pub answer : IsFound new.search found
-  pub smaller : weight old.search.vars new.search.entries < weight old.search.vars old.search.entries
+  pub less : left new < left old
 
 -- one step more, the empty clause
 pub record IsRefuted (old new : Solver) : Type 0 where

@@ -6,4 +6,4 @@ pub returns : goal.returns
 returns c =
     let jump = rw (sym c.from_vec.ensures) at (c.if-not-is_jump.ensures refl) in
     let follows = rw (c.clauses.ensures, c.as_slice.ensures) at (c.in_ok-works.ensures.exact.0 c.if-not-works.false) in
-    jumped c.args.solver.now c.propose.new.solver c.add_step.new.solver _ _ _ _ c.requires c.in_ok-candidate.ensures c.in_ok-works.ensures.trail follows jump c.in_ok-add_step.ensures
+    jumped c.args.solver.now c.propose.new.solver _ c.add_step.new.solver _ _ _ _ c.level_after-back.ensures c.requires c.in_ok-candidate.ensures refl c.in_ok-works.ensures.trail follows jump c.in_ok-add_step.ensures

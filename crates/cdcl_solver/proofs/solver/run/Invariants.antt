@@ -1,5 +1,4 @@
-use Rattle.cdcl_solver.specs.inner.Weight.{weight}
-use Rattle.cdcl_solver.specs.inner.Solving.{IsSolving, IsFound, IsUnspent, Keeps}
+use Rattle.cdcl_solver.specs.inner.Solving.{IsSolving, IsFound, IsUnspent, Keeps, left}
 use Rattle.cdcl_solver.proofs.solver.run.Given as goal
 
 abbrev pub invariant-search : goal.invariant-search
@@ -11,4 +10,4 @@ invariant-search l = record {
 }
 
 abbrev pub decreases-search : goal.decreases-search
-decreases-search l = weight l.solver.search.vars l.solver.search.entries
+decreases-search l = left l.solver
