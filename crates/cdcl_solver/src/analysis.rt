@@ -33,10 +33,10 @@ struct Causes {
 
 /// The clause of the first unique point: the negation of the first literal of the last level that
 /// all causes of the conflict pass through, with the negations of the earlier literals that they
-/// begin at. A literal is left out where its reason's other literals are causes too, and mostly each
-/// one that is true before the first decision. The variables that were seen are marked. (Zhang, Madigan,
-/// Moskewicz and Malik, "Efficient Conflict Driven Learning in a Boolean Satisfiability Solver",
-/// 2001; Sörensson and Biere, "Minimizing Learned Clauses", 2009.)
+/// begin at. A literal is left out where what it comes from are causes too in the end, and mostly each
+/// one that is true before the first decision. The variables that were seen are marked, the causes
+/// first. (Zhang, Madigan, Moskewicz and Malik, "Efficient Conflict Driven Learning in a Boolean
+/// Satisfiability Solver", 2001; Sörensson and Biere, "Minimizing Learned Clauses", 2009.)
 pub fn first_unique_point(
     alloc: Global,
     search: &Search,
@@ -58,9 +58,14 @@ pub fn first_unique_point(
     let Some(point) = unique_point(search, marks, &mut causes)? else {
         return Ok(None);
     };
+    marks.note_causes();
+    causes.follow_reasons(search, marks, *first)?;
     causes.follow_roots(search, marks, *first)?;
     Ok(Some(candidate_of(search, levels, marks, causes, point)?))
 }
+
+// How many literals are followed to find that one is not wanted.
+const FEW: usize = 32;
 
 impl Causes {
     // Notes the clause, and marks its variables.
@@ -98,6 +103,56 @@ impl Causes {
             }
         }
         Ok(())
+    }
+
+    // Marks what the earlier literals come from, where no other decision is behind it, so that they
+    // are not wanted in the clause.
+    fn follow_reasons(
+        &mut self,
+        search: &Search,
+        marks: &mut Marks,
+        first: usize,
+    ) -> Result<(), AllocError> {
+        for k in 0..self.earlier.len() {
+            let Some(place) = self.earlier.get(k).copied() else {
+                return Ok(());
+            };
+            let marked = marks.list().len();
+            let earlier = self.earlier.len();
+            if place >= first && !self.is_implied(search, marks, place, first)? {
+                marks.cut(marked);
+                self.earlier.truncate(earlier);
+            }
+        }
+        Ok(())
+    }
+
+    // Marks what the literal at this place comes from, until a decision is met that was not marked, or
+    // more than a few literals. Answers whether none was met.
+    fn is_implied(
+        &mut self,
+        search: &Search,
+        marks: &mut Marks,
+        place: usize,
+        first: usize,
+    ) -> Result<bool, AllocError> {
+        let Some(c) = reason_at(search, place) else {
+            return Ok(false);
+        };
+        let from = self.earlier.len();
+        self.see_all(search, marks, c)?;
+        for next in from..from.saturating_add(FEW) {
+            let Some(at) = self.earlier.get(next).copied() else {
+                return Ok(true);
+            };
+            if at >= first {
+                let Some(c) = reason_at(search, at) else {
+                    return Ok(false);
+                };
+                self.see_all(search, marks, c)?;
+            }
+        }
+        Ok(false)
     }
 
     // Marks all that the marked literals before the first decision come from, so that none of them

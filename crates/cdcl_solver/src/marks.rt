@@ -8,6 +8,8 @@ use std::alloc::{AllocError, Global};
 pub struct Marks {
     marked: Vec<bool>,
     list: Vec<usize>,
+    // How many of these are the causes of a conflict.
+    causes: usize,
 }
 
 impl Marks {
@@ -17,6 +19,7 @@ impl Marks {
         Ok(Marks {
             marked,
             list: Vec::new(alloc),
+            causes: 0,
         })
     }
 
@@ -38,6 +41,17 @@ impl Marks {
     /// The marked variables, in the order in which they were marked.
     pub fn list(&self) -> &[usize] {
         self.list.as_slice()
+    }
+
+    /// What is marked by now are the causes of a conflict.
+    pub fn note_causes(&mut self) {
+        self.causes = self.list.len();
+    }
+
+    /// Those of them that are still marked, in the order in which they were.
+    pub fn causes(&self) -> &[usize] {
+        let count = self.causes.min(self.list.len());
+        &self.list.as_slice()[..count]
     }
 
     /// Takes away all marks but the first `keep`.

@@ -307,7 +307,7 @@ fn add_step(solver: &mut Solver, step: Step, level: usize) -> Result<(), AllocEr
     ensures { OnOk result (IsAdded solver.old step level solver.new) }
 {
     retreat(solver, level);
-    solver.deciding.raise(solver.marks.list());
+    solver.deciding.raise(solver.marks.causes());
     solver.search.learn(step.lits.lits())?;
     solver.steps.push(step)?;
     Ok(())
