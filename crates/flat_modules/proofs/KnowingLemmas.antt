@@ -33,7 +33,7 @@ pub learned : {o : Option Misuse} {old new : Knowing} (s : Known) (es : List Ent
     IsKnown o new (know s (es s.names) (is s.names) (ms s.names))
 learned {o} {old} {new} s es is ms k l = record {
   scope = l.scope ∙ ap (λ n. with_new n (es n)) k.scope;
-  items = l.items ∙ ap (λ n. with_items (map item_of old.items.items) (is n)) k.scope ∙ ap (λ j. with_items j (is s.names)) k.items;
+  items = l.items ∙ ap (λ n. with_items (map item_of old.items) (is n)) k.scope ∙ ap (λ j. with_items j (is s.names)) k.items;
   told =
       l.told ∙ ap (λ n. least_from old.resolving.told (ms n)) k.scope ∙ ap (λ o. least_from o (ms s.names)) k.told
       ∙ sym (least_append o s.misuses (ms s.names));
@@ -65,14 +65,14 @@ extends_more inside k s (x ∷ ms) m = extends_more inside k (one_extended insid
 pub extends_step : {o : Option Misuse} {old new a : Knowing} (inside : flat.Copy → Known) (k j : flat.Copy) (s : Known) (ms : List (List ℕ)) (i : ℕ) (m : List ℕ) →
     i < length ms → m ≡ get_or ms i m → j ≡ extended k m →
     IsKnown o old (after_extends inside k s (take i ms)) → IsKnown None a (inside j) →
-    Learns old new (filter (λ (e : Entry). e.exported) a.resolving.scope) (map item_of a.items.items)
+    Learns old new (filter (λ (e : Entry). e.exported) a.resolving.scope) (map item_of a.items)
     (all_repeated old.resolving.scope (filter (λ (e : Entry). e.exported) a.resolving.scope)) →
     IsKnown o new (after_extends inside k s (take (i + 1) ms))
 extends_step {o} {old} {new} {a} inside k j s ms i m lt is copy known brought learns =
     let s2 = after_extends inside k s (take i ms) in
     let exported : List Entry → List Entry = filter (λ (e : Entry). e.exported) in
-    let one = learned s2 (λ n. exported a.resolving.scope) (λ n. map item_of a.items.items) (λ n. all_repeated n (exported a.resolving.scope)) known learns in
-    let k1 = subst (λ l. IsKnown o new (know s2 (exported l) (map item_of a.items.items) (all_repeated s2.names (exported l)))) brought.scope one in
+    let one = learned s2 (λ n. exported a.resolving.scope) (λ n. map item_of a.items) (λ n. all_repeated n (exported a.resolving.scope)) known learns in
+    let k1 = subst (λ l. IsKnown o new (know s2 (exported l) (map item_of a.items) (all_repeated s2.names (exported l)))) brought.scope one in
     let k2 = subst (λ l. IsKnown o new (know s2 (exported (inside j).names) l (all_repeated s2.names (exported (inside j).names)))) brought.items k1 in
     let k3 = subst (λ l. IsKnown o new (know s2 (exported (inside l).names) (inside l).items (all_repeated s2.names (exported (inside l).names)))) copy k2 in
     subst (IsKnown o new) (sym (ap (after_extends inside k s) (take_more ms i m lt ∙ ap (λ y. take i ms ++ y ∷ []) (sym is)) ∙ extends_more inside k s (take i ms) m)) k3
@@ -116,7 +116,7 @@ pub instance_known : {o : Option Misuse} {old new a : Knowing} (inside : flat.Co
     IsKnown o old s → IsInstance parts (bare_instance k u.name.now u.module.now u.local u.place) →
     prefix ≡ parts.with_prefix.items → j ≡ from_outside parts old.resolving.scope u → IsKnown None a (inside j) →
     Learns old new (instance_names old.resolving.scope u.name.now u.local u.place ++ instance_entries u.name.now u.local a.resolving.scope)
-    (map (with_item prefix old.resolving.scope) u.with.now ++ filter is_definition (map item_of a.items.items))
+    (map (with_item prefix old.resolving.scope) u.with.now ++ filter is_definition (map item_of a.items))
     (all_repeated old.resolving.scope (instance_names old.resolving.scope u.name.now u.local u.place ++ instance_entries u.name.now u.local a.resolving.scope)
     ++ with_misuses u.place old.resolving.scope a.resolving.scope u.with.now ++ symbol_misuses u.place old.resolving.scope u.with.now a.resolving.scope) →
     IsKnown o new (after_instance s (instance k s.names u.name.now u.module.now u.with.now u.local u.place) u.name.now u.with.now u.local u.place
@@ -126,8 +126,8 @@ instance_known {o} {old} {new} {a} inside k j u parts prefix s known made at cop
     let own : List Entry → List Entry → List Entry = λ n l. instance_names n u.name.now u.local u.place ++ instance_entries u.name.now u.local l in
     let bad : List Entry → List Entry → List Misuse = λ n l. all_repeated n (own n l) ++ with_misuses u.place n l u.with.now ++ symbol_misuses u.place n u.with.now l in
     let brings : List ℕ → List flat.Item → List Entry → List flat.Item = λ w is n. map (with_item w n) u.with.now ++ filter is_definition is in
-    let one = learned s (λ n. own n a.resolving.scope) (brings prefix (map item_of a.items.items)) (λ n. bad n a.resolving.scope) known learns in
-    let k1 = subst (λ l. IsKnown o new (know s (own s.names l) (brings prefix (map item_of a.items.items) s.names) (bad s.names l))) brought.scope one in
+    let one = learned s (λ n. own n a.resolving.scope) (brings prefix (map item_of a.items)) (λ n. bad n a.resolving.scope) known learns in
+    let k1 = subst (λ l. IsKnown o new (know s (own s.names l) (brings prefix (map item_of a.items) s.names) (bad s.names l))) brought.scope one in
     let k2 = subst (λ l. IsKnown o new (know s (own s.names (inside j).names) (brings prefix l s.names) (bad s.names (inside j).names))) brought.items k1 in
     let k3 = subst (λ w. IsKnown o new (know s (own s.names (inside j).names) (brings w (inside j).items s.names) (bad s.names (inside j).names))) (at ∙ made.with_prefix) k2 in
     let same : j ≡ instance k s.names u.name.now u.module.now u.with.now u.local u.place = copy ∙ made_copy parts k old.resolving.scope u made ∙ ap (λ n. instance k n u.name.now u.module.now u.with.now u.local u.place) known.scope in

@@ -101,6 +101,20 @@ one_definition is js j m n =
     ∙ ap (with_items is) (sym (filter-append is_definition (map item_of js) (item_of j ∷ [])))
     ∙ ap (λ l. with_items is (filter is_definition l)) (sym (map-append item_of js (j ∷ [])))
 
+-- the same where they stand in a list
+pub item_next : (is : List flat.Item) (js : List Item) (i : ℕ) (j k : Item) {mid new : List flat.Item} → i < length js → j ≡ get_or js i j → k ≡ j →
+    mid ≡ with_items is (map item_of (take i js)) → new ≡ with_items mid (item_of k ∷ []) → new ≡ with_items is (map item_of (take (i + 1) js))
+item_next is js i j k {mid} lt at same m n =
+    one_item is (take i js) j m (n ∙ ap (λ y. with_items mid (item_of y ∷ [])) same)
+    ∙ ap (λ l. with_items is (map item_of l)) (ap (λ y. take i js ++ y ∷ []) at ∙ sym (take_more js i j lt))
+
+pub definition_next : (is : List flat.Item) (js : List Item) (i : ℕ) (j : Item) {mid new : List flat.Item} → i < length js → j ≡ get_or js i j →
+    mid ≡ with_items is (filter is_definition (map item_of (take i js))) → new ≡ with_items mid (filter is_definition (item_of j ∷ [])) →
+    new ≡ with_items is (filter is_definition (map item_of (take (i + 1) js)))
+definition_next is js i j lt at m n =
+    one_definition is (take i js) j m n
+    ∙ ap (λ l. with_items is (filter is_definition (map item_of l))) (ap (λ y. take i js ++ y ∷ []) at ∙ sym (take_more js i j lt))
+
 -- one name of WITH more
 pub with_step : {old mid new : Resolving} (prefix : List ℕ) (p : Place) (inside : List Entry) (cs : List (List ℕ × Expr)) (i : ℕ) (c : List ℕ × Expr) (t : Expr)
     (made pushed : List Item) (j : Item) {rest : List (List ℕ × Expr)} →
@@ -146,10 +160,10 @@ pub instance_learns : {old new : Knowing} {m1 m2 m3 : Resolving} (u : Instance) 
     Told m1 m2 (with_misuses u.place m1.scope inside u.with.now) → map item_of js ≡ map (with_item prefix m1.scope) u.with.now →
     Told m2 m3 (symbol_misuses u.place m2.scope u.with.now inside) →
     new.resolving.scope ≡ with_new m3.scope es → new.resolving.told ≡ m3.told →
-    is ≡ with_items (map item_of old.items.items) (map item_of js) →
-    map item_of new.items.items ≡ with_items is (filter is_definition (map item_of a.items.items)) →
+    is ≡ with_items (map item_of old.items) (map item_of js) →
+    map item_of new.items ≡ with_items is (filter is_definition (map item_of a.items)) →
     Learns old new (instance_names old.resolving.scope u.name.now u.local u.place ++ instance_entries u.name.now u.local a.resolving.scope)
-    (map (with_item prefix old.resolving.scope) u.with.now ++ filter is_definition (map item_of a.items.items))
+    (map (with_item prefix old.resolving.scope) u.with.now ++ filter is_definition (map item_of a.items))
     (all_repeated old.resolving.scope (instance_names old.resolving.scope u.name.now u.local u.place ++ instance_entries u.name.now u.local a.resolving.scope)
     ++ with_misuses u.place old.resolving.scope a.resolving.scope u.with.now ++ symbol_misuses u.place old.resolving.scope u.with.now a.resolving.scope)
 instance_learns {old} {new} {m1} {m2} {m3} u prefix a es inside js {is} i e t1 t2 replaced t3 names told items more =
@@ -163,9 +177,9 @@ instance_learns {old} {new} {m1} {m2} {m3} u prefix a es inside js {is} i e t1 t
     record {
       scope = names ∙ ap (λ l. with_new l es) all.scope ∙ ap (with_new own) (e ∙ ap brought i);
       items =
-          more ∙ ap (λ l. with_items l (filter is_definition (map item_of a.items.items)))
-          (items ∙ ap (with_items (map item_of old.items.items)) (replaced ∙ ap (λ s. map (with_item prefix s) u.with.now) t1.scope))
-          ∙ sym (items_append (map item_of old.items.items) (map (with_item prefix own) u.with.now) (filter is_definition (map item_of a.items.items)));
+          more ∙ ap (λ l. with_items l (filter is_definition (map item_of a.items)))
+          (items ∙ ap (with_items (map item_of old.items)) (replaced ∙ ap (λ s. map (with_item prefix s) u.with.now) t1.scope))
+          ∙ sym (items_append (map item_of old.items) (map (with_item prefix own) u.with.now) (filter is_definition (map item_of a.items)));
       told = told ∙ all.told ∙ ap (λ l. least_from old.resolving.told (whole l inside)) (e ∙ ap brought i) ∙ ap (λ l. least_from old.resolving.told (whole (brought a.resolving.scope) l)) i;
     }
 

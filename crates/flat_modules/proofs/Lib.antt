@@ -11,3 +11,5 @@ pub mod Names
 pub mod Behind
 pub mod Courses
 pub mod Places
+pub mod Scopes
+pub mod ItemKeys

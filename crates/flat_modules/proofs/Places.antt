@@ -1,21 +1,17 @@
 -- Where keys stand in a list.
-use Rattle.std.proofs.Common.{◌≡◌, ◌≢◌, ◌∙◌, ◌⊎◌, ◌==◌, ◌+◌, ◌-◌, ◌<◌, ◌≤◌, ℕ, zero, suc, Bool, true, false, cond, List, [], ◌∷◌, ◌++◌, ◌||◌, map, filter, length, take, set, get_or, Option, Some, None, refl, ap, sym, subst, inl, inr, arith, length-append}
-use Rattle.std.proofs.lemmas.Bool.{and_parts, cases_order, false≢true}
+use Rattle.std.proofs.Common.{◌≡◌, ◌≢◌, ◌∙◌, ◌⊎◌, ◌==◌, ◌+◌, ◌-◌, ◌%◌, ◌<◌, ◌≤◌, ℕ, zero, suc, Bool, true, false, cond, List, [], ◌∷◌, ◌++◌, ◌||◌, map, filter, length, take, set, get_or, Option, Some, None, refl, ap, sym, subst, inl, inr, arith, length-append}
+use Rattle.std.proofs.lemmas.Bool.{cases_order, false≢true}
 use Rattle.std.proofs.lemmas.Bool.Decides.{eqb_tells}
-use Rattle.std.proofs.lemmas.List.{get_or_read, get_or-set_other, get_or-set_same, get_or-take, get_or_append_left, length-map, length-set, take-map, length-take-le, take-append-le, take-take, take_all, take_more}
+use Rattle.std.proofs.lemmas.List.{get_or_read, get_or-set_other, get_or-set_same, get_or-take, get_or_append_left, get_or-map, length-map, length-set, take-map, map-append, length-take-le, take-append-le, take-take, take_all, take_more}
 use Rattle.std.proofs.Math.Seq.{get_or-append_seam, take-append_seam}
 use Rattle.std.proofs.lemmas.List.Folds.{list_any-append}
 use Rattle.std.specs.List.{list_any}
-use Rattle.std.specs.Option.{is_some}
-use Rattle.std.specs.Prelude.{◌&&◌, not, if◌then◌else◌}
+use Rattle.std.specs.Prelude.{if◌then◌else◌}
 use Rattle.tla_meaning.specs.declared.symbols.Entry.{Entry}
 use Rattle.tla_meaning.specs.Scopes.{or_else, same_text}
-use Rattle.tla_meaning.specs.Symbols.{entry_of, is_announcement, is_declaration, is_inner, is_member, later, least_from, repeated, repeats, serves}
-use Rattle.tla_meaning.specs.Outcomes.{least}
-use Rattle.tla_meaning.specs.declared.symbols.Misuse.{Misuse}
-use Rattle.tla_meaning.specs.declared.symbols.Misuse.TheVariants.{Twice}
-use Rattle.flat_modules.proofs.Names.{same_is, same_turned}
-use Rattle.flat_modules.specs.inner.Places.{IsIndex, key_of, keys_of, one_on, place_of}
+use Rattle.tla_meaning.specs.Symbols.{entry_of}
+use Rattle.flat_modules.proofs.Names.{same_is}
+use Rattle.flat_modules.specs.inner.Places.{IsIndex, IsInBucket, buckets, key_of, keys_of, one_on, place_of}
 
 -- ---- one key more
 
@@ -45,6 +41,27 @@ same_number a b h = step (eqb_tells a b)
     step (inl e) = e.1
     step (inr e) = absurd (false≢true (sym e.0 ∙ h))
 
+other_number : (a b : ℕ) → (a == b) ≡ false → a ≡ b → ⊥
+other_number a b h e = step (eqb_tells a b)
+  where
+    step : (((a == b) ≡ true) × (a ≡ b)) ⊎ (((a == b) ≡ false) × (a ≢ b)) → ⊥
+    step (inl k) = false≢true (sym h ∙ k.0)
+    step (inr k) = k.1 e
+
+same_is_true : (a b : ℕ) → a ≡ b → (a == b) ≡ true
+same_is_true a b e = step (eqb_tells a b)
+  where
+    step : (((a == b) ≡ true) × (a ≡ b)) ⊎ (((a == b) ≡ false) × (a ≢ b)) → (a == b) ≡ true
+    step (inl h) = h.0
+    step (inr h) = absurd (h.1 e)
+
+other_is_false : (a b : ℕ) → a ≢ b → (a == b) ≡ false
+other_is_false a b e = step (eqb_tells a b)
+  where
+    step : (((a == b) ≡ true) × (a ≡ b)) ⊎ (((a == b) ≡ false) × (a ≢ b)) → (a == b) ≡ false
+    step (inl h) = absurd (e h.1)
+    step (inr h) = h.0
+
 pub place_has : (k : ℕ) (keys : List ℕ) (i : ℕ) → place_of k keys ≡ suc i → get_or keys i 0 ≡ k
 place_has k [] i h = absurd (omega arith)
 place_has k (x ∷ xs) i h = step (place_of k xs) (x == k) refl refl h (λ j e. place_has k xs j e)
@@ -54,42 +71,42 @@ place_has k (x ∷ xs) i h = step (place_of k xs) (x == k) refl refl h (λ j e. 
     step zero false e f g h = absurd (omega arith)
     step (suc p) b e f g h = let at : i ≡ suc p = omega arith in ap (λ j. get_or (x ∷ xs) j 0) at ∙ h p e
 
--- ---- the entries of a name
-
-other_key : (x : List ℕ) (e : Entry) → (key_of e.name == key_of x) ≡ false → same_text x e.name ≡ true → ⊥
-other_key x e h s = step (eqb_tells (key_of e.name) (key_of x))
-  where
-    step : (((key_of e.name == key_of x) ≡ true) × (key_of e.name ≡ key_of x)) ⊎ (((key_of e.name == key_of x) ≡ false) × (key_of e.name ≢ key_of x)) → ⊥
-    step (inl k) = false≢true (sym h ∙ k.0)
-    step (inr k) = k.1 (ap key_of (sym (same_is x e.name s)))
+-- ---- what is asked of those that have a key
 
 not_so : (b : Bool) → (b ≡ true → ⊥) → b ≡ false
 not_so true f = absurd (f refl)
 not_so false f = refl
 
+module _ {X A : Type 0} (key : X → ℕ) (k : ℕ) (f : List X → A) (g : X → A → A) where
+  -- what those behind the last of its key make no difference to
+  pub fold_at : ((x : X) (xs : List X) → f (x ∷ xs) ≡ g x (f xs)) → ((x : X) → (key x == k) ≡ false → g x (f []) ≡ f []) →
+      (xs : List X) → f xs ≡ f (take (place_of k (map key xs)) xs)
+  fold_at folds other [] = refl
+  fold_at folds other (x ∷ xs) = step (place_of k (map key xs)) (key x == k) refl (fold_at folds other xs)
+    where
+      step : (p : ℕ) (b : Bool) → (key x == k) ≡ b → f xs ≡ f (take p xs) → f (x ∷ xs) ≡ f (take (one_on p b) (x ∷ xs))
+      step zero true e h = folds x xs ∙ ap (g x) h ∙ sym (folds x [])
+      step zero false e h = folds x xs ∙ ap (g x) h ∙ other x e
+      step (suc p) b e h = folds x xs ∙ ap (g x) h ∙ sym (folds x (take (suc p) xs))
+
+pub any_at : {X : Type 0} (key : X → ℕ) (k : ℕ) (t : X → Bool) → ((x : X) → t x ≡ true → key x ≡ k) → (xs : List X) →
+    list_any t xs ≡ list_any t (take (place_of k (map key xs)) xs)
+any_at key k t named = fold_at key k (list_any t) (λ x b. t x || b) (λ x xs. refl) (λ x e. ap (λ b. b || false) (not_so (t x) (λ s. other_number (key x) k e (named x s))))
+
+pub filter_at : {X : Type 0} (key : X → ℕ) (k : ℕ) (t : X → Bool) → ((x : X) → t x ≡ true → key x ≡ k) → (xs : List X) →
+    filter t xs ≡ filter t (take (place_of k (map key xs)) xs)
+filter_at key k t named = fold_at key k (filter t) (λ x l. cond (t x) (x ∷ l) l) (λ x xs. refl) (λ x e. ap (λ b. cond b (x ∷ []) []) (not_so (t x) (λ s. other_number (key x) k e (named x s))))
+
+pub bucket_at : (n k : ℕ) (keys : List ℕ) → place_of k keys ≡ place_of k (take (place_of (k % n) (buckets n keys)) keys)
+bucket_at n k = fold_at (λ x. x % n) (k % n) (place_of k) (λ x p. one_on p (x == k)) (λ x xs. refl)
+    (λ x e. ap (one_on 0) (not_so (x == k) (λ s. other_number (x % n) (k % n) e (ap (λ y. y % n) (same_number x k s)))))
+
 abbrev here : List ℕ → Entry → Option Entry
 here x e = if same_text x e.name then Some e else None
 
 pub find_at : (x : List ℕ) (es : List Entry) → entry_of x es ≡ entry_of x (take (place_of (key_of x) (keys_of es)) es)
-find_at x [] = refl
-find_at x (e ∷ es) = step (place_of (key_of x) (keys_of es)) (key_of e.name == key_of x) refl (find_at x es)
-  where
-    step : (p : ℕ) (b : Bool) → (key_of e.name == key_of x) ≡ b → entry_of x es ≡ entry_of x (take p es) →
-        or_else (entry_of x es) (here x e) ≡ entry_of x (take (one_on p b) (e ∷ es))
-    step zero true f h = ap (λ o. or_else o (here x e)) h
-    step zero false f h = ap (λ o. or_else o (here x e)) h ∙ ap (λ b. cond b (Some e) None) (not_so (same_text x e.name) (other_key x e f))
-    step (suc p) b f h = ap (λ o. or_else o (here x e)) h
-
-pub any_at : (t : Entry → Bool) (x : List ℕ) → ((e : Entry) → t e ≡ true → same_text x e.name ≡ true) → (es : List Entry) →
-    list_any t es ≡ list_any t (take (place_of (key_of x) (keys_of es)) es)
-any_at t x named [] = refl
-any_at t x named (e ∷ es) = step (place_of (key_of x) (keys_of es)) (key_of e.name == key_of x) refl (any_at t x named es)
-  where
-    step : (p : ℕ) (b : Bool) → (key_of e.name == key_of x) ≡ b → list_any t es ≡ list_any t (take p es) →
-        (t e || list_any t es) ≡ list_any t (take (one_on p b) (e ∷ es))
-    step zero true f h = ap (λ b. t e || b) h
-    step zero false f h = ap (λ b. t e || b) h ∙ ap (λ b. b || false) (not_so (t e) (λ s. other_key x e f (named e s)))
-    step (suc p) b f h = ap (λ b. t e || b) h
+find_at x = fold_at (λ (e : Entry). key_of e.name) (key_of x) (entry_of x) (λ e o. or_else o (here x e)) (λ e es. refl)
+    (λ e f. ap (λ b. cond b (Some e) None) (not_so (same_text x e.name) (λ s. other_number (key_of e.name) (key_of x) f (ap key_of (sym (same_is x e.name s))))))
 
 -- ---- an index with one key more, and one less
 
@@ -148,12 +165,7 @@ module _ (keys heads links : List ℕ) (index : IsIndex keys heads links) (key :
           links_so = λ i h. link_more i (below_or_at i (length keys) (length more) size h);
           small = λ i h. small_more i (below_or_at i (length keys) (length more) size h);
           links_len = omega (arith, length-append keys (key ∷ []), length-append links (get_or heads key 0 ∷ []), index.links_len);
-          room = same_room index.room;
         }
-      where
-        same_room : (length heads ≡ 0) ⊎ (length heads ≡ 4096) → (length (set heads key (suc (length keys))) ≡ 0) ⊎ (length (set heads key (suc (length keys))) ≡ 4096)
-        same_room (inl e) = inl (length-set heads key (suc (length keys)) ∙ e)
-        same_room (inr e) = inr (length-set heads key (suc (length keys)) ∙ e)
 
 -- without the last key
 module _ (keys heads links : List ℕ) (n before : ℕ) (index : IsIndex keys heads links) (size : length keys ≡ suc n) where
@@ -180,7 +192,6 @@ module _ (keys heads links : List ℕ) (n before : ℕ) (index : IsIndex keys he
     links_so = λ i h. link i (omega (arith, front_length));
     small = λ i h. size_of i (omega (arith, front_length));
     links_len = length-take-le n links (omega (arith, index.links_len)) ∙ sym front_length;
-    room = same_room index.room;
   }
     where
       link : (i : ℕ) → i < n → get_or (take n links) i 0 ≡ place_of (get_or (take n keys) i 0) (take i (take n keys))
@@ -191,88 +202,109 @@ module _ (keys heads links : List ℕ) (n before : ℕ) (index : IsIndex keys he
       size_of : (i : ℕ) → i < n → get_or (take n keys) i 0 < length (set heads last before)
       size_of i h = omega (arith, get_or-take n keys i 0 h, index.small i (omega arith), length-set heads last before)
 
-      same_room : (length heads ≡ 0) ⊎ (length heads ≡ 4096) → (length (set heads last before) ≡ 0) ⊎ (length (set heads last before) ≡ 4096)
-      same_room (inl e) = inl (length-set heads last before ∙ e)
-      same_room (inr e) = inr (length-set heads last before ∙ e)
+-- ---- keys in their buckets
 
-pub index_popped : {keys heads links : List ℕ} (n : ℕ) {key before : ℕ} {front kept : List ℕ} → IsIndex keys heads links → length keys ≡ suc n → key ≡ get_or keys n key → before ≡ get_or links n before →
-    front ≡ take n keys → kept ≡ take n links → IsIndex front (set heads key before) kept
-index_popped {keys} {heads} {links} n {key} {before} {front} {kept} index size k b f l =
-    let key_is : key ≡ get_or keys n 0 = get_or_read keys n key (omega arith) k 0 in
-    let before_is : before ≡ get_or links n 0 = get_or_read links n before (omega (arith, index.links_len)) b 0 in
-    subst (λ xs. IsIndex front (set heads key before) xs) (sym l)
-    (subst (λ xs. IsIndex xs (set heads key before) (take n links)) (sym f)
-    (subst (λ x. IsIndex (take n keys) (set heads x before) (take n links)) (sym key_is) (index_less keys heads links n before index size before_is)))
+module _ (keys heads links : List ℕ) (index : IsIndex (buckets (length heads) keys) heads links) where
+  buckets_length : length (buckets (length heads) keys) ≡ length keys
+  buckets_length = length-map keys (λ k. k % length heads)
 
-wider : {keys heads room links : List ℕ} → IsIndex keys heads links → length room ≡ 4096 → ((k : ℕ) → get_or room k 0 ≡ get_or heads k 0) → IsIndex keys room links
-wider {keys} {heads} {room} {links} index size same = record {
-  heads_so = λ k. same k ∙ index.heads_so k;
-  links_so = index.links_so;
-  small = λ i h. within i (index.small i h) index.room;
-  links_len = index.links_len;
-  room = inr size;
-}
-  where
-    within : (i : ℕ) → get_or keys i 0 < length heads → (length heads ≡ 0) ⊎ (length heads ≡ 4096) → get_or keys i 0 < length room
-    within i h (inl e) = absurd (omega arith)
-    within i h (inr e) = omega arith
+  pub links_length : length links ≡ length keys
+  links_length = index.links_len ∙ buckets_length
 
-pub index_pushed : {keys heads links : List ℕ} (room : List ℕ) {key before place : ℕ} {more led : List ℕ} → IsIndex keys heads links → length room ≡ 4096 → ((k : ℕ) → get_or room k 0 ≡ get_or heads k 0) →
-    key < 4096 → before ≡ get_or room key before → place ≡ suc (length keys) → more ≡ keys ++ key ∷ [] → led ≡ links ++ before ∷ [] → IsIndex more (set room key place) led
-index_pushed {keys} {heads} {links} room {key} {before} {place} {more} {led} index size same lt b p m l =
-    let lt_room : key < length room = omega arith in
-    let before_is : before ≡ get_or room key 0 = get_or_read room key before lt_room b 0 in
-    subst (λ xs. IsIndex more (set room key place) xs) (sym (l ∙ ap (λ x. links ++ x ∷ []) before_is))
-    (subst (λ xs. IsIndex xs (set room key place) (links ++ get_or room key 0 ∷ [])) (sym m)
-    (subst (λ x. IsIndex (keys ++ key ∷ []) (set room key x) (links ++ get_or room key 0 ∷ [])) (sym p)
-    (index_more keys room links (wider index size same) key lt_room)))
+  -- there are buckets where there are keys
+  pub some_buckets : {n : ℕ} → length keys ≡ suc n → 0 < length heads
+  some_buckets {n} size = omega (arith, index.small n (omega (arith, buckets_length)))
+
+  pub no_buckets : length heads ≡ 0 → keys ≡ []
+  no_buckets none = empty keys refl
+    where
+      empty : (xs : List ℕ) → xs ≡ keys → xs ≡ []
+      empty [] e = refl
+      empty (x ∷ xs) e = let some = some_buckets {n = length xs} (ap length (sym e)) in absurd (omega arith)
+
+  pub key_more : (key : ℕ) {more_keys more_heads led : List ℕ} → 0 < length heads → more_keys ≡ keys ++ key ∷ [] →
+      more_heads ≡ set heads (key % length heads) (suc (length links)) → led ≡ links ++ get_or heads (key % length heads) 0 ∷ [] →
+      IsIndex (buckets (length more_heads) more_keys) more_heads led × (length more_heads ≡ length heads)
+  key_more key {more_keys} {more_heads} {led} some k h l =
+      let bucket = key % length heads in
+      let size : length more_heads ≡ length heads = ap length h ∙ length-set heads bucket (suc (length links)) in
+      let one = index_more (buckets (length heads) keys) heads links index bucket (omega arith) in
+      let in_order : buckets (length more_heads) more_keys ≡ buckets (length heads) keys ++ bucket ∷ [] =
+      ap (λ n. buckets n more_keys) size ∙ ap (buckets (length heads)) k ∙ map-append (λ x. x % length heads) keys (key ∷ []) in
+      let head : more_heads ≡ set heads bucket (suc (length (buckets (length heads) keys))) =
+      h ∙ ap (λ n. set heads bucket (suc n)) index.links_len in (
+        subst (λ b. IsIndex b more_heads led) (sym in_order)
+            (subst (λ b. IsIndex (buckets (length heads) keys ++ bucket ∷ []) b led) (sym head)
+            (subst (λ b. IsIndex (buckets (length heads) keys ++ bucket ∷ []) (set heads bucket (suc (length (buckets (length heads) keys)))) b) (sym l) one)),
+        size,
+      )
+
+  pub key_less : (n key : ℕ) {front less_heads kept : List ℕ} → length keys ≡ suc n → key ≡ get_or keys n key → front ≡ take n keys →
+      less_heads ≡ set heads (key % length heads) (get_or links n 0) → kept ≡ take n links → IsIndex (buckets (length less_heads) front) less_heads kept
+  key_less n key {front} {less_heads} {kept} long is f h l =
+      let all = buckets (length heads) keys in
+      let size : length less_heads ≡ length heads = ap length h ∙ length-set heads (key % length heads) (get_or links n 0) in
+      let one = index_less all heads links n (get_or links n 0) index (buckets_length ∙ long) refl in
+      let in_order : buckets (length less_heads) front ≡ take n all =
+      ap (λ m. buckets m front) size ∙ ap (buckets (length heads)) f ∙ sym (take-map (λ x. x % length heads) n keys) in
+      let bucket : key % length heads ≡ get_or all n 0 = ap (λ x. x % length heads) (get_or_read keys n key (omega arith) is 0) ∙ sym (get_or-map (λ x. x % length heads) keys n 0 0 (omega arith)) in
+      subst (λ b. IsIndex b less_heads kept) (sym in_order)
+      (subst (λ b. IsIndex (take n all) b kept) (sym (h ∙ ap (λ b. set heads b (get_or links n 0)) bucket))
+      (subst (λ b. IsIndex (take n all) (set heads (get_or all n 0) (get_or links n 0)) b) (sym l) one))
+
+pub same_chains : (keys heads links : List ℕ) {more_heads led : List ℕ} → IsIndex (buckets (length heads) keys) heads links → more_heads ≡ heads → led ≡ links →
+    IsIndex (buckets (length more_heads) keys) more_heads led
+same_chains keys heads links {more_heads} {led} index h l =
+    subst (λ b. IsIndex (buckets (length b) keys) b led) (sym h) (subst (λ b. IsIndex (buckets (length heads) keys) heads b) (sym l) index)
+
+-- none yet
+pub no_keys : (heads links : List ℕ) → ((k : ℕ) → get_or heads k 0 ≡ 0) → links ≡ [] → IsIndex [] heads links
+no_keys heads links zeros none = record { heads_so = λ k. zeros k; links_so = λ i h. absurd (omega arith); small = λ i h. absurd (omega arith); links_len = ap length none }
 
 -- ---- a walk from place to place
 
--- from a place, what is asked of the entries before it
-pub record IsAt {A : Type 0} (f : List Entry → A) (x : List ℕ) (es : List Entry) (place : ℕ) : Type 0 where
-  pub within : place ≤ length es
-  pub same : f (take place es) ≡ f es
-  pub key : (i : ℕ) → place ≡ suc i → get_or (keys_of es) i 0 ≡ key_of x
+-- from a place, what is asked of those before it
+pub record IsAt {X A : Type 0} (key : X → ℕ) (f : List X → A) (whole : A) (k : ℕ) (xs : List X) (place : ℕ) : Type 0 where
+  pub within : place ≤ length xs
+  pub same : f (take place xs) ≡ whole
+  pub there : (i : ℕ) → place ≡ suc i → get_or (map key xs) i 0 ≡ k
 
-module _ {A : Type 0} (f : List Entry → A) (x : List ℕ) (at : (es : List Entry) → f es ≡ f (take (place_of (key_of x) (keys_of es)) es)) (es : List Entry) where
-  keys_length : length (keys_of es) ≡ length es
-  keys_length = length-map es (λ (e : Entry). key_of e.name)
+module _ {X A : Type 0} (key : X → ℕ) (f : List X → A) (k : ℕ) (at : (xs : List X) → f xs ≡ f (take (place_of k (map key xs)) xs)) (xs : List X) where
+  keys_length : length (map key xs) ≡ length xs
+  keys_length = length-map xs key
 
-  pub begins_at : {place : ℕ} {keys : List ℕ} → place ≡ place_of (key_of x) keys → keys ≡ keys_of es → IsAt f x es place
-  begins_at {place} {keys} p k =
-      let is : place ≡ place_of (key_of x) (keys_of es) = p ∙ ap (place_of (key_of x)) k in record {
-        within = omega (arith, place_within (key_of x) (keys_of es), keys_length);
-        same = ap (λ n. f (take n es)) is ∙ sym (at es);
-        key = λ i h. place_has (key_of x) (keys_of es) i (sym is ∙ h);
+  pub begins_at : {place : ℕ} {keys : List ℕ} → place ≡ place_of k keys → keys ≡ map key xs → IsAt key f (f xs) k xs place
+  begins_at {place} {keys} p e =
+      let is : place ≡ place_of k (map key xs) = p ∙ ap (place_of k) e in record {
+        within = omega (arith, place_within k (map key xs), keys_length);
+        same = ap (λ n. f (take n xs)) is ∙ sym (at xs);
+        there = λ i h. place_has k (map key xs) i (sym is ∙ h);
       }
 
-  pub goes_on : (place next : ℕ) {keys : List ℕ} → 0 < place → IsAt f x es place → f (take ((place - 1) + 1) es) ≡ f (take (place - 1) es) →
-      next ≡ place_of (get_or keys (place - 1) 0) (take (place - 1) keys) → keys ≡ keys_of es → IsAt f x es next × (next < place)
-  goes_on place next {keys} some is miss n k =
+  -- on to the place before this one of the same key
+  pub goes_on : {whole next_whole : A} (place next : ℕ) {keys : List ℕ} → 0 < place → IsAt key f whole k xs place → f (take (place - 1) xs) ≡ next_whole →
+      next ≡ place_of (get_or keys (place - 1) 0) (take (place - 1) keys) → keys ≡ map key xs → IsAt key f next_whole k xs next × (next < place)
+  goes_on {whole} {next_whole} place next {keys} some is miss n e =
       let j = place - 1 in
       let up : place ≡ suc j = omega arith in
-      let here : get_or (keys_of es) j 0 ≡ key_of x = is.key j up in
-      let front : take j (keys_of es) ≡ keys_of (take j es) = take-map (λ (e : Entry). key_of e.name) j es in
-      let at_next : next ≡ place_of (key_of x) (keys_of (take j es)) =
-      n ∙ ap (λ l. place_of (get_or l j 0) (take j l)) k ∙ ap (λ y. place_of y (take j (keys_of es))) here ∙ ap (place_of (key_of x)) front in
-      let most : next ≤ j = omega (arith, place_within (key_of x) (keys_of (take j es)), length-map (take j es) (λ (e : Entry). key_of e.name), length-take-le j es (omega (arith, is.within))) in
-      let before : place ≡ (place - 1) + 1 = omega arith in (
+      let here : get_or (map key xs) j 0 ≡ k = is.there j up in
+      let front : take j (map key xs) ≡ map key (take j xs) = take-map key j xs in
+      let at_next : next ≡ place_of k (map key (take j xs)) =
+      n ∙ ap (λ l. place_of (get_or l j 0) (take j l)) e ∙ ap (λ y. place_of y (take j (map key xs))) here ∙ ap (place_of k) front in
+      let most : next ≤ j = omega (arith, place_within k (map key (take j xs)), length-map (take j xs) key, length-take-le j xs (omega (arith, is.within))) in (
         record {
           within = omega (arith, is.within);
-          same =
-              ap f (sym (take-take next j es most)) ∙ ap (λ m. f (take m (take j es))) at_next ∙ sym (at (take j es)) ∙ sym miss
-              ∙ ap (λ m. f (take m es)) (sym before) ∙ is.same;
-          key = λ i h.
-              sym (get_or-take j (keys_of es) i 0 (omega arith)) ∙ ap (λ l. get_or l i 0) front
-              ∙ place_has (key_of x) (keys_of (take j es)) i (sym at_next ∙ h);
+          same = ap f (sym (take-take next j xs most)) ∙ ap (λ m. f (take m (take j xs))) at_next ∙ sym (at (take j xs)) ∙ miss;
+          there = λ i h.
+              sym (get_or-take j (map key xs) i 0 (omega arith)) ∙ ap (λ l. get_or l i 0) front
+              ∙ place_has k (map key (take j xs)) i (sym at_next ∙ h);
         },
         omega arith,
       )
 
--- ---- tests
+-- ---- one of them
 
-pub any_more : (t : Entry → Bool) (es : List Entry) (i : ℕ) (e : Entry) → i < length es → e ≡ get_or es i e → list_any t (take (i + 1) es) ≡ (list_any t (take i es) || t e)
+pub any_more : {X : Type 0} (t : X → Bool) (es : List X) (i : ℕ) (e : X) → i < length es → e ≡ get_or es i e → list_any t (take (i + 1) es) ≡ (list_any t (take i es) || t e)
 any_more t es i e lt is =
     ap (list_any t) (take_more es i e lt ∙ ap (λ y. take i es ++ y ∷ []) (sym is)) ∙ list_any-append t (take i es) (e ∷ [])
     ∙ ap (λ b. list_any t (take i es) || b) (or_false (t e))
@@ -281,54 +313,114 @@ any_more t es i e lt is =
     or_false true = refl
     or_false false = refl
 
-pub any_miss : (t : Entry → Bool) (es : List Entry) (j : ℕ) (e : Entry) → j < length es → e ≡ get_or es j e → t e ≡ false → list_any t (take (j + 1) es) ≡ list_any t (take j es)
+pub any_miss : {X : Type 0} (t : X → Bool) (es : List X) (j : ℕ) (e : X) → j < length es → e ≡ get_or es j e → t e ≡ false → list_any t (take (j + 1) es) ≡ list_any t (take j es)
 any_miss t es j e lt is miss = any_more t es j e lt is ∙ ap (λ b. list_any t (take j es) || b) miss ∙ nothing (list_any t (take j es))
   where
     nothing : (b : Bool) → (b || false) ≡ b
     nothing true = refl
     nothing false = refl
 
-pub any_hit : (t : Entry → Bool) (es : List Entry) (j : ℕ) (e : Entry) → j < length es → e ≡ get_or es j e → t e ≡ true → list_any t (take (j + 1) es) ≡ true
+pub any_hit : {X : Type 0} (t : X → Bool) (es : List X) (j : ℕ) (e : X) → j < length es → e ≡ get_or es j e → t e ≡ true → list_any t (take (j + 1) es) ≡ true
 any_hit t es j e lt is hit = any_more t es j e lt is ∙ ap (λ b. list_any t (take j es) || b) hit ∙ something (list_any t (take j es))
   where
     something : (b : Bool) → (b || true) ≡ true
     something true = refl
     something false = refl
 
--- what serves for a name has that name
-pub served : (f e : Entry) → serves f e ≡ true → same_text f.name e.name ≡ true
-served f e h =
-    let same = (and_parts (same_text e.name f.name) (same_text e.origin f.origin) (and_parts (same_text e.name f.name && same_text e.origin f.origin) (e.exported || not f.exported)
-    (and_parts ((same_text e.name f.name && same_text e.origin f.origin) && (e.exported || not f.exported)) (if is_declaration e.kind then is_declaration f.kind else not (is_declaration f.kind)) h).0).0).0 in
-    same_turned f.name e.name ∙ same
+-- the key at a place is this one, or another
+key_at : (k : ℕ) (keys : List ℕ) (j : ℕ) → j < length keys → place_of k (take (j + 1) keys) ≡ cond (get_or keys j 0 == k) (suc j) (place_of k (take j keys))
+key_at k keys j lt =
+    ap (place_of k) (take_more keys j 0 lt) ∙ place_more k (take j keys) (get_or keys j 0)
+    ∙ ap (λ n. cond (get_or keys j 0 == k) (suc n) (place_of k (take j keys))) (length-take-le j keys (omega arith))
 
-pub place_at : (keys : List ℕ) {place key k : ℕ} → place ≡ place_of key keys → key ≡ k → place ≡ place_of k keys
-place_at keys {place} {key} {k} p e = p ∙ ap (λ x. place_of x keys) e
+pub key_hit : (k : ℕ) (keys : List ℕ) (j : ℕ) → j < length keys → get_or keys j 0 ≡ k → place_of k (take (j + 1) keys) ≡ suc j
+key_hit k keys j lt e = key_at k keys j lt ∙ ap (λ b. cond b (suc j) (place_of k (take j keys))) (same_is_true (get_or keys j 0) k e)
 
-pub keys_less : (keys more : List ℕ) (es front : List Entry) (n : ℕ) → n ≡ length es - 1 → keys ≡ keys_of es → front ≡ take n es → more ≡ take (length keys - 1) keys → more ≡ keys_of front
-keys_less keys more es front n size k f m =
-    let same : length keys - 1 ≡ n = omega (arith, ap length k, length-map es (λ (e : Entry). key_of e.name)) in
-    m ∙ ap (λ i. take i keys) same ∙ ap (take n) k ∙ take-map (λ (e : Entry). key_of e.name) n es ∙ ap keys_of (sym f)
+pub key_miss : (k : ℕ) (keys : List ℕ) (j : ℕ) → j < length keys → get_or keys j 0 ≢ k → place_of k (take (j + 1) keys) ≡ place_of k (take j keys)
+key_miss k keys j lt e = key_at k keys j lt ∙ ap (λ b. cond b (suc j) (place_of k (take j keys))) (other_is_false (get_or keys j 0) k e)
 
--- ---- a name that is not there repeats nothing
+-- ---- from a bucket to a key
 
-neither : (e : Entry) (o : Option Entry) (b : Bool) → or_else o (cond b (Some e) None) ≡ None → (o ≡ None) × (b ≡ false)
-neither e None true h = absurd (cc)
-neither e None false h = (refl, refl)
-neither e (Some x) b h = absurd (cc)
+-- the places of a bucket, where keys also have another name
+module _ (keys heads links : List ℕ) (index : IsIndex (buckets (length heads) keys) heads links) where
+  abbrev n : ℕ
+  n = length heads
 
-none_repeats : (f : Entry) (es : List Entry) → entry_of f.name es ≡ None → filter (repeats f) es ≡ []
-none_repeats f [] h = refl
-none_repeats f (e ∷ es) h =
-    let parts = neither e (entry_of f.name es) (same_text f.name e.name) h in
-    let not_it : repeats f e ≡ false =
-    ap (λ b. b && not (is_member f.kind) && not (is_announcement e.kind) && (is_inner f.kind || not (same_text f.origin e.origin))) parts.1 in
-    ap (λ b. cond b (e ∷ filter (repeats f) es) (filter (repeats f) es)) not_it ∙ none_repeats f es parts.0
+  abbrev in_bucket : ℕ → ℕ
+  in_bucket x = x % n
 
-pub unknown_told : (told : Option Misuse) (f : Entry) (es : List Entry) (o : Option Entry) → o ≡ None → o ≡ entry_of f.name es → told ≡ least_from told (repeated es f)
-unknown_told told f es o none is =
-    ap (λ l. least_from told (map (λ (e : Entry). Twice f.name (least e.place f.place) (later e.place f.place)) l)) (sym (none_repeats f es (sym is ∙ none)))
+  pub head_begins : (key head : ℕ) {xs : List ℕ} → 0 < n → head ≡ get_or heads (key % n) head → xs ≡ keys →
+      IsInBucket n key xs head × (place_of key (take head xs) ≡ place_of key keys)
+  head_begins key head {xs} some is same =
+      let at : head ≡ place_of (key % n) (buckets n keys) = get_or_read heads (key % n) head (omega arith) is 0 ∙ index.heads_so (key % n) in (
+        subst (λ l. IsInBucket n key l head) (sym same)
+            (record { within = omega (arith, place_within (key % n) (buckets n keys), length-map keys in_bucket); there = λ i h. place_has (key % n) (buckets n keys) i (sym at ∙ h) }),
+        ap (λ l. place_of key (take head l)) same ∙ ap (λ i. place_of key (take i keys)) at ∙ sym (bucket_at n key keys),
+      )
 
-pub none_copied : {X Y : Type 0} (f : Option X → Option Y) → f None ≡ None → (r : Option X) → is_some r ≡ false → f r ≡ None
-none_copied f n None h = n
-none_copied f n (Some x) h = absurd (cc)
+  -- the place before one of a bucket
+  link_is : (j link : ℕ) → j < length keys → link ≡ get_or links j link → link ≡ place_of (get_or keys j 0 % n) (buckets n (take j keys))
+  link_is j link lt is =
+      get_or_read links j link (omega (arith, links_length keys heads links index)) is 0 ∙ index.links_so j (omega (arith, length-map keys in_bucket))
+      ∙ ap (λ b. place_of b (take j (buckets n keys))) (get_or-map in_bucket keys j 0 0 lt) ∙ ap (place_of (get_or keys j 0 % n)) (take-map in_bucket j keys)
+
+  pub link_begins : (j key link : ℕ) {xs : List ℕ} → j < length keys → key ≡ get_or keys j key → link ≡ get_or links j link → xs ≡ keys →
+      IsInBucket n key xs link × (place_of key (take link xs) ≡ place_of (get_or keys j 0) (take j keys))
+  link_begins j key link {xs} lt here is same =
+      let key_is : key ≡ get_or keys j 0 = get_or_read keys j key lt here 0 in
+      let at : link ≡ place_of (key % n) (buckets n (take j keys)) = link_is j link lt is ∙ ap (λ k. place_of (k % n) (buckets n (take j keys))) (sym key_is) in
+      let most : link ≤ j = omega (arith, at, place_within (key % n) (buckets n (take j keys)), length-map (take j keys) in_bucket, length-take-le j keys (omega arith)) in (
+        subst (λ l. IsInBucket n key l link) (sym same)
+            (record {
+              within = omega arith;
+              there = λ i h.
+                  sym (get_or-take j (buckets n keys) i 0 (omega arith)) ∙ ap (λ l. get_or l i 0) (take-map in_bucket j keys)
+                  ∙ place_has (key % n) (buckets n (take j keys)) i (sym at ∙ h);
+            }),
+        ap (λ l. place_of key (take link l)) same ∙ ap (place_of key) (sym (take-take link j keys most)) ∙ ap (λ i. place_of key (take i (take j keys))) at
+            ∙ sym (bucket_at n key (take j keys)) ∙ ap (λ k. place_of k (take j keys)) key_is,
+      )
+
+  pub seek_hit : (from key place : ℕ) → 0 < place → IsAt in_bucket (place_of key) (place_of key (take from keys)) (key % n) keys place →
+      get_or keys (place - 1) 0 ≡ key → place ≡ place_of key (take from keys)
+  seek_hit from key place some at same =
+      let j = place - 1 in
+      let up : place ≡ suc j = omega arith in
+      let up_too : place ≡ j + 1 = omega arith in
+      up ∙ sym (key_hit key keys j (omega (arith, at.within)) same) ∙ ap (λ i. place_of key (take i keys)) (sym up_too) ∙ at.same
+
+  pub seek_next : (from key place next : ℕ) → 0 < place → IsAt in_bucket (place_of key) (place_of key (take from keys)) (key % n) keys place →
+      get_or keys (place - 1) 0 ≢ key → next ≡ get_or links (place - 1) next →
+      IsAt in_bucket (place_of key) (place_of key (take from keys)) (key % n) keys next × (next < place)
+  seek_next from key place next some at other link =
+      let j = place - 1 in
+      let up : place ≡ j + 1 = omega arith in
+      let lt : j < length keys = omega (arith, at.within) in
+      let miss : place_of key (take j keys) ≡ place_of key (take from keys) =
+      sym (key_miss key keys j lt other) ∙ ap (λ i. place_of key (take i keys)) (sym up) ∙ at.same in
+      let at_next : next ≡ place_of (get_or (buckets n keys) j 0) (take j (buckets n keys)) =
+      get_or_read links j next (omega (arith, links_length keys heads links index)) link 0 ∙ index.links_so j (omega (arith, length-map keys in_bucket)) in
+      goes_on in_bucket (place_of key) (key % n) (bucket_at n key) keys place next some at miss at_next refl
+
+-- ---- whether one of them passes a test
+
+pub read_as : {X : Type 0} (xs : List X) (j : ℕ) {x e : X} → e ≡ x → x ≡ get_or xs j x → e ≡ get_or xs j e
+read_as xs j {x} {e} same is = subst (λ y. y ≡ get_or xs j y) (sym same) is
+
+module _ {X : Type 0} (key : X → ℕ) (k : ℕ) (t : X → Bool) (named : (x : X) → t x ≡ true → key x ≡ k) (xs : List X) where
+  pub any_begins : {place : ℕ} {keys : List ℕ} → place ≡ place_of k keys → keys ≡ map key xs → IsAt key (list_any t) (list_any t xs) k xs place
+  any_begins p e = begins_at key (list_any t) k (any_at key k t named) xs p e
+
+  pub any_found : (place : ℕ) (x : X) {whole : Bool} → 0 < place → IsAt key (list_any t) whole k xs place → x ≡ get_or xs (place - 1) x → t x ≡ true → true ≡ whole
+  any_found place x {whole} some at is hit =
+      let j = place - 1 in
+      let up : place ≡ j + 1 = omega arith in
+      sym (any_hit t xs j x (omega (arith, at.within)) is hit) ∙ ap (λ n. list_any t (take n xs)) (sym up) ∙ at.same
+
+  pub any_next : (place next : ℕ) (x : X) {whole : Bool} {keys : List ℕ} → 0 < place → IsAt key (list_any t) whole k xs place → x ≡ get_or xs (place - 1) x → t x ≡ false →
+      next ≡ place_of (get_or keys (place - 1) 0) (take (place - 1) keys) → keys ≡ map key xs → IsAt key (list_any t) whole k xs next × (next < place)
+  any_next place next x {whole} {keys} some at is miss n e =
+      let j = place - 1 in
+      let up : place ≡ j + 1 = omega arith in
+      let same : list_any t (take j xs) ≡ whole = sym (any_miss t xs j x (omega (arith, at.within)) is miss) ∙ ap (λ n. list_any t (take n xs)) (sym up) ∙ at.same in
+      goes_on key (list_any t) k (any_at key k t named) xs place next some at same n e

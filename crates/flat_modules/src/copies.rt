@@ -172,8 +172,7 @@ impl<'a> ModuleCopy<'a> {
 pub(crate) fn origin_at(alloc: Global, place: Place, scope: &Scope) -> Result<Text, AllocError>
     ensures { IfOk result (λ t. t ≡ origin_at place scope.now) }
 {
-    let origins = scope.declared_origins()?;
-    origin_over(alloc, place, &origins)
+    origin_over(alloc, place, scope.origins())
 }
 
 // A declared name of the root stands for its number.

@@ -109,24 +109,6 @@ pub(crate) fn announced(
     })
 }
 
-// An equal name.
-pub(crate) fn copy_entry(alloc: Global, entry: &Entry) -> Result<Entry, AllocError>
-    ensures { IfOk result (λ e. e ≡ entry.now) }
-{
-    let name = copy_text(alloc, &entry.name)?;
-    let origin = copy_text(alloc, &entry.origin)?;
-    let stands = copy_op(alloc, &entry.stands)?;
-    Ok(Entry {
-        name,
-        kind: entry.kind,
-        place: entry.place,
-        origin,
-        stands,
-        arity: entry.arity,
-        exported: entry.exported,
-    })
-}
-
 // ---- names that are declared twice
 
 // Whether a new name repeats one in scope.
@@ -165,36 +147,20 @@ fn twice(alloc: Global, new: &Entry, entry: &Entry) -> Result<Misuse, AllocError
     }
 }
 
-// The first of the least, with what is told of a new name beside those in scope.
-pub(crate) fn with_repeated(
+// Adds what is told of a new name beside one in scope.
+pub(crate) fn add_repeated(
     alloc: Global,
-    told: Option<Misuse>,
-    entries: &[Entry],
-    new: &Entry,
-) -> Result<Option<Misuse>, AllocError>
-    ensures { IfOk result (λ least. least ≡ least_from told (repeated entries.now new.now)) }
-{
-    let mut least = told;
-    for entry in entries {
-        least = beside(alloc, least, entry, new)?;
-    }
-    Ok(least)
-}
-
-// The same beside one name in scope.
-fn beside(
-    alloc: Global,
-    told: Option<Misuse>,
     entry: &Entry,
     new: &Entry,
-) -> Result<Option<Misuse>, AllocError>
-    ensures { IfOk result (λ least. least ≡ least_from told (repeated (entry.now ∷ []) new.now)) }
+    out: &mut Vec<Misuse>,
+) -> Result<(), AllocError>
+    ensures { OnOk result (out.new.items ≡ out.old.items ++ repeated (entry.now ∷ []) new.now) }
 {
     if !repeats(new, entry) {
-        return Ok(told);
+        return Ok(());
     }
-    let misuse = twice(alloc, new, entry)?;
-    Ok(Some(first_of(told, misuse)))
+    out.push(twice(alloc, new, entry)?)?;
+    Ok(())
 }
 
 // ---- which misuse is told

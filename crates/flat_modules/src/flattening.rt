@@ -8,7 +8,7 @@ ghost use Rattle.flat_modules.specs.inner.Learning.{IsKnown};
 
 use crate::copies::{Meaning, ModuleCopy};
 use crate::gathering::Sources;
-use crate::items::Item;
+use crate::items::{Item, Items, owned};
 use crate::knowing::Knowing;
 use std::alloc::{AllocError, Global};
 use tla_meaning::{Decl, Def, Expr, Flat, Misuse, Module};
@@ -112,16 +112,16 @@ impl<'a> Sources<'a> {
     }
 }
 
-fn split(alloc: Global, items: Vec<Item>) -> Result<FlatItems, AllocError>
-    ensures { IfOk result (λ f. IsSplit f (map item_of items.items)) }
+fn split(alloc: Global, items: Items) -> Result<FlatItems, AllocError>
+    ensures { IfOk result (λ f. IsSplit f (map item_of items)) }
 {
     let mut flat = FlatItems {
         decls: Vec::new(alloc),
         defs: Vec::new(alloc),
         assumes: Vec::new(alloc),
     };
-    for item in items {
-        flat.add(item)?;
+    for item in items.into_vec() {
+        flat.add(owned(alloc, item)?)?;
     }
     Ok(flat)
 }

@@ -9,6 +9,7 @@ use crate::copies::{ModuleCopy, joined, origin_at};
 use crate::entries::add_place;
 use crate::items::Item;
 use crate::scope::Scope;
+use crate::shared::Shared;
 use std::alloc::{AllocError, Global};
 use tla_meaning::{Def, Entry, Expr, Kind, Op, Place, copy_op};
 use tla_values::{List, Text, copy_text};
@@ -74,23 +75,23 @@ impl<'a> Instance<'a> {
         &self,
         alloc: Global,
         scope: &Scope,
-        inside: &[Entry],
-    ) -> Result<Vec<Entry>, AllocError>
+        inside: &[Shared<Entry>],
+    ) -> Result<Vec<Shared<Entry>>, AllocError>
         ensures { IfOk result (λ v. v.items ≡ instance_names scope.now self.now.name.now self.now.local self.now.place
             ++ instance_entries self.now.name.now self.now.local inside.now) }
     {
         let mut names = self.own_name(alloc, scope)?;
         for entry in inside {
-            if self.brings(entry) {
-                let name = self.renamed(alloc, entry)?;
-                names.push(name)?;
+            if self.brings(entry.get()) {
+                let name = self.renamed(alloc, entry.get())?;
+                names.push(Shared::new(alloc, name)?)?;
             }
         }
         Ok(names)
     }
 
     // The name of the INSTANCE, where it has one.
-    fn own_name(&self, alloc: Global, scope: &Scope) -> Result<Vec<Entry>, AllocError>
+    fn own_name(&self, alloc: Global, scope: &Scope) -> Result<Vec<Shared<Entry>>, AllocError>
         ensures { IfOk result (λ v. v.items ≡ instance_names scope.now self.now.name.now self.now.local self.now.place) }
     {
         let mut names = Vec::new(alloc);
@@ -98,7 +99,7 @@ impl<'a> Instance<'a> {
             let origin = origin_at(alloc, self.place, scope)?;
             let stands = Op::Use(copy_text(alloc, name)?);
             let name = copy_text(alloc, name)?;
-            names.push(Entry {
+            let entry = Entry {
                 name,
                 kind: Kind::InstanceName,
                 place: self.place,
@@ -106,7 +107,8 @@ impl<'a> Instance<'a> {
                 stands,
                 arity: 0,
                 exported: !self.local,
-            })?;
+            };
+            names.push(Shared::new(alloc, entry)?)?;
         }
         Ok(names)
     }

@@ -13,11 +13,12 @@ ghost use Rattle.flat_modules.specs.inner.Learning.{IsKnown, Learns};
 ghost use Rattle.flat_modules.specs.inner.Standards.{entries_of};
 
 use crate::copies::ModuleCopy;
-use crate::entries::{announced, copy_entry};
+use crate::entries::announced;
 use crate::instances::Instance;
-use crate::items::{Item, add_definitions, add_item, add_items, copy_decl};
+use crate::items::{Item, Items, copy_decl};
 use crate::resolving::Resolving;
 use crate::scope::Scope;
+use crate::shared::Shared;
 use crate::standards::{OUTSIDE, Standard};
 use std::alloc::{AllocError, Global};
 use tla_meaning::{Decl, Def, Entry, Expr, Kind, Misuse, Unit};
@@ -27,7 +28,7 @@ use tla_values::{Text, copy_text, copy_texts};
 #[derive(Drop)]
 pub(crate) struct Knowing {
     pub(crate) resolving: Resolving,
-    pub(crate) items: Vec<Item>,
+    pub(crate) items: Items,
 }
 
 impl Knowing {
@@ -41,7 +42,7 @@ impl Knowing {
                 scope: Scope::new(alloc),
                 told,
             },
-            items: Vec::new(alloc),
+            items: Items::new(alloc),
         }
     }
 
@@ -96,7 +97,7 @@ impl Knowing {
         let items = declarations(alloc, decls)?;
         self.resolving.tell_names(&names)?;
         self.resolving.scope.add_all(names)?;
-        add_items(&mut self.items, items)
+        self.items.add_all(items)
     }
 
     // ASSUME.
@@ -105,7 +106,7 @@ impl Knowing {
             (resolved_in self.old.resolving.scope e.now).misuses) }
     {
         let tree = self.resolving.resolve(e, 0)?;
-        add_item(&mut self.items, Item::Assumes(tree))
+        self.items.add(Item::Assumes(tree))
     }
 
     // A definition.
@@ -133,7 +134,7 @@ impl Knowing {
             note,
             body,
         };
-        add_item(&mut self.items, Item::Defines(definition))
+        self.items.add(Item::Defines(definition))
     }
 
     // RECURSIVE.
@@ -150,13 +151,13 @@ impl Knowing {
 
     // EXTENDS of a module of which so much is known.
     pub(crate) fn extend(&mut self, inside: Knowing) -> Result<(), AllocError>
-        ensures { OnOk result (Learns self.old self.new (filter (λ (e : Name). e.exported) inside.resolving.scope) (map item_of inside.items.items)
+        ensures { OnOk result (Learns self.old self.new (filter (λ (e : Name). e.exported) inside.resolving.scope) (map item_of inside.items)
             (all_repeated self.old.resolving.scope (filter (λ (e : Name). e.exported) inside.resolving.scope))) }
     {
         let names = exported(self.resolving.alloc, inside.resolving.scope.entries())?;
         self.resolving.tell_names(&names)?;
         self.resolving.scope.add_all(names)?;
-        add_items(&mut self.items, inside.items)
+        self.items.extend(&inside.items)
     }
 
     // INSTANCE of a module of which so much is known, where the names of WITH's expressions begin so.
@@ -169,7 +170,7 @@ impl Knowing {
         ensures { OnOk result (Learns self.old self.new
             (instance_names self.old.resolving.scope unit.now.name.now unit.now.local unit.now.place
             ++ instance_entries unit.now.name.now unit.now.local inside.resolving.scope)
-            (map (with_item prefix.now self.old.resolving.scope) unit.now.with.now ++ filter is_definition (map item_of inside.items.items))
+            (map (with_item prefix.now self.old.resolving.scope) unit.now.with.now ++ filter is_definition (map item_of inside.items))
             (all_repeated self.old.resolving.scope (instance_names self.old.resolving.scope unit.now.name.now unit.now.local unit.now.place
             ++ instance_entries unit.now.name.now unit.now.local inside.resolving.scope)
             ++ with_misuses unit.now.place self.old.resolving.scope inside.resolving.scope unit.now.with.now
@@ -184,8 +185,8 @@ impl Knowing {
             .with_definitions(prefix, unit.place, unit.with, entries)?;
         self.resolving.tell_symbols(unit.place, unit.with, entries)?;
         self.resolving.scope.add_all(names)?;
-        add_items(&mut self.items, replacing)?;
-        add_definitions(&mut self.items, items)
+        self.items.add_all(replacing)?;
+        self.items.add_definitions(items)
     }
 }
 
@@ -195,12 +196,13 @@ fn declared_names(
     alloc: Global,
     copy: &ModuleCopy,
     decls: &[Decl],
-) -> Result<Vec<Entry>, AllocError>
+) -> Result<Vec<Shared<Entry>>, AllocError>
     ensures { IfOk result (λ v. v.items ≡ map (declared (copy_of copy.now)) decls.now) }
 {
     let mut names = Vec::new(alloc);
     for d in decls {
-        names.push(copy.declared(alloc, d)?)?;
+        let name = copy.declared(alloc, d)?;
+        names.push(Shared::new(alloc, name)?)?;
     }
     Ok(names)
 }
@@ -242,13 +244,13 @@ fn is_open(scope: &Scope, name: &Text) -> bool
     }
 }
 
-fn exported(alloc: Global, entries: &[Entry]) -> Result<Vec<Entry>, AllocError>
+fn exported(alloc: Global, entries: &[Shared<Entry>]) -> Result<Vec<Shared<Entry>>, AllocError>
     ensures { IfOk result (λ v. v.items ≡ filter (λ (e : Name). e.exported) entries.now) }
 {
     let mut names = Vec::new(alloc);
     for entry in entries {
-        if entry.exported {
-            names.push(copy_entry(alloc, entry)?)?;
+        if entry.get().exported {
+            names.push(entry.share()?)?;
         }
     }
     Ok(names)

@@ -15,6 +15,7 @@ mod knowing;
 mod order;
 mod resolving;
 mod scope;
+mod shared;
 mod standards;
 mod telling;
 

@@ -1,12 +1,12 @@
 // Expressions with each name's symbol in its place.
-ghost use Rattle.std.specs.Prelude.{◌≡◌, ◌+◌, ◌≤◌, ◌∷◌, ◌++◌, [], Bool, true, false, List as Items, ◌==◌, ◌&&◌, ℕ, length, map, take, drop, get_or, replicate, if◌then◌else◌, IfOk, OnOk};
+ghost use Rattle.std.specs.Prelude.{◌≡◌, ◌+◌, ◌≤◌, ◌∷◌, ◌++◌, [], Bool, true, false, List as Items, ◌==◌, ◌&&◌, ℕ, length, map, take, drop, get_or, replicate, reverse, if◌then◌else◌, IfOk, OnOk};
 ghost use Rattle.tla_meaning.specs.Meaning.{Plain_role, role, except_marks};
 ghost use Rattle.tla_meaning.specs.Resolving.{children, first_with, body_scope, itself, inner_marks, is_function, let_in, let_repeats, marked_in, misused, resolved_op, resolver};
 ghost use Rattle.tla_meaning.specs.declared.expr.Expr.{out-Expr};
 ghost use Rattle.tla_meaning.specs.Symbols.{all_repeated, bound, entry_of, parameter, repeated};
 ghost use Rattle.flat_modules.specs.inner.Telling.{Declares, Tells, TellsAll, Told, node_misuses, own_count, own_scope};
 
-use crate::entries::{announced, bound, first_of, let_name, parameter, with_repeated};
+use crate::entries::{announced, bound, first_of, let_name, parameter};
 use crate::scope::Scope;
 use std::alloc::{AllocError, Global};
 use tla_meaning::{Entry, Expr, Kind, Misuse, Op, Place, copy_op};
@@ -150,12 +150,19 @@ impl Resolving {
     pub(crate) fn tell_repeated(&mut self, new: &Entry) -> Result<(), AllocError>
         ensures { OnOk result (Told self.old self.new (repeated self.old.scope new.now)) }
     {
-        if self.scope.find(new.name.bytes()).is_none() {
-            return Ok(());
-        }
-        let told = self.told.take();
-        self.told = with_repeated(self.alloc, told, self.scope.entries(), new)?;
+        let misuses = self.scope.repeated(new)?;
+        self.tell_all(misuses);
         Ok(())
+    }
+
+    // Tells of misuses, the last first.
+    pub(crate) fn tell_all(&mut self, misuses: Vec<Misuse>)
+        ensures { Told self.old self.new (reverse misuses.items) }
+    {
+        let mut rest = misuses;
+        while let Some(misuse) = rest.pop() {
+            self.tell(misuse);
+        }
     }
 
     pub(crate) fn tell(&mut self, misuse: Misuse)

@@ -1,27 +1,30 @@
 // Names in scope.
-ghost use Rattle.std.specs.Prelude.{◌≡◌, ◌∷◌, ◌++◌, ◌≤◌, ◌<◌, ◌-◌, [], length, take, option_copied, OnOk, IfOk};
+ghost use Rattle.std.specs.Prelude.{◌≡◌, ◌∷◌, ◌++◌, ◌≤◌, ◌<◌, ◌-◌, [], length, reverse, take, option_copied, OnOk, IfOk};
 ghost use Rattle.tla_meaning.specs.Flattening.{declared_origins};
 ghost use Rattle.tla_meaning.specs.Scopes.{same_text};
-ghost use Rattle.tla_meaning.specs.Symbols.{entry_of, is_there, serves, with_new};
+ghost use Rattle.tla_meaning.specs.Symbols.{entry_of, is_there, repeated, serves, with_new};
 
-use crate::entries::{same, same_bytes};
+use crate::entries::{add_repeated, same, same_bytes};
 use crate::index::{Index, key_of};
+use crate::shared::Shared;
 use std::alloc::{AllocError, Global};
 use std::marker::Model;
-use tla_meaning::{Entry, Kind};
+use tla_meaning::{Entry, Kind, Misuse};
 
 // Names in scope, in the order in which they came.
 #[derive(Drop)]
 pub(crate) struct Scope {
     alloc: Global,
-    entries: Vec<Entry>,
+    entries: Vec<Shared<Entry>>,
     // The keys of their names.
     index: Index,
+    // The origins of the declared ones.
+    origins: Vec<u8>,
 }
 
 impl Model for Scope {
-    ghost use Rattle.std.specs.Prelude.{◌≡◌, List as Items};
-    ghost use Rattle.flat_modules.specs.inner.Places.{keys_of};
+    ghost use Rattle.std.specs.Prelude.{List as Items};
+    ghost use Rattle.flat_modules.specs.inner.Places.{IsScope};
     ghost use Rattle.std.specs.Coded.{coded_list, codes};
     ghost use Rattle.tla_meaning.specs.declared.symbols.Entry.{Entry as Name};
     ghost use Rattle.tla_meaning.specs.contracts.symbols.Entry as entry;
@@ -32,7 +35,7 @@ impl Model for Scope {
 
     ghost view = { λ s. s.entries.items };
 
-    ghost invariant = { λ s. s.index ≡ keys_of s.entries.items };
+    ghost invariant = { λ s. IsScope s.index s.origins.items s.entries.items };
 }
 
 impl Scope {
@@ -43,6 +46,7 @@ impl Scope {
             alloc,
             entries: Vec::new(alloc),
             index: Index::new(alloc),
+            origins: Vec::new(alloc),
         }
     }
 
@@ -58,7 +62,7 @@ impl Scope {
     {
         let mut place = self.index.last(key_of(name));
         while place > 0 {
-            let entry = &self.entries[place - 1];
+            let entry = self.entries[place - 1].get();
             if is_name(entry, name) {
                 return Some(entry);
             }
@@ -67,7 +71,7 @@ impl Scope {
         None
     }
 
-    pub(crate) fn entries(&self) -> &[Entry]
+    pub(crate) fn entries(&self) -> &[Shared<Entry>]
         ensures { result.now ≡ self.now }
     {
         self.entries.as_slice()
@@ -76,8 +80,19 @@ impl Scope {
     pub(crate) fn push(&mut self, entry: Entry) -> Result<(), AllocError>
         ensures { OnOk result (self.new ≡ self.old ++ (entry ∷ [])) }
     {
+        let entry = Shared::new(self.alloc, entry)?;
+        self.push_shared(entry)
+    }
+
+    pub(crate) fn push_shared(&mut self, entry: Shared<Entry>) -> Result<(), AllocError>
+        ensures { OnOk result (self.new ≡ self.old ++ (entry ∷ [])) }
+    {
+        let key = key_of(entry.get().name.bytes());
+        let origin = declared_origin(entry.get());
         self.entries.reserve(1)?;
-        self.index.push(key_of(entry.name.bytes()))?;
+        self.origins.reserve(origin.len())?;
+        self.index.push(key)?;
+        self.origins.extend_from_slice(origin)?;
         self.entries.push_reserved(entry);
         Ok(())
     }
@@ -86,17 +101,24 @@ impl Scope {
     pub(crate) fn add(&mut self, entry: Entry) -> Result<(), AllocError>
         ensures { OnOk result (self.new ≡ with_new self.old (entry ∷ [])) }
     {
-        if self.is_there(&entry) {
-            return Ok(());
-        }
-        self.push(entry)
+        let entry = Shared::new(self.alloc, entry)?;
+        self.add_shared(entry)
     }
 
-    pub(crate) fn add_all(&mut self, entries: Vec<Entry>) -> Result<(), AllocError>
+    fn add_shared(&mut self, entry: Shared<Entry>) -> Result<(), AllocError>
+        ensures { OnOk result (self.new ≡ with_new self.old (entry ∷ [])) }
+    {
+        if self.is_there(entry.get()) {
+            return Ok(());
+        }
+        self.push_shared(entry)
+    }
+
+    pub(crate) fn add_all(&mut self, entries: Vec<Shared<Entry>>) -> Result<(), AllocError>
         ensures { OnOk result (self.new ≡ with_new self.old entries.items) }
     {
         for entry in entries {
-            self.add(entry)?;
+            self.add_shared(entry)?;
         }
         Ok(())
     }
@@ -116,7 +138,7 @@ impl Scope {
     {
         let mut place = self.index.last(key_of(new.name.bytes()));
         while place > 0 {
-            if serves(&self.entries[place - 1], new) {
+            if serves(self.entries[place - 1].get(), new) {
                 return true;
             }
             place = self.index.before(place);
@@ -124,17 +146,24 @@ impl Scope {
         false
     }
 
-    // The origins of the declared names.
-    pub(crate) fn declared_origins(&self) -> Result<Vec<u8>, AllocError>
-        ensures { IfOk result (λ v. v.items ≡ declared_origins self.now) }
+    // What is told of a new name that repeats names in scope, the last of them first.
+    pub(crate) fn repeated(&self, new: &Entry) -> Result<Vec<Misuse>, AllocError>
+        ensures { IfOk result (λ v. reverse v.items ≡ repeated self.now new.now) }
     {
-        let mut bytes = Vec::new(self.alloc);
-        for entry in self.entries.as_slice() {
-            if entry.kind == Kind::Declaration {
-                bytes.extend_from_slice(entry.origin.bytes())?;
-            }
+        let mut told = Vec::new(self.alloc);
+        let mut place = self.index.last(key_of(new.name.bytes()));
+        while place > 0 {
+            add_repeated(self.alloc, self.entries[place - 1].get(), new, &mut told)?;
+            place = self.index.before(place);
         }
-        Ok(bytes)
+        Ok(told)
+    }
+
+    // The origins of the declared names.
+    pub(crate) fn origins(&self) -> &[u8]
+        ensures { result.now ≡ declared_origins self.now }
+    {
+        &self.origins
     }
 
     // Leaves the first n names.
@@ -151,8 +180,22 @@ impl Scope {
         requires { 0 < length self.old }
         ensures { self.new ≡ take (length self.old - 1) self.old }
     {
-        self.entries.truncate(self.entries.len() - 1);
+        let last = self.entries.len() - 1;
+        let origin = declared_origin(self.entries[last].get()).len();
+        self.origins.truncate(self.origins.len() - origin);
+        self.entries.truncate(last);
         self.index.pop();
+    }
+}
+
+// The origin of a declared name, and nothing of another.
+fn declared_origin(entry: &Entry) -> &[u8]
+    ensures { result.now ≡ declared_origins (entry.now ∷ []) }
+{
+    if entry.kind == Kind::Declaration {
+        entry.origin.bytes()
+    } else {
+        &[]
     }
 }
 

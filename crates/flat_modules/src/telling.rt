@@ -8,25 +8,25 @@ ghost use Rattle.flat_modules.specs.inner.Learning.{TellsItems, one_symbol, told
 ghost use Rattle.flat_modules.specs.inner.Instances.{with_item};
 ghost use Rattle.flat_modules.specs.inner.Telling.{Tells, Told, own_count};
 
-use crate::entries::{copy_entry, same, with_repeated};
+use crate::entries::same;
 use crate::instances::with_definition;
 use crate::items::Item;
 use crate::resolving::Resolving;
 use crate::scope::Scope;
+use crate::shared::Shared;
 use std::alloc::AllocError;
 use tla_meaning::{Def, Entry, Expr, Kind, Misuse, Op, Place};
 use tla_values::{Text, copy_text};
 
 impl Resolving {
     // Tells of new names that repeat names in scope or each other.
-    pub(crate) fn tell_names(&mut self, entries: &[Entry]) -> Result<(), AllocError>
+    pub(crate) fn tell_names(&mut self, entries: &[Shared<Entry>]) -> Result<(), AllocError>
         ensures { OnOk result (Told self.old self.new (all_repeated self.old.scope entries.now)) }
     {
         let mut before = Scope::new(self.alloc);
         for new in entries {
-            self.tell_beside(&before, new)?;
-            let new = copy_entry(self.alloc, new)?;
-            before.push(new)?;
+            self.tell_beside(&before, new.get())?;
+            before.push_shared(new.share()?)?;
         }
         Ok(())
     }
@@ -36,11 +36,8 @@ impl Resolving {
         ensures { OnOk result (Told self.old self.new (repeated (self.old.scope ++ before.now) new.now)) }
     {
         self.tell_repeated(new)?;
-        if before.find(new.name.bytes()).is_none() {
-            return Ok(());
-        }
-        let told = self.told.take();
-        self.told = with_repeated(self.alloc, told, before.entries(), new)?;
+        let misuses = before.repeated(new)?;
+        self.tell_all(misuses);
         Ok(())
     }
 
@@ -79,7 +76,7 @@ impl Resolving {
         prefix: &[u8],
         place: Place,
         with: &[(Text, Expr)],
-        inside: &[Entry],
+        inside: &[Shared<Entry>],
     ) -> Result<Vec<Item>, AllocError>
         ensures { TellsItems self.old self.new (with_misuses place self.old.scope inside.now with.now) (map (with_item prefix.now self.old.scope) with.now) result }
     {
@@ -96,7 +93,7 @@ impl Resolving {
     fn with_part(
         &mut self,
         place: Place,
-        inside: &[Entry],
+        inside: &[Shared<Entry>],
         part: &(Text, Expr),
         rest: &[(Text, Expr)],
     ) -> Result<Expr, AllocError>
@@ -119,12 +116,12 @@ impl Resolving {
         &mut self,
         place: Place,
         with: &[(Text, Expr)],
-        inside: &[Entry],
+        inside: &[Shared<Entry>],
     ) -> Result<(), AllocError>
         ensures { OnOk result (Told self.old self.new (symbol_misuses place self.old.scope with.now inside.now)) }
     {
         for i in 0..inside.len() {
-            self.tell_symbol(place, with, &inside[i])?;
+            self.tell_symbol(place, with, inside[i].get())?;
         }
         Ok(())
     }
@@ -145,10 +142,16 @@ impl Resolving {
     }
 }
 
-fn is_declared(name: &Text, inside: &[Entry]) -> bool
+fn is_declared(name: &Text, inside: &[Shared<Entry>]) -> bool
     ensures { result ≡ list_any (λ e. is_declaration e.kind && same_text name.now e.name) inside.now }
 {
-    inside.iter().any(|entry| entry.kind == Kind::Declaration && same(name, &entry.name))
+    inside.iter().any(|entry| is_declared_as(entry.get(), name))
+}
+
+fn is_declared_as(entry: &Entry, name: &Text) -> bool
+    ensures { result ≡ (is_declaration entry.now.kind && same_text name.now entry.now.name) }
+{
+    entry.kind == Kind::Declaration && same(name, &entry.name)
 }
 
 // Whether WITH has the name.

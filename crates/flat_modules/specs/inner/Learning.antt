@@ -59,11 +59,11 @@ TellsItems old new ms is (Err e) = ⊤
 -- these names and items are known besides, and these misuses are told
 pub record Learns (old new : Knowing) (es : List Entry) (is : List flat.Item) (ms : List Misuse) : Type 0 where
   pub scope : new.resolving.scope ≡ with_new old.resolving.scope es
-  pub items : map item_of new.items.items ≡ with_items (map item_of old.items.items) is
+  pub items : map item_of new.items ≡ with_items (map item_of old.items) is
   pub told : new.resolving.told ≡ least_from old.resolving.told ms
 
 -- what the code knows is what is known by the definition, where this misuse was told before
 pub record IsKnown (o : Option Misuse) (k : Knowing) (s : Known) : Type 0 where
   pub scope : k.resolving.scope ≡ s.names
-  pub items : map item_of k.items.items ≡ s.items
+  pub items : map item_of k.items ≡ s.items
   pub told : k.resolving.told ≡ least_from o s.misuses

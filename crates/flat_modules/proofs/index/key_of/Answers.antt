@@ -3,6 +3,6 @@ use Rattle.std.proofs.lemmas.List.{take_all}
 use Rattle.flat_modules.specs.inner.Places.{key_of}
 use Rattle.flat_modules.proofs.index.key_of.Goals as goal
 
-pub returns-clause-key : goal.returns-clause-key
+pub returns : goal.returns
 unfolding key_of
-returns-clause-key c = c.loop-byte.invariant.0 ∙ ap (fold (λ h b. (h * 31 + b) % 4096) 0) (take_all c.loop-byte.byte-index c.args.name.now c.loop-byte-test.false)
+returns c = c.loop-byte.invariant.0 ∙ ap (fold (λ h b. (h * 31 + b) % 4294967296) 0) (take_all c.loop-byte.byte-index c.args.name.now c.loop-byte-test.false)

@@ -2,4 +2,4 @@ use Rattle.std.proofs.Common.{◌≡◌, ◌+◌, ◌*◌, ◌%◌, ◌<◌, fol
 use Rattle.flat_modules.proofs.index.key_of.Given as goal
 
 abbrev pub invariant-loop-byte : goal.invariant-loop-byte
-invariant-loop-byte l = (l.key ≡ fold (λ h b. (h * 31 + b) % 4096) 0 (take l.byte-index l.name)) × (l.key < 4096)
+invariant-loop-byte l = (l.key ≡ fold (λ h b. (h * 31 + b) % 4294967296) 0 (take l.byte-index l.name)) × (l.key < 4294967296)

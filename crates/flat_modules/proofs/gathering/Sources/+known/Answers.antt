@@ -1,5 +1,6 @@
 use Rattle.std.proofs.Common.{arith, ◌≡◌, ◌∙◌, ◌-◌, ap, false, subst, suc, Some, IfOk}
-use Rattle.tla_meaning.specs.Flattening.{Known, after_unit, extended, known_within}
+use Rattle.std.proofs.lemmas.List.{take_all}
+use Rattle.tla_meaning.specs.Flattening.{Known, after_unit, after_units, extended, known_within}
 use Rattle.tla_meaning.specs.Flattening as flat
 use Rattle.flat_modules.specs.inner.Copies.{copy_of}
 use Rattle.flat_modules.specs.inner.Gathering.{Advances, is_instance}
@@ -47,3 +48,8 @@ unit-returns-in_default t c =
     let after : Known → Known = λ s. after_unit inside (copy_of c.args.copy.now) s c.args.unit.now in
     if_ok (λ k. (f : flat.Copy → Known) → is_instance c.args.unit.now ≡ false → Advances c.args.knowing k (λ s. after_unit f (copy_of c.args.copy.now) s c.args.unit.now))
     (λ k. Advances c.args.knowing k after) c.after.result (λ k h. h inside (no_instance c.args.unit.now c.in_default.not-Instance)) c.after.ensures
+
+pub units-returns : goal.units-returns
+units-returns t c = λ o s k.
+    subst (λ us. IsKnown o c.loop-unit.knowing (after_units (known_within c.args.depth c.args.self.modules.now) (copy_of c.args.copy.now) s us))
+    (take_all c.loop-unit.unit-index c.args.units.now c.loop-unit-test.false) (c.loop-unit.invariant o s k)

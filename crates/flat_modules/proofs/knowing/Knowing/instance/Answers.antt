@@ -10,5 +10,5 @@ returns c =
     on_ok c.add_definitions.result
     (instance_learns c.args.unit.now c.args.prefix.now c.args.inside c.in_ok-names.names.items c.entries-entries.result.now c.in_ok-replacing.replacing.items
     c.entries-entries.ensures c.in_ok-names.ensures names c.in_ok-replacing.ensures.0 c.in_ok-replacing.ensures.1 c.in_ok-tell_symbols.ensures
-    c.in_ok-add_all.ensures refl c.in_ok-add_items.ensures)
+    c.in_ok-add_all.ensures refl c.in_ok-add_all-2.ensures)
     c.add_definitions.ensures
