@@ -91,7 +91,7 @@ units_next inside k s us i u lt is =
 
 -- ---- INSTANCE
 
-abbrev copy_with : List Entry → List (List ℕ × Expr) → List ℕ → List ℕ → List ℕ → List ℕ → flat.Copy
+abbrev pub copy_with : List Entry → List (List ℕ × Expr) → List ℕ → List ℕ → List ℕ → List ℕ → flat.Copy
 copy_with es cs m a b w = record {
   name = m;
   prefix = a;

@@ -13,3 +13,4 @@ pub mod Courses
 pub mod Places
 pub mod Scopes
 pub mod ItemKeys
+pub mod Depths

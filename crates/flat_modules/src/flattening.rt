@@ -2,14 +2,16 @@
 ghost use Rattle.std.specs.Prelude.{◌≡◌, map, IfOk, OnOk};
 ghost use Rattle.tla_meaning.specs.Flattening.{declared_names, flat_of, known, misuse_of, root_copy};
 ghost use Rattle.tla_meaning.specs.Jobs.{in_state_order};
+ghost use Rattle.flat_modules.specs.inner.Gathering.{Remembers};
 ghost use Rattle.flat_modules.specs.inner.Flat.{Adds, IsSplit, IsFlatItems};
 ghost use Rattle.flat_modules.specs.inner.Items.{item_of};
 ghost use Rattle.flat_modules.specs.inner.Learning.{IsKnown};
 
 use crate::copies::{Meaning, ModuleCopy};
-use crate::gathering::Sources;
+use crate::gathering::{Sources, Walk};
 use crate::items::{Item, Items, owned};
 use crate::knowing::Knowing;
+use crate::memo::Memo;
 use std::alloc::{AllocError, Global};
 use tla_meaning::{Decl, Def, Expr, Flat, Misuse, Module};
 use tla_values::{List, Text};
@@ -64,8 +66,11 @@ impl<'a> Sources<'a> {
         name: &'a [u8],
         decls: &'a [Decl],
         told: Option<Misuse>,
+        memo: &mut Memo,
     ) -> Result<Knowing, AllocError>
-        ensures { IfOk result (λ k. IsKnown told k (known self.entry.modules.now (root_copy name.now decls.now))) }
+        requires { Remembers self.modules.now (root_copy name.now decls.now) memo.old }
+        ensures known { IfOk result (λ k. IsKnown told k (known self.entry.modules.now (root_copy name.now decls.now))) }
+        ensures kept { OnOk result (Remembers self.entry.modules.now (root_copy name.now decls.now) memo.new) }
     {
         let copy = ModuleCopy {
             name,
@@ -74,7 +79,22 @@ impl<'a> Sources<'a> {
             meaning: Meaning::Root(decls),
             root: true,
         };
-        self.known(&copy, self.modules.len() + 1, told)
+        let walk = Walk {
+            alloc: self.alloc,
+            modules: self.modules,
+            depth: self.modules.len() + 1,
+        };
+        let reached = walk.known(&copy, told, memo)?;
+        Ok(reached.knowing)
+    }
+
+    // The items that a root brings in, whose declared names stand for their numbers among these.
+    fn items(self, name: &'a [u8], decls: &'a [Decl]) -> Result<Items, AllocError>
+        ensures { IfOk result (λ i. map item_of i ≡ (known self.entry.modules.now (root_copy name.now decls.now)).items) }
+    {
+        let mut memo = Memo::new(self.alloc);
+        let known = self.root(name, decls, None, &mut memo)?;
+        Ok(known.items)
     }
 
     // The first of the least misuses in the modules, each as if it were the root.
@@ -82,8 +102,9 @@ impl<'a> Sources<'a> {
         ensures { IfOk result (λ o. o ≡ misuse_of self.entry.modules.now) }
     {
         let mut told = None;
+        let mut memo = Memo::new(self.alloc);
         for (name, _) in self.modules {
-            let known = self.root(name.bytes(), &[], told)?;
+            let known = self.root(name.bytes(), &[], told, &mut memo)?;
             told = known.resolving.told;
         }
         Ok(told)
@@ -93,8 +114,8 @@ impl<'a> Sources<'a> {
     pub(crate) fn declared_names(self, name: &'a [u8]) -> Result<Vec<Decl>, AllocError>
         ensures { IfOk result (λ v. v.items ≡ declared_names self.entry.modules.now name.now) }
     {
-        let known = self.root(name, &[], None)?;
-        let items = split(self.alloc, known.items)?;
+        let items = self.items(name, &[])?;
+        let items = split(self.alloc, items)?;
         in_state_order(self.alloc, items.decls)
     }
 
@@ -107,8 +128,8 @@ impl<'a> Sources<'a> {
             alloc: self.alloc,
             modules: self.modules,
         };
-        let known = sources.root(name, &decls, None)?;
-        split(self.alloc, known.items)
+        let items = sources.items(name, &decls)?;
+        split(self.alloc, items)
     }
 }
 

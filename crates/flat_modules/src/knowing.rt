@@ -150,9 +150,9 @@ impl Knowing {
     }
 
     // EXTENDS of a module of which so much is known.
-    pub(crate) fn extend(&mut self, inside: Knowing) -> Result<(), AllocError>
-        ensures { OnOk result (Learns self.old self.new (filter (λ (e : Name). e.exported) inside.resolving.scope) (map item_of inside.items)
-            (all_repeated self.old.resolving.scope (filter (λ (e : Name). e.exported) inside.resolving.scope))) }
+    pub(crate) fn extend(&mut self, inside: &Knowing) -> Result<(), AllocError>
+        ensures { OnOk result (Learns self.old self.new (filter (λ (e : Name). e.exported) inside.now.resolving.scope) (map item_of inside.now.items)
+            (all_repeated self.old.resolving.scope (filter (λ (e : Name). e.exported) inside.now.resolving.scope))) }
     {
         let names = exported(self.resolving.alloc, inside.resolving.scope.entries())?;
         self.resolving.tell_names(&names)?;

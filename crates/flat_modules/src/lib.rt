@@ -12,6 +12,7 @@ mod index;
 mod instances;
 mod items;
 mod knowing;
+mod memo;
 mod order;
 mod resolving;
 mod scope;
