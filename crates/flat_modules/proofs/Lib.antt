@@ -14,3 +14,4 @@ pub mod Places
 pub mod Scopes
 pub mod ItemKeys
 pub mod Depths
+pub mod Visited

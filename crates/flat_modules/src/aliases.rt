@@ -1,8 +1,8 @@
 // The type aliases of a root's modules.
-ghost use Rattle.std.specs.Prelude.{◌≡◌, ◌∷◌, ◌++◌, [], IfOk, OnOk, if◌then◌else◌};
-ghost use Rattle.tla_meaning.specs.Flattening.{aliases_of};
+ghost use Rattle.std.specs.Prelude.{◌≡◌, ◌∷◌, ◌++◌, [], true, IfOk, OnOk, if◌then◌else◌};
+ghost use Rattle.tla_meaning.specs.Flattening.{Modules, aliases_of};
 ghost use Rattle.tla_meaning.specs.ReadingOrder.{is_among};
-ghost use Rattle.flat_modules.specs.inner.Orders.{aliases_at, names_behind, with_names};
+ghost use Rattle.flat_modules.specs.inner.Orders.{AddsBehind, AreBehind, aliases_at, all_among, names_behind, with_names};
 
 use crate::copies::find_last;
 use crate::course::is_among;
@@ -11,25 +11,38 @@ use crate::order::mentioned_files;
 use std::alloc::{AllocError, Global};
 use tla_values::{List, Text, copy_text};
 
+// Modules, each behind those that it mentions.
+#[derive(Drop)]
+struct Behind {
+    names: Vec<Text>,
+    // How deep each was walked; no less deep walk finds others.
+    walked: Vec<(Text, usize)>,
+}
+
 impl<'a> Sources<'a> {
     // The aliases of the modules that a module mentions and of itself, each module where it comes first.
     pub(crate) fn aliases(self, root: &Text) -> Result<List<(Text, Text)>, AllocError>
         ensures { IfOk result (λ l. l ≡ aliases_of self.entry.modules.now root.now) }
     {
-        let mut names = Vec::new(self.alloc);
-        self.add_behind(self.modules.len(), root, &mut names)?;
+        let mut behind = Behind::new(self.alloc);
+        self.add_behind(self.modules.len(), root, &mut behind)?;
         let mut aliases = Vec::new(self.alloc);
-        for name in &names {
+        for name in &behind.names {
             add_aliases(self, name, &mut aliases)?;
         }
         Ok(List::from_vec(aliases))
     }
 
     // Adds the modules that a module mentions and then itself, but for those that are there.
-    fn add_behind(self, depth: usize, name: &Text, seen: &mut Vec<Text>) -> Result<(), AllocError>
-        ensures { OnOk result (seen.new.items ≡ with_names seen.old.items (names_behind depth self.entry.modules.now name.now)) }
+    fn add_behind(self, depth: usize, name: &Text, behind: &mut Behind) -> Result<(), AllocError>
+        requires { AreBehind self.modules.now behind.old }
+        ensures added { OnOk result (behind.new.names.items ≡ with_names behind.old.names.items (names_behind depth self.entry.modules.now name.now)) }
+        ensures kept { OnOk result (AreBehind self.entry.modules.now behind.new) }
     {
         if depth == 0 {
+            return Ok(());
+        }
+        if behind.is_walked(name, depth) {
             return Ok(());
         }
         let Some(source) = find_last(name.bytes(), self.modules) else {
@@ -41,9 +54,40 @@ impl<'a> Sources<'a> {
                 alloc: self.alloc,
                 modules: self.modules,
             };
-            sources.add_behind(depth - 1, other, seen)?;
+            sources.add_behind(depth - 1, other, behind)?;
         }
-        add_name(self.alloc, name, seen)
+        behind.add(self.alloc, name, depth)
+    }
+}
+
+impl Behind {
+    fn new(alloc: Global) -> Behind
+        ensures names { result.names.items ≡ [] }
+        ensures kept { (ms : Modules) → AreBehind ms result }
+    {
+        Behind {
+            names: Vec::new(alloc),
+            walked: Vec::new(alloc),
+        }
+    }
+
+    // Whether the modules that a module mentions are there, so deep.
+    fn is_walked(&self, name: &Text, depth: usize) -> bool
+        ensures { (ms : Modules) → AreBehind ms self.now → result ≡ true → all_among self.now.names.items (names_behind depth ms name.now) ≡ true }
+    {
+        match find_last(name.bytes(), &self.walked) {
+            None => false,
+            Some(walked) => depth <= *walked,
+        }
+    }
+
+    // Adds a module, all of whose mentions are there so deep.
+    fn add(&mut self, alloc: Global, name: &Text, depth: usize) -> Result<(), AllocError>
+        ensures { OnOk result (AddsBehind self.old self.new name.now depth) }
+    {
+        add_name(alloc, name, &mut self.names)?;
+        self.walked.push((copy_text(alloc, name)?, depth))?;
+        Ok(())
     }
 }
 
