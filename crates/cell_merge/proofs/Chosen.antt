@@ -21,7 +21,7 @@ use Rattle.cell_arena.specs.Decode.{decode, present, kind_value, text_at}
 use Rattle.cell_arena.specs.Growth.{Grows, Decodes, Adds}
 use Rattle.cell_arena.proofs.Growing.{Decodes-same, Satisfies-before}
 use Rattle.cell_merge.specs.declared.merging.Join.TheVariants.{Chosen}
-use Rattle.cell_merge.specs.Sorts.{Sort, truth, number, name, set_of as set_sort, OfSort, IsBit, IsWord, IsText, IsSet, OneType, IsOver}
+use Rattle.cell_merge.specs.Sorts.{Sort, truth, number, name, set_of as set_sort, record_of, tuple_of, OfSort, IsBit, IsWord, IsText, IsSet, IsRecord, IsTuple, OneType, IsOver}
 use Rattle.cell_merge.specs.Choices.{Chooses}
 use Rattle.cell_merge.specs.Edges.{LeadTo, Merges, TwoSets}
 use Rattle.cell_merge.proofs.Edges.{any-present, sort-there, edges-sort, one-set, left-there, right-there}
@@ -101,18 +101,24 @@ bit-else ks truth x m h e = refl
 bit-else ks number x m h e = let P : CellKind → Type 0 = IsWord in absurd (subst P e h.1)
 bit-else ks name x m h e = let P : CellKind → Type 0 = IsText in absurd (subst P e h.1)
 bit-else ks (set_sort s) x m h e = let P : CellKind → Type 0 = IsSet (OfSort ks s) in absurd (subst P e h.1)
+bit-else ks (record_of names s) x m h e = let P : CellKind → Type 0 = IsRecord names (λ i. OfSort ks (s i)) in absurd (subst P e h.1)
+bit-else ks (tuple_of n s) x m h e = let P : CellKind → Type 0 = IsTuple n (λ i. OfSort ks (s i)) in absurd (subst P e h.1)
 
 word-else : (ks : List CellKind) (s : Sort) (x : CellId) (v : List Lit) → OfSort ks s x → kind_at ks x ≡ Word v → s ≡ number
 word-else ks truth x v h e = let P : CellKind → Type 0 = IsBit in absurd (subst P e h.1)
 word-else ks number x v h e = refl
 word-else ks name x v h e = let P : CellKind → Type 0 = IsText in absurd (subst P e h.1)
 word-else ks (set_sort s) x v h e = let P : CellKind → Type 0 = IsSet (OfSort ks s) in absurd (subst P e h.1)
+word-else ks (record_of names s) x v h e = let P : CellKind → Type 0 = IsRecord names (λ i. OfSort ks (s i)) in absurd (subst P e h.1)
+word-else ks (tuple_of n s) x v h e = let P : CellKind → Type 0 = IsTuple n (λ i. OfSort ks (s i)) in absurd (subst P e h.1)
 
 text-else : (ks : List CellKind) (s : Sort) (x : CellId) (v : List Lit) → OfSort ks s x → kind_at ks x ≡ Text v → s ≡ name
 text-else ks truth x v h e = let P : CellKind → Type 0 = IsBit in absurd (subst P e h.1)
 text-else ks number x v h e = let P : CellKind → Type 0 = IsWord in absurd (subst P e h.1)
 text-else ks name x v h e = refl
 text-else ks (set_sort s) x v h e = let P : CellKind → Type 0 = IsSet (OfSort ks s) in absurd (subst P e h.1)
+text-else ks (record_of names s) x v h e = let P : CellKind → Type 0 = IsRecord names (λ i. OfSort ks (s i)) in absurd (subst P e h.1)
+text-else ks (tuple_of n s) x v h e = let P : CellKind → Type 0 = IsTuple n (λ i. OfSort ks (s i)) in absurd (subst P e h.1)
 
 module _ (old mid new : Build) (l : Lit) (x y id : CellId) (j k made : CellKind) (v : List Bool → Value) (same : mid.arena ≡ old.arena)
     (left : (a : List Bool) → decode old.arena a x ≡ kind_value old.arena.texts a (decode old.arena a) j)
@@ -157,6 +163,8 @@ module _ (old mid new : Build) (l : Lit) (x y id : CellId) (j k made : CellKind)
   set-sorts truth es fs out e f g h p q = let P : CellKind → Type 0 = IsBit in absurd (subst P e p.1)
   set-sorts number es fs out e f g h p q = let P : CellKind → Type 0 = IsWord in absurd (subst P e p.1)
   set-sorts name es fs out e f g h p q = let P : CellKind → Type 0 = IsText in absurd (subst P e p.1)
+  set-sorts (record_of names s) es fs out e f g h p q = let P : CellKind → Type 0 = IsRecord names (λ i. OfSort old.arena.kinds (s i)) in absurd (subst P e p.1)
+  set-sorts (tuple_of n s) es fs out e f g h p q = let P : CellKind → Type 0 = IsTuple n (λ i. OfSort old.arena.kinds (s i)) in absurd (subst P e p.1)
   set-sorts (set_sort s) es fs out e f g h p q =
       let P : CellKind → Type 0 = IsSet (OfSort old.arena.kinds s) in
       let cells : LeadTo old.arena.kinds s out = h s (subst P e p.1) (subst P f q.1) in

@@ -21,7 +21,7 @@ use Rattle.cell_arena.specs.declared.kinds.CellKind.{CellKind}
 use Rattle.cell_arena.specs.declared.kinds.CellKind.TheVariants.{Bit, Word, Text, Set, Fun, Rec, Tup, Seq}
 use Rattle.cell_arena.specs.Cells.{Cells, WellBuilt, kind_at}
 use Rattle.cell_arena.specs.Decode.{decode, present, kind_value}
-use Rattle.cell_merge.specs.Sorts.{Sort, truth, number, name, set_of as set_sort, OfSort, IsSet, IsBit, IsWord, IsText, OneType, SetsOfOneType}
+use Rattle.cell_merge.specs.Sorts.{Sort, truth, number, name, set_of as set_sort, record_of, tuple_of, OfSort, IsSet, IsBit, IsWord, IsText, IsRecord, IsTuple, OneType, SetsOfOneType}
 
 pub any-present : (p : Value → Bool) (a : List Bool) (of : CellId → Value) (es : List (Lit × CellId)) → list_any p (present a of es) ≡ list_any (λ e. lit_value e.0 a && p (of e.1)) es
 any-present p a of [] = refl
@@ -58,6 +58,8 @@ sort-there ks truth id h = h.0
 sort-there ks number id h = h.0
 sort-there ks name id h = h.0
 sort-there ks (set_sort s) id h = h.0
+sort-there ks (record_of names s) id h = h.0
+sort-there ks (tuple_of n s) id h = h.0
 
 -- the sorts of the edges of a set
 pub edges-sort : (ks : List CellKind) (s : Sort) (id : CellId) (es : List (Lit × CellId)) → OfSort ks (set_sort s) id → kind_at ks id ≡ Set es → All (λ e. OfSort ks s e.1) es
@@ -103,6 +105,26 @@ is-text (Rec fs) h = absurd h
 is-text (Tup ps) h = absurd h
 is-text (Seq w ps) h = absurd h
 
+pub is-record : (names : List (List ℕ)) (P : ℕ → CellId → Type 0) (k : CellKind) → IsRecord names P k → (fs : List (List ℕ × CellId)) × (k ≡ Rec fs)
+is-record names P (Bit l) h = absurd h
+is-record names P (Word w) h = absurd h
+is-record names P (Text w) h = absurd h
+is-record names P (Set es) h = absurd h
+is-record names P (Fun es) h = absurd h
+is-record names P (Rec fs) h = (fs, refl)
+is-record names P (Tup ps) h = absurd h
+is-record names P (Seq w ps) h = absurd h
+
+pub is-tuple : (n : ℕ) (P : ℕ → CellId → Type 0) (k : CellKind) → IsTuple n P k → (ps : List CellId) × (k ≡ Tup ps)
+is-tuple n P (Bit l) h = absurd h
+is-tuple n P (Word w) h = absurd h
+is-tuple n P (Text w) h = absurd h
+is-tuple n P (Set es) h = absurd h
+is-tuple n P (Fun es) h = absurd h
+is-tuple n P (Rec fs) h = absurd h
+is-tuple n P (Tup ps) h = (ps, refl)
+is-tuple n P (Seq w ps) h = absurd h
+
 -- ---- what one type says of the kinds
 
 module _ (ks : List CellKind) (x y : CellId) (t : OneType ks x y) where
@@ -120,6 +142,8 @@ module _ (ks : List CellKind) (x y : CellId) (t : OneType ks x y) where
       go number p q = let P : CellKind → Type 0 = IsWord in subst P e p.1
       go name p q = let P : CellKind → Type 0 = IsText in subst P e p.1
       go (set_sort s) p q = let P : CellKind → Type 0 = IsSet (OfSort ks s) in subst P e p.1
+      go (record_of names s) p q = let P : CellKind → Type 0 = IsRecord names (λ i. OfSort ks (s i)) in subst P e p.1
+      go (tuple_of count s) p q = let P : CellKind → Type 0 = IsTuple count (λ i. OfSort ks (s i)) in subst P e p.1
 
   pub one-word : (v : List Lit) → kind_at ks x ≡ Word v → ((w : List Lit) → kind_at ks y ≡ Word w → ⊥) → ⊥
   one-word v e n = go t.sort t.left t.right
@@ -129,6 +153,8 @@ module _ (ks : List CellKind) (x y : CellId) (t : OneType ks x y) where
       go number p q = let b = is-word (kind_at ks y) q.1 in n b.0 b.1
       go name p q = let P : CellKind → Type 0 = IsText in subst P e p.1
       go (set_sort s) p q = let P : CellKind → Type 0 = IsSet (OfSort ks s) in subst P e p.1
+      go (record_of names s) p q = let P : CellKind → Type 0 = IsRecord names (λ i. OfSort ks (s i)) in subst P e p.1
+      go (tuple_of count s) p q = let P : CellKind → Type 0 = IsTuple count (λ i. OfSort ks (s i)) in subst P e p.1
 
   pub one-text : (v : List Lit) → kind_at ks x ≡ Text v → ((w : List Lit) → kind_at ks y ≡ Text w → ⊥) → ⊥
   one-text v e n = go t.sort t.left t.right
@@ -138,6 +164,8 @@ module _ (ks : List CellKind) (x y : CellId) (t : OneType ks x y) where
       go number p q = let P : CellKind → Type 0 = IsWord in subst P e p.1
       go name p q = let b = is-text (kind_at ks y) q.1 in n b.0 b.1
       go (set_sort s) p q = let P : CellKind → Type 0 = IsSet (OfSort ks s) in subst P e p.1
+      go (record_of names s) p q = let P : CellKind → Type 0 = IsRecord names (λ i. OfSort ks (s i)) in subst P e p.1
+      go (tuple_of count s) p q = let P : CellKind → Type 0 = IsTuple count (λ i. OfSort ks (s i)) in subst P e p.1
 
   pub one-set : (es : List (Lit × CellId)) → kind_at ks x ≡ Set es → SetsOfOneType ks x y
   one-set es e = go t.sort t.left t.right
@@ -147,17 +175,21 @@ module _ (ks : List CellKind) (x y : CellId) (t : OneType ks x y) where
       go number p q = absurd (let P : CellKind → Type 0 = IsWord in subst P e p.1)
       go name p q = absurd (let P : CellKind → Type 0 = IsText in subst P e p.1)
       go (set_sort s) p q = record { sort = s; left = p; right = q }
+      go (record_of names s) p q = absurd (let P : CellKind → Type 0 = IsRecord names (λ i. OfSort ks (s i)) in subst P e p.1)
+      go (tuple_of n s) p q = absurd (let P : CellKind → Type 0 = IsTuple n (λ i. OfSort ks (s i)) in subst P e p.1)
 
-  -- the kind is one of these four
+  -- the kind is one of these six
   pub one-other : ((l : Lit) → kind_at ks x ≡ Bit l → ⊥) → ((w : List Lit) → kind_at ks x ≡ Word w → ⊥) → ((w : List Lit) → kind_at ks x ≡ Text w → ⊥)
-      → ((es : List (Lit × CellId)) → kind_at ks x ≡ Set es → ⊥) → ⊥
-  one-other no-bit no-word no-text no-set = go t.sort t.left
+      → ((es : List (Lit × CellId)) → kind_at ks x ≡ Set es → ⊥) → ((fs : List (List ℕ × CellId)) → kind_at ks x ≡ Rec fs → ⊥) → ((ps : List CellId) → kind_at ks x ≡ Tup ps → ⊥) → ⊥
+  one-other no-bit no-word no-text no-set no-record no-tuple = go t.sort t.left
     where
       go : (s : Sort) → OfSort ks s x → ⊥
       go truth p = let b = is-bit (kind_at ks x) p.1 in no-bit b.0 b.1
       go number p = let b = is-word (kind_at ks x) p.1 in no-word b.0 b.1
       go name p = let b = is-text (kind_at ks x) p.1 in no-text b.0 b.1
       go (set_sort s) p = let b = is-set (OfSort ks s) (kind_at ks x) p.1 in no-set b.0 b.1
+      go (record_of names s) p = let b = is-record names (λ i. OfSort ks (s i)) (kind_at ks x) p.1 in no-record b.0 b.1
+      go (tuple_of n s) p = let b = is-tuple n (λ i. OfSort ks (s i)) (kind_at ks x) p.1 in no-tuple b.0 b.1
 
 pub sets-back : (ks : List CellKind) (x y : CellId) → SetsOfOneType ks x y → SetsOfOneType ks y x
 sets-back ks x y t = record { sort = t.sort; left = t.right; right = t.left }

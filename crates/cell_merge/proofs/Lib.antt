@@ -1,7 +1,9 @@
+pub mod FunctionValues
 pub mod Edges
 pub mod Names
 pub mod Pairs
 pub mod SortLaws
+pub mod Shapes
 pub mod Present
 pub mod Normals
 pub mod Unions

@@ -1,5 +1,5 @@
 -- Sorts in a longer arena, and of a new set.
-use Rattle.std.proofs.Common.{◌≡◌, ◌<◌, false, List, length, All, sym, subst, arith}
+use Rattle.std.proofs.Common.{◌≡◌, ℕ, ◌<◌, false, List, length, map, get_or, All, sym, subst, arith}
 use Rattle.std.proofs.lemmas.List.{get_or_push, length_push}
 use Rattle.std.proofs.lemmas.List.Elements.{All-weaker}
 use Rattle.sat_formula.specs.declared.lit.Lit.{Lit}
@@ -10,7 +10,7 @@ use Rattle.cell_arena.specs.declared.kinds.CellKind.TheVariants.{Bit, Word, Text
 use Rattle.cell_arena.specs.Cells.{kind_at}
 use Rattle.cell_arena.specs.Growth.{Grows, Adds}
 use Rattle.cell_arena.proofs.Growing.{kind-before}
-use Rattle.cell_merge.specs.Sorts.{Sort, truth, number, name, set_of, OfSort, IsBit, IsWord, IsText, IsSet}
+use Rattle.cell_merge.specs.Sorts.{Sort, truth, number, name, set_of, record_of, tuple_of, OfSort, IsBit, IsWord, IsText, IsSet, ArePlaced, IsRecord, IsTuple}
 
 IsSet-weaker : (P Q : CellId → Type 0) → ((id : CellId) → P id → Q id) → (k : CellKind) → IsSet P k → IsSet Q k
 IsSet-weaker P Q f (Bit l) h = h
@@ -22,6 +22,29 @@ IsSet-weaker P Q f (Rec fs) h = h
 IsSet-weaker P Q f (Tup ps) h = h
 IsSet-weaker P Q f (Seq w ps) h = h
 
+ArePlaced-weaker : (P Q : ℕ → CellId → Type 0) → ((i : ℕ) (id : CellId) → P i id → Q i id) → (n : ℕ) (ps : List CellId) → ArePlaced n P ps → ArePlaced n Q ps
+ArePlaced-weaker P Q f n ps h = (h.0, λ i d lt. f i (get_or ps i d) (h.1 i d lt))
+
+IsRecord-weaker : (P Q : ℕ → CellId → Type 0) → ((i : ℕ) (id : CellId) → P i id → Q i id) → (names : List (List ℕ)) (k : CellKind) → IsRecord names P k → IsRecord names Q k
+IsRecord-weaker P Q f names (Bit l) h = h
+IsRecord-weaker P Q f names (Word w) h = h
+IsRecord-weaker P Q f names (Text w) h = h
+IsRecord-weaker P Q f names (Set es) h = h
+IsRecord-weaker P Q f names (Fun es) h = h
+IsRecord-weaker P Q f names (Rec fs) h = (h.0, ArePlaced-weaker P Q f (length names) (map (λ f. f.1) fs) h.1)
+IsRecord-weaker P Q f names (Tup ps) h = h
+IsRecord-weaker P Q f names (Seq w ps) h = h
+
+IsTuple-weaker : (P Q : ℕ → CellId → Type 0) → ((i : ℕ) (id : CellId) → P i id → Q i id) → (n : ℕ) (k : CellKind) → IsTuple n P k → IsTuple n Q k
+IsTuple-weaker P Q f n (Bit l) h = h
+IsTuple-weaker P Q f n (Word w) h = h
+IsTuple-weaker P Q f n (Text w) h = h
+IsTuple-weaker P Q f n (Set es) h = h
+IsTuple-weaker P Q f n (Fun es) h = h
+IsTuple-weaker P Q f n (Rec fs) h = h
+IsTuple-weaker P Q f n (Tup ps) h = ArePlaced-weaker P Q f n ps h
+IsTuple-weaker P Q f n (Seq w ps) h = h
+
 -- a cell keeps its sorts
 pub OfSort-later : (b c : Build) (s : Sort) (id : CellId) → OfSort b.arena.kinds s id → Grows b c → OfSort c.arena.kinds s id
 OfSort-later b c truth id h g = (let p = h.0 in let q = g.longer in omega arith, subst IsBit (sym (kind-before b c id g h.0)) h.1)
@@ -32,11 +55,21 @@ OfSort-later b c (set_of s) id h g = (
   subst (λ k. IsSet (OfSort c.arena.kinds s) k) (sym (kind-before b c id g h.0))
       (IsSet-weaker (OfSort b.arena.kinds s) (OfSort c.arena.kinds s) (λ e p. OfSort-later b c s e p g) (kind_at b.arena.kinds id) h.1),
 )
+OfSort-later b c (record_of names s) id h g = (
+  let p = h.0 in let q = g.longer in omega arith,
+  subst (λ k. IsRecord names (λ i. OfSort c.arena.kinds (s i)) k) (sym (kind-before b c id g h.0))
+      (IsRecord-weaker (λ i. OfSort b.arena.kinds (s i)) (λ i. OfSort c.arena.kinds (s i)) (λ i e p. OfSort-later b c (s i) e p g) names (kind_at b.arena.kinds id) h.1),
+)
+OfSort-later b c (tuple_of n s) id h g = (
+  let p = h.0 in let q = g.longer in omega arith,
+  subst (λ k. IsTuple n (λ i. OfSort c.arena.kinds (s i)) k) (sym (kind-before b c id g h.0))
+      (IsTuple-weaker (λ i. OfSort b.arena.kinds (s i)) (λ i. OfSort c.arena.kinds (s i)) (λ i e p. OfSort-later b c (s i) e p g) n (kind_at b.arena.kinds id) h.1),
+)
 
-added-kind : (b c : Build) (k : CellKind) (id : CellId) → Adds b c k id → kind_at c.arena.kinds id ≡ k
+pub added-kind : (b c : Build) (k : CellKind) (id : CellId) → Adds b c k id → kind_at c.arena.kinds id ≡ k
 added-kind b c k id h = rw h.kinds (get_or_push b.arena.kinds k (Bit (record { var = 0; neg = false })) id.index (sym h.newest))
 
-added-there : (b c : Build) (k : CellKind) (id : CellId) → Adds b c k id → id.index < length c.arena.kinds
+pub added-there : (b c : Build) (k : CellKind) (id : CellId) → Adds b c k id → id.index < length c.arena.kinds
 added-there b c k id h = rw h.kinds (let p = length_push b.arena.kinds k in let q = h.newest in omega arith)
 
 -- the sorts of new cells

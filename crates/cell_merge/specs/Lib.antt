@@ -1,4 +1,5 @@
 pub mod Sorts
+pub mod Composites
 pub mod Edges
 pub mod Choices
 pub mod Picks

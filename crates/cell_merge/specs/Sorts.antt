@@ -1,17 +1,20 @@
 -- The sorts of cells.
-use Rattle.std.specs.Prelude.{◌<◌, ◌≤◌, List, All, length}
+use Rattle.std.specs.Prelude.{◌≡◌, ℕ, ◌<◌, ◌≤◌, List, All, length, map, slice_index_or}
 use Rattle.sat_formula.specs.declared.cnf.Cnf.{Cnf}
 use Rattle.cell_arena.specs.declared.kinds.CellId.{CellId}
 use Rattle.cell_arena.specs.declared.kinds.CellKind.{CellKind}
-use Rattle.cell_arena.specs.declared.kinds.CellKind.TheVariants.{Bit, Word, Text, Set}
+use Rattle.cell_arena.specs.declared.kinds.CellKind.TheVariants.{Bit, Word, Text, Set, Rec, Tup}
 use Rattle.cell_arena.specs.Cells.{Cells, WellBuilt, InRange, kind_at}
 
--- a truth value, a number, a text, or a set of a sort
+-- a truth value, a number, a text, a set of a sort, a record of named parts in an order, or a tuple of
+-- so many parts; the sort of a part is told by its place
 pub data Sort : Type 0 where
   truth : Sort
   number : Sort
   name : Sort
   set_of : Sort → Sort
+  record_of : List (List ℕ) → (ℕ → Sort) → Sort
+  tuple_of : ℕ → (ℕ → Sort) → Sort
 
 abbrev pub IsBit : CellKind → Type 0
 IsBit (Bit l) = Unit {0}
@@ -30,12 +33,27 @@ abbrev pub IsSet : (CellId → Type 0) → CellKind → Type 0
 IsSet P (Set es) = All (λ e. P e.1) es
 IsSet P k = ⊥
 
+-- so many parts, each with what is asked at its place
+abbrev pub ArePlaced : ℕ → (ℕ → CellId → Type 0) → List CellId → Type 0
+ArePlaced n P ps = (length ps ≡ n) × ((i : ℕ) (d : CellId) → i < n → P i (slice_index_or ps i d))
+
+-- a record of these names in this order
+abbrev pub IsRecord : List (List ℕ) → (ℕ → CellId → Type 0) → CellKind → Type 0
+IsRecord names P (Rec fs) = (map (λ f. f.0) fs ≡ names) × ArePlaced (length names) P (map (λ f. f.1) fs)
+IsRecord names P k = ⊥
+
+abbrev pub IsTuple : ℕ → (ℕ → CellId → Type 0) → CellKind → Type 0
+IsTuple n P (Tup ps) = ArePlaced n P ps
+IsTuple n P k = ⊥
+
 -- the cell is there and of the sort, and so are those that it holds, each of the sort of its role
 abbrev pub OfSort : List CellKind → Sort → CellId → Type 0
 OfSort ks truth id = (id.index < length ks) × IsBit (kind_at ks id)
 OfSort ks number id = (id.index < length ks) × IsWord (kind_at ks id)
 OfSort ks name id = (id.index < length ks) × IsText (kind_at ks id)
 OfSort ks (set_of s) id = (id.index < length ks) × IsSet (OfSort ks s) (kind_at ks id)
+OfSort ks (record_of names s) id = (id.index < length ks) × IsRecord names (λ i. OfSort ks (s i)) (kind_at ks id)
+OfSort ks (tuple_of n s) id = (id.index < length ks) × IsTuple n (λ i. OfSort ks (s i)) (kind_at ks id)
 
 -- the two cells have one sort
 pub record OneType (ks : List CellKind) (x y : CellId) : Type 0 where

@@ -1,10 +1,14 @@
 //! Choices between cells.
 
+ghost use Rattle.cell_arena.specs.Cells.{kind_at};
 ghost use Rattle.cell_arena.specs.Growth.{Grows};
 ghost use Rattle.cell_merge.specs.Choices.{Chooses};
+ghost use Rattle.cell_merge.specs.Composites.{parts_of};
 ghost use Rattle.cell_merge.specs.Sorts.{OneType, SetsOfOneType};
-ghost use Rattle.std.specs.Prelude.{◌<◌, IfOk};
+ghost use Rattle.cell_merge.specs.inner.Composites.{ChoosesAt, ChoosesParts, CompositesOfOneType};
+ghost use Rattle.std.specs.Prelude.{◌<◌, IfOk, length};
 
+use crate::composites::{part_at, part_count, with_parts};
 use crate::likeness::{alike, known};
 use crate::merging::{Join, merge_edges};
 use cell_arena::{Build, CellId, CellKind};
@@ -38,7 +42,64 @@ fn choose_set(b: &mut Build, l: Lit, x: CellId, y: CellId) -> Result<CellId, All
     Ok(id)
 }
 
+// A record or a tuple of chosen parts.
+#[cycle(choose)]
+#[tactic(auto, using(cell_arena::proofs::Growing::growing))]
+fn choose_composite(b: &mut Build, l: Lit, x: CellId, y: CellId) -> Result<CellId, AllocError>
+    requires below { l.var < b.old.formula.vars }
+    requires types { CompositesOfOneType b.old.arena.kinds x y }
+    ensures chosen { IfOk result (Chooses b.old b.new l x y) }
+    ensures grows { Grows b.old b.new }
+{
+    let parts = choose_parts(b, l, x, y)?;
+    let id = with_parts(b, x, parts)?;
+    Ok(id)
+}
+
+// Each part of x or that of y.
+#[cycle(choose)]
+#[tactic(auto, using(cell_arena::proofs::Growing::growing))]
+fn choose_parts(b: &mut Build, l: Lit, x: CellId, y: CellId) -> Result<Vec<CellId>, AllocError>
+    requires below { l.var < b.old.formula.vars }
+    requires types { CompositesOfOneType b.old.arena.kinds x y }
+    ensures chosen { IfOk result (λ out. let ps = parts_of (kind_at b.old.arena.kinds x) in
+        ChoosesParts b.old b.new l ps (parts_of (kind_at b.old.arena.kinds y)) (length ps) out.items) }
+    ensures grows { Grows b.old b.new }
+{
+    let count = part_count(&b.arena, x);
+    let mut out = Vec::new(b.arena.alloc());
+    for i in 0..count {
+        let part = choose_at(b, l, x, y, i)?;
+        out.push(part)?;
+    }
+    Ok(out)
+}
+
+// The part at a place of the first cell or of the second.
+#[cycle(choose)]
+#[tactic(auto, using(cell_arena::proofs::Growing::growing))]
+fn choose_at(
+    b: &mut Build,
+    l: Lit,
+    x: CellId,
+    y: CellId,
+    place: usize,
+) -> Result<CellId, AllocError>
+    requires below { l.var < b.old.formula.vars }
+    requires types { CompositesOfOneType b.old.arena.kinds x y }
+    requires within { place < length (parts_of (kind_at b.old.arena.kinds x)) }
+    ensures chosen { IfOk result (ChoosesAt b.old b.new l (parts_of (kind_at b.old.arena.kinds x))
+        (parts_of (kind_at b.old.arena.kinds y)) place) }
+    ensures grows { Grows b.old b.new }
+{
+    let left = part_at(&b.arena, x, place);
+    let right = part_at(&b.arena, y, place);
+    let part = choose_cell(b, l, left, right)?;
+    Ok(part)
+}
+
 // A new cell with the value of x where the literal is true, and else that of y.
+#[cycle(choose)]
 #[tactic(auto, using(cell_arena::proofs::Growing::growing))]
 fn choose_part(b: &mut Build, l: Lit, x: CellId, y: CellId) -> Result<CellId, AllocError>
     requires below { l.var < b.old.formula.vars }
@@ -72,6 +133,14 @@ fn choose_part(b: &mut Build, l: Lit, x: CellId, y: CellId) -> Result<CellId, Al
             let set = choose_set(b, l, x, y)?;
             return Ok(set);
         }
+        CellKind::Rec(_) => {
+            let fields = choose_composite(b, l, x, y)?;
+            return Ok(fields);
+        }
+        CellKind::Tup(_) => {
+            let tuple = choose_composite(b, l, x, y)?;
+            return Ok(tuple);
+        }
         _ => {}
     }
     Ok(x)
@@ -79,7 +148,8 @@ fn choose_part(b: &mut Build, l: Lit, x: CellId, y: CellId) -> Result<CellId, Al
 
 /// A cell with the value of x where the literal is true, and else that of y. It is one of the two
 /// where they are alike, or the literal is `top` or its negation. A set has one edge for a member
-/// of each of the two, where these are alike.
+/// of each of the two, where these are alike, and a record or a tuple has chosen parts.
+#[cycle(choose)]
 #[tactic(auto, using(cell_arena::proofs::Growing::growing))]
 pub fn choose_cell(b: &mut Build, l: Lit, x: CellId, y: CellId) -> Result<CellId, AllocError>
     requires below { l.var < b.old.formula.vars }

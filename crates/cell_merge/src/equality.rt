@@ -3,14 +3,17 @@
 ghost use Rattle.cell_arena.specs.Cells.{kind_at};
 ghost use Rattle.cell_arena.specs.Decode.{decode};
 ghost use Rattle.cell_arena.specs.Growth.{Grows as BuildGrows};
+ghost use Rattle.cell_merge.specs.Composites.{parts_of};
 ghost use Rattle.cell_merge.specs.Edges.{TestsEach, edges_of};
 ghost use Rattle.cell_merge.specs.Sorts.{IsOver, MemberType, OneType, SetsOfOneType};
+ghost use Rattle.cell_merge.specs.inner.Composites.{CompositesOfOneType, TestsParts};
 ghost use Rattle.cell_merge.specs.inner.Pairs.{AreTests, Compares, EdgeAndSet, IsPair, Meets, Pairs, each_there};
 ghost use Rattle.sat_formula.specs.Formula.{Grows, HasValue};
 ghost use Rattle.std.specs.Prelude.{IfOk, length, map, ◌<◌, ◌≡◌};
 ghost use Rattle.tla_values.specs.Order.{same_value};
 ghost use Rattle.tla_values.specs.Sets.{elements, member, subset};
 
+use crate::composites::{part_at, part_count};
 use crate::likeness::{alike, known};
 use cell_arena::{Arena, Build, CellId, CellKind};
 use sat_formula::{Formula, Lit};
@@ -56,9 +59,51 @@ pub fn same_in(
             }
         }
         CellKind::Set(_) => return same_sets(arena, formula, x, y),
+        CellKind::Rec(_) => return same_parts(arena, formula, x, y),
+        CellKind::Tup(_) => return same_parts(arena, formula, x, y),
         _ => {}
     }
     Ok(formula.top())
+}
+
+// A literal that is true exactly where two records, or two tuples, have one value.
+#[cycle(same)]
+#[tactic(auto, using(sat_formula::proofs::Extension::gates, crate::proofs::Names::over))]
+fn same_parts(arena: &Arena, formula: &mut Formula, x: CellId, y: CellId) -> Result<Lit, AllocError>
+    requires over { IsOver arena.now formula.old }
+    requires types { CompositesOfOneType arena.now.kinds x y }
+    ensures value { IfOk result (λ l. HasValue formula.new l (λ a. same_value (decode arena.now a x) (decode arena.now a y))) }
+    ensures grows { Grows formula.old formula.new }
+{
+    let tests = part_tests(arena, formula, x, y)?;
+    let all = formula.and_all(arena.alloc(), tests.as_slice())?;
+    Ok(all)
+}
+
+// Whether each part of the first has the value of the second's.
+#[cycle(same)]
+#[tactic(auto, using(sat_formula::proofs::Extension::gates, crate::proofs::Names::over))]
+fn part_tests(
+    arena: &Arena,
+    formula: &mut Formula,
+    x: CellId,
+    y: CellId,
+) -> Result<Vec<Lit>, AllocError>
+    requires over { IsOver arena.now formula.old }
+    requires types { CompositesOfOneType arena.now.kinds x y }
+    ensures tests { IfOk result (λ ls. let ps = parts_of (kind_at arena.now.kinds x) in
+        TestsParts arena.now formula.new ps (parts_of (kind_at arena.now.kinds y)) (length ps) ls.items) }
+    ensures grows { Grows formula.old formula.new }
+{
+    let count = part_count(arena, x);
+    let mut tests = Vec::new(arena.alloc());
+    for i in 0..count {
+        let left = part_at(arena, x, i);
+        let right = part_at(arena, y, i);
+        let one = same_in(arena, formula, left, right)?;
+        tests.push(one)?;
+    }
+    Ok(tests)
 }
 
 // A literal that is true exactly where the two sets have one value. Each member of the one is

@@ -7,6 +7,7 @@ ghost use Rattle.std.specs.Prelude.{◌≡◌, ◌<◌, Bool, IfSome, IsTrue, Li
 
 use cell_arena::{Arena, CellId, CellKind};
 use sat_formula::{Formula, Lit};
+use tla_values::same_text;
 
 /// The value of `top` and of its negation; of any other literal none.
 #[tactic(auto, using(crate::proofs::Chosen::top_value))]
@@ -36,8 +37,8 @@ fn same_literals(v: &[Lit], w: &[Lit]) -> bool
 }
 
 // Whether the two are one cell or are made in one way, as equal constants are: then they have one
-// value under every assignment. It adds nothing to a formula. Functions, records, tuples and
-// sequences are alike only where they are one cell.
+// value under every assignment. It adds nothing to a formula. Functions and sequences are alike
+// only where they are one cell.
 #[cycle(alike)]
 pub(crate) fn alike(arena: &Arena, x: CellId, y: CellId) -> bool
     requires x_there { x.index < length arena.now.kinds }
@@ -64,6 +65,8 @@ pub(crate) fn alike(arena: &Arena, x: CellId, y: CellId) -> bool
             }
         }
         CellKind::Set(_) => return alike_sets(arena, x, y),
+        CellKind::Rec(_) => return alike_records(arena, x, y),
+        CellKind::Tup(_) => return alike_tuples(arena, x, y),
         _ => {}
     }
     false
@@ -94,6 +97,63 @@ fn alike_sets(arena: &Arena, x: CellId, y: CellId) -> bool
             return false;
         }
         if !alike(arena, e, f) {
+            return false;
+        }
+    }
+    true
+}
+
+// Whether the two records have the same names for parts that are alike, in one order.
+#[cycle(alike)]
+fn alike_records(arena: &Arena, x: CellId, y: CellId) -> bool
+    requires x_there { x.index < length arena.now.kinds }
+    requires y_there { y.index < length arena.now.kinds }
+    ensures { IsTrue result → (a : List Bool) → decode arena.now a x ≡ decode arena.now a y }
+{
+    let CellKind::Rec(left) = arena.kind(x) else {
+        return false;
+    };
+    let CellKind::Rec(right) = arena.kind(y) else {
+        return false;
+    };
+    let es = left.as_slice();
+    let fs = right.as_slice();
+    if es.len() != fs.len() {
+        return false;
+    }
+    for i in 0..es.len() {
+        let e = &es[i];
+        let f = &fs[i];
+        if !same_text(&e.0, &f.0) {
+            return false;
+        }
+        if !alike(arena, e.1, f.1) {
+            return false;
+        }
+    }
+    true
+}
+
+// Whether the two tuples have parts that are alike, in one order.
+#[cycle(alike)]
+fn alike_tuples(arena: &Arena, x: CellId, y: CellId) -> bool
+    requires x_there { x.index < length arena.now.kinds }
+    requires y_there { y.index < length arena.now.kinds }
+    ensures { IsTrue result → (a : List Bool) → decode arena.now a x ≡ decode arena.now a y }
+{
+    let CellKind::Tup(left) = arena.kind(x) else {
+        return false;
+    };
+    let CellKind::Tup(right) = arena.kind(y) else {
+        return false;
+    };
+    let ps = left.as_slice();
+    let qs = right.as_slice();
+    if ps.len() != qs.len() {
+        return false;
+    }
+    for i in 0..ps.len() {
+        if !alike(arena, ps[i], qs[i]) {
             return false;
         }
     }

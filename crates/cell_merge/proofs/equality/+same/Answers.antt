@@ -10,6 +10,7 @@ use Rattle.cell_merge.specs.Sorts.{OfSort}
 use Rattle.cell_merge.proofs.Edges.{left-there, right-there, one-bit, one-word, one-text, one-set, one-other, is-set, negated-value, same-bits, same-words}
 use Rattle.cell_merge.proofs.Names.{IsOver-later, same-names, words-alike, texts-alike}
 use Rattle.cell_merge.proofs.Pairs.{edges-are, edge-older, edge-named, edge-type, member-type, same-compared, compares-none, compares-more, compares-off, compares-all, meets-more, meets-all, pairs-on}
+use Rattle.cell_merge.proofs.Shapes.{parts-count, parts-typed, tests-parts-more, tests-parts-all}
 use Rattle.cell_merge.proofs.equality.+same.Goals as goal
 use Rattle.cell_merge.proofs.equality.+same.Goals.{same_in-in-Bit+in_default-kind, same_in-in-Word+in_default-kind-2, same_in-in-Text+in_default-kind-3, same_in-in_default, compare-in-Set+else-loop-edge-test, compare-in_default, meet-in-Set+else-loop-i-test, meet-in_default}
 
@@ -83,6 +84,7 @@ same_in-returns-clause-value t c =
       | same_in-in-Text+in_default-kind-3 w ↦ one-text _ _ _ c.requires.types _ (sym c.kind.ensures.same ∙ w.in-Text.is) (λ m f. w.in_default-kind-3.not-Text m (w.kind-in-Text.ensures.same ∙ f))
       | same_in-in_default w ↦ one-other _ _ _ c.requires.types (λ l f. w.in_default.not-Bit l (c.kind.ensures.same ∙ f)) (λ v f. w.in_default.not-Word v (c.kind.ensures.same ∙ f))
           (λ v f. w.in_default.not-Text v (c.kind.ensures.same ∙ f)) (λ es f. w.in_default.not-Set es (c.kind.ensures.same ∙ f))
+          (λ fs f. w.in_default.not-Rec fs (c.kind.ensures.same ∙ f)) (λ ps f. w.in_default.not-Tup ps (c.kind.ensures.same ∙ f))
     ] in
     absurd never
 
@@ -206,4 +208,37 @@ same_sets-returns-clause-value t c = record {
       let s0 = Satisfies-older _ _ a c.in_ok-there.ensures.grows s1 in
       rw (c.in_ok-both.ensures.value.value a s3, c.in_ok-back.ensures.value.value a s2, c.in_ok-there.ensures.value.value a s1, c.as_slice.ensures.value, c.as_slice-2.ensures.value)
       (same-compared c.args.arena.now _ a c.args.x c.args.y _ _ c.requires.over.built c.requires.types s0 c.in_ok-found.ensures.compares);
+}
+
+pub part_tests-part_at-right-requires-clause-there : goal.part_tests-part_at-right-requires-clause-there
+part_tests-part_at-right-requires-clause-there t c = right-there _ _ _ c.requires.types.types
+
+pub part_tests-part_at-right-requires-clause-within : goal.part_tests-part_at-right-requires-clause-within
+part_tests-part_at-right-requires-clause-within t c = let m = parts-count _ _ _ c.requires.types in let n = c.part_count-count.ensures in omega arith
+
+pub part_tests-same_in-requires : goal.part_tests-same_in-requires
+part_tests-same_in-requires t c =
+    let p = c.part_at-left.ensures.older in
+    let q = c.part_at-right.ensures.older in
+    let n = c.part_count-count.ensures in
+    let types = parts-typed _ _ _ c.requires.types c.loop-i.i _ _ (omega arith) (c.part_at-left.ensures.part c.part_at-left.result) (c.part_at-right.ensures.part c.part_at-right.result) in
+    (omega arith, (IsOver-later _ _ _ c.requires.over c.loop-i.invariant.grows, types))
+
+pub part_tests-loop-i-preserved : goal.part_tests-loop-i-preserved
+part_tests-loop-i-preserved t c =
+    let i = c.loop-i.invariant in
+    let m = parts-count _ _ _ c.requires.types in
+    let n = c.part_count-count.ensures in
+    record {
+      grows = Grows-trans _ _ _ i.grows c.in_ok-one.ensures.grows;
+      tests = tests-parts-more _ _ _ _ _ c.loop-i.i _ _ _ _ _ (omega arith) (omega arith) i.tests c.in_ok-one.ensures.grows (c.part_at-left.ensures.part c.part_at-left.result)
+          (c.part_at-right.ensures.part c.part_at-right.result) c.in_ok-one.ensures.value c.in_ok-push.ensures.items;
+    }
+
+pub same_parts-returns-clause-value : goal.same_parts-returns-clause-value
+same_parts-returns-clause-value t c = record {
+  below = c.in_ok-all.ensures.value.below;
+  value = λ a s.
+      c.in_ok-all.ensures.value.value a s
+      ∙ rw c.as_slice.ensures.value (tests-parts-all c.args.arena.now _ a c.args.x c.args.y _ c.requires.over.built c.requires.types (Satisfies-older _ _ a c.in_ok-all.ensures.grows s) c.in_ok-tests.ensures.tests);
 }

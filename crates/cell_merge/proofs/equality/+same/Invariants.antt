@@ -2,6 +2,8 @@ use Rattle.std.proofs.Common.{◌+◌, ◌*◌}
 use Rattle.sat_formula.specs.Formula.{Grows}
 use Rattle.cell_arena.specs.Cells.{kind_at}
 use Rattle.cell_merge.specs.Edges.{edges_of}
+use Rattle.cell_merge.specs.Composites.{parts_of}
+use Rattle.cell_merge.specs.inner.Composites.{TestsParts}
 use Rattle.cell_merge.specs.inner.Pairs.{Meets, Compares}
 use Rattle.cell_merge.proofs.equality.+same.Given as goal
 
@@ -13,6 +15,12 @@ decreases-compare l = 4 * (l.x.index + l.y.index)
 
 abbrev pub decreases-same_sets : goal.decreases-same_sets
 decreases-same_sets l = 4 * (l.x.index + l.y.index) + 1
+
+abbrev pub decreases-part_tests : goal.decreases-part_tests
+decreases-part_tests l = 4 * (l.x.index + l.y.index)
+
+abbrev pub decreases-same_parts : goal.decreases-same_parts
+decreases-same_parts l = 4 * (l.x.index + l.y.index) + 1
 
 abbrev pub decreases-same_in : goal.decreases-same_in
 decreases-same_in l = 4 * (l.x.index + l.y.index) + 2
@@ -30,4 +38,10 @@ abbrev pub invariant-meet-loop-i : goal.invariant-meet-loop-i
 invariant-meet-loop-i l = record {
   grows : Grows l.fn.formula l.formula;
   meets : Meets l.arena l.formula l.edge l.es l.i l.covered (l.found, l.more.items);
+}
+
+abbrev pub invariant-part_tests-loop-i : goal.invariant-part_tests-loop-i
+invariant-part_tests-loop-i l = record {
+  grows : Grows l.fn.formula l.formula;
+  tests : TestsParts l.arena l.formula (parts_of (kind_at l.arena.kinds l.x)) (parts_of (kind_at l.arena.kinds l.y)) l.i l.tests.items;
 }
