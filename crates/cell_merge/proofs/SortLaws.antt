@@ -89,4 +89,19 @@ sort-set b c es s id h g all = (
       (All-weaker (λ e. OfSort b.arena.kinds s e.1) (λ e. OfSort c.arena.kinds s e.1) (λ e p. OfSort-later b c s e.1 p g) es all),
 )
 
+pub sort-record : (b c : Build) (fs : List (List ℕ × CellId)) (names : List (List ℕ)) (s : ℕ → Sort) (id : CellId) → Adds b c (Rec fs) id → Grows b c → map (λ (f : List ℕ × CellId). f.0) fs ≡ names
+    → ArePlaced (length names) (λ i. OfSort b.arena.kinds (s i)) (map (λ (f : List ℕ × CellId). f.1) fs) → OfSort c.arena.kinds (record_of names s) id
+sort-record b c fs names s id h g named placed = (
+  added-there b c (Rec fs) id h,
+  subst (λ k. IsRecord names (λ i. OfSort c.arena.kinds (s i)) k) (sym (added-kind b c (Rec fs) id h))
+      (named, ArePlaced-weaker (λ i. OfSort b.arena.kinds (s i)) (λ i. OfSort c.arena.kinds (s i)) (λ i e p. OfSort-later b c (s i) e p g) (length names) (map (λ (f : List ℕ × CellId). f.1) fs) placed),
+)
+
+pub sort-tuple : (b c : Build) (ps : List CellId) (n : ℕ) (s : ℕ → Sort) (id : CellId) → Adds b c (Tup ps) id → Grows b c → ArePlaced n (λ i. OfSort b.arena.kinds (s i)) ps → OfSort c.arena.kinds (tuple_of n s) id
+sort-tuple b c ps n s id h g placed = (
+  added-there b c (Tup ps) id h,
+  subst (λ k. IsTuple n (λ i. OfSort c.arena.kinds (s i)) k) (sym (added-kind b c (Tup ps) id h))
+      (ArePlaced-weaker (λ i. OfSort b.arena.kinds (s i)) (λ i. OfSort c.arena.kinds (s i)) (λ i e p. OfSort-later b c (s i) e p g) n ps placed),
+)
+
 pub ruleset sorts = (OfSort-later, sort-bit, sort-word, sort-text)
