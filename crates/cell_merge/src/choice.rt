@@ -5,7 +5,7 @@ ghost use Rattle.cell_arena.specs.Growth.{Grows};
 ghost use Rattle.cell_merge.specs.Choices.{Chooses};
 ghost use Rattle.cell_merge.specs.Composites.{parts_of};
 ghost use Rattle.cell_merge.specs.Sorts.{OneType, SetsOfOneType};
-ghost use Rattle.cell_merge.specs.inner.Composites.{ChoosesAt, ChoosesParts, CompositesOfOneType};
+ghost use Rattle.cell_merge.specs.inner.Composites.{ChoosesAt, ChoosesParts, CompositesOfOneType, PartsOfOneType};
 ghost use Rattle.std.specs.Prelude.{◌<◌, IfOk, length};
 
 use crate::composites::{part_at, part_count, with_parts};
@@ -86,8 +86,7 @@ fn choose_at(
     place: usize,
 ) -> Result<CellId, AllocError>
     requires below { l.var < b.old.formula.vars }
-    requires types { CompositesOfOneType b.old.arena.kinds x y }
-    requires within { place < length (parts_of (kind_at b.old.arena.kinds x)) }
+    requires types { PartsOfOneType b.old.arena.kinds x y place }
     ensures chosen { IfOk result (ChoosesAt b.old b.new l (parts_of (kind_at b.old.arena.kinds x))
         (parts_of (kind_at b.old.arena.kinds y)) place) }
     ensures grows { Grows b.old b.new }
@@ -133,13 +132,9 @@ fn choose_part(b: &mut Build, l: Lit, x: CellId, y: CellId) -> Result<CellId, Al
             let set = choose_set(b, l, x, y)?;
             return Ok(set);
         }
-        CellKind::Rec(_) => {
-            let fields = choose_composite(b, l, x, y)?;
-            return Ok(fields);
-        }
-        CellKind::Tup(_) => {
-            let tuple = choose_composite(b, l, x, y)?;
-            return Ok(tuple);
+        CellKind::Rec(_) | CellKind::Tup(_) => {
+            let composite = choose_composite(b, l, x, y)?;
+            return Ok(composite);
         }
         _ => {}
     }

@@ -59,8 +59,7 @@ pub fn same_in(
             }
         }
         CellKind::Set(_) => return same_sets(arena, formula, x, y),
-        CellKind::Rec(_) => return same_parts(arena, formula, x, y),
-        CellKind::Tup(_) => return same_parts(arena, formula, x, y),
+        CellKind::Rec(_) | CellKind::Tup(_) => return same_parts(arena, formula, x, y),
         _ => {}
     }
     Ok(formula.top())

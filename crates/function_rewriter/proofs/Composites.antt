@@ -18,14 +18,14 @@ use Rattle.cell_arena.specs.Decode.{decode}
 use Rattle.cell_arena.specs.Growth.{Grows}
 use Rattle.cell_arena.proofs.Decoding.{decode-kind}
 use Rattle.cell_merge.specs.Sorts.{Sort, OfSort, IsRecord, IsTuple, record_of, tuple_of}
-use Rattle.cell_merge.specs.Composites.{parts_of, IsComposite, FitsParts, IsWithParts}
+use Rattle.cell_merge.specs.Composites.{parts_of, IsComposite, FitsParts}
 use Rattle.cell_merge.proofs.Edges.{is-record, is-tuple}
 use Rattle.cell_merge.proofs.FunctionValues.{apply_function, apply_zip}
 use Rattle.cell_merge.proofs.Names.{place-one}
 use Rattle.cell_merge.proofs.Shapes.{part-sort, composed-value, other-value, other-sort}
 use Rattle.cell_merge.proofs.SortLaws.{OfSort-later, added-kind, added-there}
 use Rattle.function_rewriter.specs.Functions.{pairs_here, pairs_of, HasField, IsField, SetsField, HasItem, IsItem, SetsItem}
-use Rattle.function_rewriter.specs.inner.Places.{HasPlace, IsPlace, StandsAt}
+use Rattle.function_rewriter.specs.inner.Places.{HasPlace, StandsAt, Finds, Replaces}
 use Rattle.function_rewriter.proofs.Overrides.{override_function, override_zip, apply_numbered, override_numbered}
 
 pub pairs-fun : (ps : List (Value × Value)) → pairs_of (value.Fun ps) ≡ ps
@@ -167,7 +167,7 @@ is-field b r name place id at is =
           subst P same (subst Q (sym is) (part-sort c.kinds (record_of ns s) r h (record-composite ns s c.kinds r h) place id lt));
     }
 
-pub sets-field : (old new : Build) (r : CellId) (name : List ℕ) (place : ℕ) (v id : CellId) → StandsAt old.arena.kinds r name place → IsWithParts old new r (set (parts_of (kind_at old.arena.kinds r)) place v) id → Grows old new
+pub sets-field : (old new : Build) (r : CellId) (name : List ℕ) (place : ℕ) (v id : CellId) → StandsAt old.arena.kinds r name place → Replaces old new r place v id → Grows old new
     → SetsField old new r name v id
 sets-field old new r name place v id at made grows =
     let c : Cells = old.arena in
@@ -202,7 +202,7 @@ sets-field old new r name place v id at made grows =
 
 -- the first place of the name in the fields of the record
 pub stands-at : (ks : List CellKind) (r : CellId) (name : List ℕ) (place : ℕ) (k : CellKind) (fs items : List (List ℕ × CellId)) → HasField ks r name → k ≡ kind_at ks r → k ≡ Rec fs → items ≡ fs
-    → ((i : ℕ) (d : List ℕ × CellId) → i < length items → (get_or items i d).0 ≡ name → IsPlace items name place) → StandsAt ks r name place
+    → Finds items name place → StandsAt ks r name place
 stands-at ks r name place k fs items h same is list found =
     let first : List ℕ × CellId → List ℕ = λ (f : List ℕ × CellId). f.0 in
     let P : CellKind → Type 0 = IsRecord h.names (λ i. OfSort ks (h.sorts i)) in
@@ -270,7 +270,7 @@ is-item b t i id h is =
           subst Q (sym is) (part-sort c.kinds (tuple_of n s) t k (tuple-composite n s c.kinds t k) (i - 1) id lt);
     }
 
-pub sets-item : (old new : Build) (t : CellId) (i : ℕ) (v id : CellId) → HasItem old.arena.kinds t i → IsWithParts old new t (set (parts_of (kind_at old.arena.kinds t)) (i - 1) v) id → Grows old new → SetsItem old new t i v id
+pub sets-item : (old new : Build) (t : CellId) (i : ℕ) (v id : CellId) → HasItem old.arena.kinds t i → Replaces old new t (i - 1) v id → Grows old new → SetsItem old new t i v id
 sets-item old new t i v id h made grows =
     let c : Cells = old.arena in
     let ps : List CellId = parts_of (kind_at c.kinds t) in

@@ -1,10 +1,9 @@
 //! The fields of records.
 
 ghost use Rattle.cell_arena.specs.Growth.{Grows};
-ghost use Rattle.cell_arena.specs.declared.kinds.CellId.{CellId as AnyCell};
 ghost use Rattle.function_rewriter.specs.Functions.{HasField, IsField, SetsField};
-ghost use Rattle.function_rewriter.specs.inner.Places.{IsPlace, StandsAt};
-ghost use Rattle.std.specs.Prelude.{◌<◌, ◌≡◌, ℕ, IfOk, List, length, slice_index_or};
+ghost use Rattle.function_rewriter.specs.inner.Places.{Finds, StandsAt};
+ghost use Rattle.std.specs.Prelude.{◌<◌, IfOk, length};
 
 use crate::replacing::replace_part;
 use cell_arena::{Arena, Build, CellId, CellKind};
@@ -14,7 +13,7 @@ use tla_values::{Text, same_text};
 
 // The first place of the name.
 fn find(fields: &[(Text, CellId)], name: &Text) -> usize
-    ensures { (i : ℕ) (d : List ℕ × AnyCell) → i < length fields.now → (slice_index_or fields.now i d).0 ≡ name.now → IsPlace fields.now name.now result }
+    ensures { Finds fields.now name.now result }
 {
     for i in 0..fields.len() {
         if same_text(&fields[i].0, name) {

@@ -2,9 +2,9 @@
 
 ghost use Rattle.cell_arena.specs.Cells.{kind_at};
 ghost use Rattle.cell_arena.specs.Growth.{Grows};
-ghost use Rattle.cell_merge.specs.Composites.{IsWithParts, parts_of};
-ghost use Rattle.function_rewriter.specs.inner.Places.{HasPlace};
-ghost use Rattle.std.specs.Prelude.{◌<◌, ◌≡◌, IfOk, length, set};
+ghost use Rattle.cell_merge.specs.Composites.{parts_of};
+ghost use Rattle.function_rewriter.specs.inner.Places.{HasPlace, Replaces};
+ghost use Rattle.std.specs.Prelude.{◌<◌, ◌≡◌, IfOk, length};
 
 use cell_arena::{Arena, Build, CellId};
 use cell_merge::{part_at, part_count, with_parts};
@@ -34,7 +34,7 @@ pub(crate) fn replace_part(
 ) -> Result<CellId, AllocError>
     requires place { HasPlace b.old.arena.kinds id place }
     requires there { part.index < length b.old.arena.kinds }
-    ensures made { IfOk result (IsWithParts b.old b.new id (set (parts_of (kind_at b.old.arena.kinds id)) place part)) }
+    ensures made { IfOk result (Replaces b.old b.new id place part) }
     ensures grows { Grows b.old b.new }
 {
     let mut parts = copy_parts(&b.arena, id)?;

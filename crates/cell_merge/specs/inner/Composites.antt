@@ -13,13 +13,18 @@ use Rattle.cell_arena.specs.declared.kinds.CellKind.{CellKind}
 use Rattle.cell_arena.specs.Cells.{Cells, kind_at}
 use Rattle.cell_arena.specs.Decode.{decode}
 use Rattle.cell_merge.specs.Sorts.{OneType}
-use Rattle.cell_merge.specs.Composites.{IsComposite}
+use Rattle.cell_merge.specs.Composites.{parts_of, IsComposite}
 use Rattle.cell_merge.specs.Choices.{Chooses}
 
 -- two records, or two tuples, of one sort
 pub record CompositesOfOneType (ks : List CellKind) (x y : CellId) : Type 0 where
   pub types : OneType ks x y
   pub composite : IsComposite (kind_at ks x)
+
+-- and a place of their parts, from 0
+pub record PartsOfOneType (ks : List CellKind) (x y : CellId) (place : ℕ) : Type 0 where
+  pub types : CompositesOfOneType ks x y
+  pub within : place < length (parts_of (kind_at ks x))
 
 -- whether the items of two lists are the same ones in one order
 abbrev pub each_same : List Value → List Value → Bool

@@ -96,16 +96,16 @@ pub choose_part-choose_set-requires-clause-types : goal.choose_part-choose_set-r
 choose_part-choose_set-requires-clause-types t c = one-set _ _ _ c.requires.types _ (sym c.kind.ensures.same ∙ c.in-Set.is)
 
 pub choose_at-part_at-right-requires-clause-there : goal.choose_at-part_at-right-requires-clause-there
-choose_at-part_at-right-requires-clause-there t c = right-there _ _ _ c.requires.types.types
+choose_at-part_at-right-requires-clause-there t c = right-there _ _ _ c.requires.types.types.types
 
 pub choose_at-part_at-right-requires-clause-within : goal.choose_at-part_at-right-requires-clause-within
-choose_at-part_at-right-requires-clause-within t c = let n = parts-count _ _ _ c.requires.types in let m = c.requires.within in omega arith
+choose_at-part_at-right-requires-clause-within t c = let n = parts-count _ _ _ c.requires.types.types in let m = c.requires.types.within in omega arith
 
 pub choose_at-choose_cell-requires : goal.choose_at-choose_cell-requires
 choose_at-choose_cell-requires t c =
     let p = c.part_at-left.ensures.older in
     let q = c.part_at-right.ensures.older in
-    let types = parts-typed _ _ _ c.requires.types c.args.place _ _ c.requires.within (c.part_at-left.ensures.part c.part_at-left.result) (c.part_at-right.ensures.part c.part_at-right.result) in
+    let types = parts-typed _ _ _ c.requires.types.types c.args.place _ _ c.requires.types.within (c.part_at-left.ensures.part c.part_at-left.result) (c.part_at-right.ensures.part c.part_at-right.result) in
     (omega arith, (c.requires.below, types))
 
 pub choose_composite-with_parts-requires : goal.choose_composite-with_parts-requires
@@ -122,7 +122,7 @@ choose_parts-choose_at-requires t c =
     let g = i.grows.formula.vars in
     let same = ap (λ (k : CellKind). length (parts_of k)) (kind-before _ _ c.args.x i.grows (left-there _ _ _ c.requires.types.types)) in
     let n = c.part_count-count.ensures in
-    (omega arith, (omega arith, (types-later _ _ _ _ c.requires.types i.grows, omega arith)))
+    (omega arith, (omega arith, record { types = types-later _ _ _ _ c.requires.types i.grows; within = omega arith }))
 
 pub choose_parts-loop-i-preserved : goal.choose_parts-loop-i-preserved
 choose_parts-loop-i-preserved t c =
