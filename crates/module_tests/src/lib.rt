@@ -4,6 +4,8 @@
 #[cfg(test)]
 mod asking;
 #[cfg(test)]
+mod expanding;
+#[cfg(test)]
 mod expansions_cases;
 #[cfg(test)]
 mod extending_cases;
@@ -23,5 +25,9 @@ mod room_cases;
 mod showing;
 #[cfg(test)]
 mod sources_cases;
+#[cfg(test)]
+mod tree_tokens;
+#[cfg(test)]
+mod trees;
 #[cfg(test)]
 mod users_cases;

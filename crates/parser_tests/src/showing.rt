@@ -7,6 +7,7 @@ fn form_label(form: Form) -> &'static str {
     match form {
         Form::Choose => "choose",
         Form::Enabled => "enabled",
+        Form::Power => "power",
         Form::Temporal => "temporal",
         Form::Unbounded => "unbounded",
         _ => "other",

@@ -4,4 +4,3 @@ pub mod Layouts
 pub mod Notes
 pub mod Trees
 pub mod Truths
-pub mod Units

@@ -1,10 +1,9 @@
 -- The equations of the trees.
 use Rattle.std.proofs.Common.{◌≡◌, List, ℕ, map, ◌∙◌, ap, sym}
-use Rattle.tla_meaning.specs.declared.expr.Expr.{Expr, out-Expr, out-roll-Expr, roll-Expr}
+use Rattle.tla_meaning.specs.declared.expr.Expr.{Expr, out-Expr, roll-Expr}
 use Rattle.tla_meaning.specs.declared.expr.Expr.TheOpen.{Expr-F}
-use Rattle.tla_meaning.specs.declared.expr.Expr.TheFolds.{fold-roll-Expr, fold_out-Expr, map-Expr}
+use Rattle.tla_meaning.specs.declared.expr.Expr.TheFolds.{fold-roll-Expr, fold_out-Expr}
 use Rattle.plain_jobs.specs.Parts.{part, part_at}
-use Rattle.plain_jobs.specs.Resolved.{resolved, resolved_at}
 use Rattle.plain_jobs.specs.declared.parts.Part.{Part}
 
 -- what a tree says, by its node
@@ -15,17 +14,6 @@ part-out e = fold_out-Expr Part (λ x. part_at x.op x.args) e
 pub part-roll : (x : Expr-F Expr) → part (roll-Expr x) ≡ part_at x.op (map part x.args)
 unfolding part
 part-roll x = fold-roll-Expr Part (λ y. part_at y.op y.args) x
-
--- a tree with its variables, by its node
-pub resolved-out : (names : List (List ℕ)) (e : Expr) → resolved names e ≡ resolved_at names (map-Expr Expr Expr (resolved names) (out-Expr e))
-unfolding resolved
-resolved-out names e = fold_out-Expr Expr (resolved_at names) e
-
-pub resolved_node : (names : List (List ℕ)) (e : Expr) (es : List Expr) (r : Expr) → r ≡ resolved_at names (out-Expr (roll-Expr (record (out-Expr e) { args = es })))
-    → es ≡ map (resolved names) (out-Expr e).args → r ≡ resolved names e
-resolved_node names e es r is each =
-    is ∙ ap (resolved_at names) (out-roll-Expr (record (out-Expr e) { args = es }))
-    ∙ ap (λ (xs : List Expr). resolved_at names (record (out-Expr e) { args = xs })) each ∙ sym (resolved-out names e)
 
 pub part_node : (e : Expr) (ps : List Part) → ps ≡ map part (out-Expr e).args → part_at (out-Expr e).op ps ≡ part e
 part_node e ps each = ap (λ (xs : List Part). part_at (out-Expr e).op xs) each ∙ sym (part-out e)

@@ -29,7 +29,7 @@ use Rattle.tla_meaning.specs.Operators.{yes_no}
 use Rattle.tla_meaning.specs.Scopes.{Denotation}
 use Rattle.tla_meaning.proofs.MeaningLemmas.{belongs-out, val-roll, denotation-roll}
 use Rattle.plain_jobs.specs.Holds.{all_hold_in, asks_for, holds_in, some_hold_in, value_at}
-use Rattle.plain_jobs.specs.Parts.{part, part_at, all_conjuncts, each_conjuncts, conjunction, disjunction, element, equal}
+use Rattle.plain_jobs.specs.Parts.{part, part_at, all_conjuncts, each_conjuncts, conjunction, disjunction, element, equal, noted}
 use Rattle.plain_jobs.specs.declared.parts.Part.{Part}
 use Rattle.plain_jobs.specs.declared.parts.Part.TheVariants.{Variable, Truth, TruthValues, Conjuncts, Branches, Other}
 use Rattle.plain_jobs.proofs.Trees.{part-roll}
@@ -310,6 +310,25 @@ module _ (w : Width) where
   disjunction_means p xs ys None is = tt
   disjunction_means p xs ys (Some bs) is = or_means p xs ys bs is
 
+  noted_says : (p : Place) (text : List ℕ) (xs : List (List ℕ)) (e : Expr) (n : ℕ) (f : State → State → Bool) → Says w e n f
+      → Says w (node p (op.Noted text) xs (e ∷ [])) n f
+  noted_says p text xs e n f says = record {
+    value = λ s t size size2. val-roll w _ no_scope s t ∙ says.value s t size size2;
+    effect = λ m s t size size2. ap (λ (a : Denotation). a.act m s t) (denotation-roll w _ no_scope) ∙ says.effect m s t size size2;
+  }
+
+  -- what is annotated means what it means without
+  noted_means : (p : Place) (text : List ℕ) (xs : List (List ℕ)) (e : Expr) (q : Part) → Means w q e → Means w q (node p (op.Noted text) xs (e ∷ []))
+  noted_means p text xs e (Variable i primed) means = λ s t lt alike. val-roll w _ no_scope s t ∙ means s t lt alike
+  noted_means p text xs e (Truth b) means = λ s t. (
+    val-roll w _ no_scope s t ∙ (means s t).0,
+    λ m. ap (λ (a : Denotation). a.act m s t) (denotation-roll w _ no_scope) ∙ (means s t).1 m,
+  )
+  noted_means p text xs e TruthValues means = λ s t. ap (λ (a : Denotation). a.form s t) (denotation-roll w _ no_scope) ∙ means s t
+  noted_means p text xs e (Conjuncts cs) means = λ n speak. noted_says p text xs e n _ (means n speak)
+  noted_means p text xs e (Branches bs) means = λ n speak. noted_says p text xs e n _ (means n speak)
+  noted_means p text xs e Other means = tt
+
   -- what has another number of operands says nothing
   alone_equal : (q : Part) → equal (q ∷ []) ≡ Other
   alone_equal (Variable i primed) = refl
@@ -373,6 +392,9 @@ module _ (w : Width) where
   node_means op.In p xs (y ∷ z ∷ x ∷ ys) = nothing_said _ _ (more_element (part y.0) (part z.0) (part x.0) (map part (trees ys)))
   node_means op.And p xs ys = conjunction_means p xs ys (all_conjuncts (map part (trees ys))) refl
   node_means op.Or p xs ys = disjunction_means p xs ys (each_conjuncts (map part (trees ys))) refl
+  node_means (op.Noted text) p xs [] = tt
+  node_means (op.Noted text) p xs (y ∷ []) = noted_means p text xs y.0 (part y.0) y.1
+  node_means (op.Noted text) p xs (y ∷ z ∷ ys) = tt
   node_means o p xs ys = tt
 
   -- every tree means what it says

@@ -43,6 +43,11 @@ abbrev pub disjunction : Option (List (List Conjunct)) → Part
 disjunction None = Other
 disjunction (Some bs) = Branches bs
 
+-- what is annotated
+abbrev pub noted : List Part → Part
+noted (part ∷ []) = part
+noted parts = Other
+
 -- a node, by what its operands say: nested conjunctions are one
 abbrev pub part_at : Op → List Part → Part
 part_at (op.Name i primed) parts = leaf (Variable i primed) parts
@@ -52,6 +57,7 @@ part_at op.Eq parts = equal parts
 part_at op.In parts = element parts
 part_at op.And parts = conjunction (all_conjuncts parts)
 part_at op.Or parts = disjunction (each_conjuncts parts)
+part_at (op.Noted text) parts = noted parts
 part_at o parts = Other
 
 unfoldable pub part : Expr → Part

@@ -1,6 +1,6 @@
 // What the trees of a job say of its variables.
 ghost use Rattle.std.specs.Prelude.{◌≡◌, ◌∷◌, [], IfOk, map};
-ghost use Rattle.plain_jobs.specs.Parts.{all_conjuncts, conjunction, disjunction, each_conjuncts, element, equal, leaf, part, part_at};
+ghost use Rattle.plain_jobs.specs.Parts.{all_conjuncts, conjunction, disjunction, each_conjuncts, element, equal, leaf, noted, part, part_at};
 ghost use Rattle.plain_jobs.specs.declared.parts.Part.TheVariants.{Conjuncts as conjuncts, Branches as branches};
 
 use std::alloc::{AllocError, Global};
@@ -30,7 +30,7 @@ pub(crate) fn part_of(alloc: Global, e: &Expr) -> Result<Part, AllocError>
     ensures { IfOk result (λ p. p ≡ part e.now) }
 {
     let parts = parts_of(alloc, e.args.as_slice())?;
-    part_at(alloc, &e.op, &parts)
+    part_at(alloc, &e.op, parts)
 }
 
 #[cycle(part)]
@@ -45,18 +45,29 @@ fn parts_of(alloc: Global, trees: &[Expr]) -> Result<Vec<Part>, AllocError>
 }
 
 // What a node says, by what its operands say.
-fn part_at(alloc: Global, op: &Op, parts: &[Part]) -> Result<Part, AllocError>
-    ensures { IfOk result (λ p. p ≡ part_at op.now parts.now) }
+fn part_at(alloc: Global, op: &Op, parts: Vec<Part>) -> Result<Part, AllocError>
+    ensures { IfOk result (λ p. p ≡ part_at op.now parts.items) }
 {
     match op {
-        Op::Name(i, primed) => Ok(leaf(Part::Variable(*i, *primed), parts)),
-        Op::Bool(b) => Ok(leaf(Part::Truth(*b), parts)),
-        Op::BooleanSet => Ok(leaf(Part::TruthValues, parts)),
-        Op::Eq => equal(alloc, parts),
-        Op::In => element(alloc, parts),
-        Op::And => conjunction(alloc, parts),
-        Op::Or => disjunction(alloc, parts),
+        Op::Name(i, primed) => Ok(leaf(Part::Variable(*i, *primed), &parts)),
+        Op::Bool(b) => Ok(leaf(Part::Truth(*b), &parts)),
+        Op::BooleanSet => Ok(leaf(Part::TruthValues, &parts)),
+        Op::Eq => equal(alloc, &parts),
+        Op::In => element(alloc, &parts),
+        Op::And => conjunction(alloc, &parts),
+        Op::Or => disjunction(alloc, &parts),
+        Op::Noted(_) => Ok(noted(parts)),
         _ => Ok(Part::Other),
+    }
+}
+
+// What is annotated.
+fn noted(mut parts: Vec<Part>) -> Part
+    ensures { result ≡ noted parts.items }
+{
+    match parts.pop() {
+        Some(part) if parts.is_empty() => part,
+        _ => Part::Other,
     }
 }
 

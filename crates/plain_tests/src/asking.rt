@@ -4,43 +4,35 @@
 ghost use Rattle.std.specs.Prelude.{◌≤◌, length, IfSome};
 
 use crate::cases::{MODULES, NOT_PLAIN, PLAIN, WITHOUT_JOB};
-use crate::showing::{Said, put_said};
-use plain_jobs::{module_job, plain_of};
+use crate::showing::put_plain;
+use plain_modules::{Source, inline_line, module_line, read_job};
 use std::alloc::{AllocError, Global};
 use std::test::Fail;
-use tla_lexer::tokens;
-use tla_meaning::Module;
-use tla_parser::parse;
+use tla_values::List;
+use tool_outside::MemoryFiles;
 
-fn said_by(alloc: Global, module: &Module) -> Result<Said, AllocError> {
-    let Some(job) = module_job(alloc, b"M.tla", module)? else {
-        return Ok(Said::NoJob);
-    };
-    match plain_of(alloc, &job)? {
-        Some(plain) => Ok(Said::Says(plain)),
-        None => Ok(Said::NotPlain),
+// What the text of the module of this name says, or why it makes no job.
+fn shown(alloc: Global, name: &str, text: &[u8]) -> Result<Vec<u8>, Fail> {
+    let mut files = MemoryFiles::new(alloc, List::new(alloc));
+    files.put(name, text)?;
+    match read_job(alloc, name, &mut files)? {
+        Source::Said(_, plain) => {
+            let mut out = Vec::new(alloc);
+            put_plain(&mut out, &plain)?;
+            Ok(out)
+        }
+        Source::NotBuilt => Ok(Vec::from_slice(alloc, b"not plain")?),
+        Source::Unjoined(refusal) => Ok(told(alloc, &module_line(alloc, &refusal)?)?),
+        Source::Unmade(files, fault) => {
+            Ok(told(alloc, &inline_line(alloc, files.as_slice(), &fault)?)?)
+        }
     }
 }
 
-// What the text of a module says.
-fn said(alloc: Global, text: &[u8]) -> Result<Said, Fail> {
-    if text.len() > 100_000_000 {
-        return Err("too long".into());
-    }
-    let found = tokens(alloc, 0, text)?;
-    if found.is_empty() {
-        return Err("no tokens".into());
-    }
-    match parse(alloc, &found) {
-        Ok(module) => Ok(said_by(alloc, &module)?),
-        Err(_) => Ok(Said::NoModule),
-    }
-}
-
-fn shown(alloc: Global, text: &[u8]) -> Result<Vec<u8>, Fail> {
-    let mut out = Vec::new(alloc);
-    put_said(&mut out, &said(alloc, text)?)?;
-    Ok(out)
+// The cause that a line tells.
+fn told(alloc: Global, line: &[u8]) -> Result<Vec<u8>, AllocError> {
+    let line = line.strip_suffix(b"\n").unwrap_or(line);
+    Vec::from_slice(alloc, line.strip_prefix(b"refused: ").unwrap_or(line))
 }
 
 // The module of these units: `;` stands for a line feed, `$` and `%` for notes on the types Bool and Int.
@@ -86,7 +78,7 @@ fn differs(alloc: Global, line: &[u8], report: &mut Vec<u8>) -> Result<(), Fail>
         report.push(b'\n')?;
         return Ok(());
     };
-    let found = shown(alloc, module_of(alloc, &line[..at])?.as_slice())?;
+    let found = shown(alloc, "M.tla", module_of(alloc, &line[..at])?.as_slice())?;
     let rest = &line[at..];
     if !rest.ends_with(found.as_slice()) || rest.len() != found.len() + 4 {
         report.extend_from_slice(line)?;
@@ -112,7 +104,7 @@ fn other_trees_and_notes_are_not_plain(rt: HostRuntime) -> Result<(), Fail> {
 }
 
 #[test]
-fn other_units_are_no_job(rt: HostRuntime) -> Result<(), Fail> {
+fn modules_that_make_no_job_are_refused(rt: HostRuntime) -> Result<(), Fail> {
     let report = differing(rt.alloc(), WITHOUT_JOB)?;
     assert_eq!(rt; report.as_slice(), b"".as_slice());
     Ok(())
@@ -121,8 +113,8 @@ fn other_units_are_no_job(rt: HostRuntime) -> Result<(), Fail> {
 #[test]
 fn modules_on_many_lines_say_their_parts(rt: HostRuntime) -> Result<(), Fail> {
     let alloc = rt.alloc();
-    for (text, expected) in &MODULES {
-        let found = shown(alloc, text.as_bytes())?;
+    for (name, text, expected) in &MODULES {
+        let found = shown(alloc, name, text.as_bytes())?;
         assert_eq!(rt; found.as_slice(), expected.as_bytes());
     }
     Ok(())

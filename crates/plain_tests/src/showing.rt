@@ -4,27 +4,8 @@ use std::alloc::AllocError;
 use tla_meaning::Conjunct;
 use tla_values::List;
 
-/// What a text says.
-#[derive(Drop)]
-pub(crate) enum Said {
-    NoModule,
-    NoJob,
-    NotPlain,
-    Says(Plain),
-}
-
-/// Adds the word or the parts.
-pub(crate) fn put_said(out: &mut Vec<u8>, said: &Said) -> Result<(), AllocError> {
-    match said {
-        Said::NoModule => out.extend_from_slice(b"no module"),
-        Said::NoJob => out.extend_from_slice(b"no job"),
-        Said::NotPlain => out.extend_from_slice(b"not plain"),
-        Said::Says(plain) => put_plain(out, plain),
-    }
-}
-
-// `1: x=F; x=F x'=T / x=T x'=F; x=F`, with the numbers of the variables in the place of x.
-fn put_plain(out: &mut Vec<u8>, plain: &Plain) -> Result<(), AllocError> {
+/// Adds what the parts say, as in `1: x=F; x=F x'=T / x=T x'=F; x=F` with the numbers of the variables in the place of x.
+pub(crate) fn put_plain(out: &mut Vec<u8>, plain: &Plain) -> Result<(), AllocError> {
     put_digit(out, plain.vars)?;
     out.push(b':')?;
     put_conjuncts(out, plain.init.as_slice())?;

@@ -1,11 +1,12 @@
 -- Why an answer is given.
-use Rattle.std.proofs.Common.{◌≡◌, ℕ, ◌≤◌, inr, List, [], ◌∷◌, length, Option, Some, None, refl, sym, ◌∙◌, ap, subst, arith}
+use Rattle.std.proofs.Common.{◌≡◌, ℕ, ◌≤◌, inl, inr, false, List, [], ◌∷◌, length, Option, Some, None, refl, sym, ◌∙◌, ap, subst, arith}
 use Rattle.std.specs.Prelude.{IfSome}
 use Rattle.tool_outside.specs.Causes.{Holds, HandedOut, IsCut, IsLong}
 use Rattle.tool_outside.specs.Outside.{Folder, Changes, Rose, file_at}
 use Rattle.tool_outside.specs.declared.files.FileFail.{FileFail}
 use Rattle.tool_outside.specs.declared.files.FileFail.TheVariants as fail
 use Rattle.tool_outside.proofs.Prefixes.{changes_as}
+use Rattle.std.proofs.lemmas.Bool.{true≢false}
 use Rattle.std.proofs.lemmas.List.{take_all}
 use Rattle.refutation_checker.specs.declared.answers.Recheck.{Recheck}
 use Rattle.refutation_checker.specs.declared.section.Section.{Section}
@@ -16,15 +17,20 @@ use Rattle.plain_jobs.specs.declared.plain.Plain.{Plain}
 use Rattle.tla_meaning.specs.declared.job.Job.{Job}
 use Rattle.trace_text.specs.declared.verdict.Verdict.{Verdict}
 use Rattle.symbolic_mc.specs.declared.answer.Answer.{Answer}
-use Rattle.symbolic_mc.specs.declared.answer.Answer.TheVariants.{Missing, Refused, NotBuilt, WriteFault, Checked, NoCertificate, Rechecked}
-use Rattle.plain_texts.specs.Naming.{IsModuleOf}
+use Rattle.symbolic_mc.specs.declared.answer.Answer.TheVariants.{Unjoined, Unmade, NotBuilt, WriteFault, Checked, NoCertificate, Rechecked}
+use Rattle.plain_modules.specs.Jobs.{IsOnlyPlainJob, IsSource, IsUnjoined, is_want}
+use Rattle.plain_modules.specs.declared.reading.Source.TheVariants as source
 use Rattle.symbolic_mc.specs.Naming.{certificate_name}
-use Rattle.symbolic_mc.specs.Top.{Checks, IsAnswer, ReadFailed, IsTooLong, NoModule, NotSpelled, NotPlain, WriteFailed, Found, NoFile, Reread, Names, Saves, SavesPart, Touches, certificate_limit, module_limit}
-use Rattle.plain_texts.specs.Sources.{IsNotPlain, IsOnlyPlainText, IsRefused}
-use Rattle.plain_texts.specs.declared.refusal.Refusal.{Refusal}
+use Rattle.symbolic_mc.specs.Top.{Checks, IsAnswer, ReadFailed, IsTooLong, NotJoined, NotMade, NotPlain, WriteFailed, Found, NoFile, Reread, Saves, SavesPart, Touches, certificate_limit}
+use Rattle.op_inliner.specs.declared.parts.InlineFault.{InlineFault}
+use Rattle.tla_modules.specs.Refusals.{IsCounted}
+use Rattle.tla_modules.specs.declared.fault.ModuleFault.{ModuleFault}
+use Rattle.tla_modules.specs.declared.fault.ModuleFault.TheVariants as modules
+use Rattle.tla_modules.specs.declared.fault.ModuleRefusal.{ModuleRefusal}
+use Rattle.symbolic_mc.specs.Report.{unjoined_status}
 use Rattle.symbolic_mc.specs.Verdicts.{IsChecked}
 use Rattle.symbolic_mc.specs.Words.{Command}
-use Rattle.symbolic_mc.specs.inner.Told.{IsJobRead, IsReadFault, requests}
+use Rattle.symbolic_mc.specs.inner.Told.{IsCalm, IsJobRead, IsReadFault, requests}
 
 -- ---- the bytes that were handed out
 
@@ -43,13 +49,13 @@ not_held held file read none h = holds_read held file read None none h
 
 -- ---- a read that failed
 
-pub failed_read : (c : Command) (file : List ℕ) (limit : ℕ) (old new : Option Folder) (before now : ℕ) (f : FileFail) (answer : Answer) → Names c file limit
-    → (f ≡ fail.Failed → Rose before now) → (f ≡ fail.TooLong → IsLong old file limit) → new ≡ old → IsReadFault file f answer → IsAnswer c old new before now answer
-failed_read c file limit old new before now fail.Failed answer names rose long same is =
-    subst (IsAnswer c old new before now) (sym is) (ReadFailed file limit names (rose refl) same)
-failed_read c file limit old new before now fail.TooLong answer names rose long same is =
-    subst (IsAnswer c old new before now) (sym is) (IsTooLong file limit names (long refl) same)
-failed_read c file limit old new before now (fail.Memory e) answer names rose long same is = absurd is
+pub failed_read : (c : Command) (cert : List ℕ) (old new : Option Folder) (before now : ℕ) (f : FileFail) (answer : Answer) → c.1 ≡ Some cert
+    → (f ≡ fail.Failed → Rose before now) → (f ≡ fail.TooLong → IsLong old cert certificate_limit) → new ≡ old → IsReadFault cert f answer → IsAnswer c old new before now answer
+failed_read c cert old new before now fail.Failed answer asked rose long same is =
+    subst (IsAnswer c old new before now) (sym is) (ReadFailed cert asked (rose refl) same)
+failed_read c cert old new before now fail.TooLong answer asked rose long same is =
+    subst (IsAnswer c old new before now) (sym is) (IsTooLong cert asked (long refl) same)
+failed_read c cert old new before now (fail.Memory e) answer asked rose long same is = absurd is
 
 -- ---- a certificate
 
@@ -62,27 +68,37 @@ reread cert bytes seen old new before now answer handed same is refutes stay =
 pub no_certificate : (cert : List ℕ) (old new : Option Folder) (before now : ℕ) → Holds old cert None → new ≡ old → IsAnswer (None, Some cert) old new before now NoCertificate
 no_certificate cert old new before now none stay = NoFile cert refl none stay
 
--- ---- a module
+-- ---- modules
 
-pub no_module : (file name seen : List ℕ) (longest : ℕ) (budget : Option ℕ) (again : Option (List ℕ)) (old new : Option Folder) (before now : ℕ)
-    → Holds old file None → IsModuleOf file seen → name ≡ seen → new ≡ old → IsAnswer (requests file longest budget again) old new before now (Missing name)
-no_module file name seen longest budget again old new before now none is same stay =
-    NoModule file name longest budget refl none (subst (IsModuleOf file) (sym same) is) stay
+module _ (file : List ℕ) (longest : ℕ) (budget : Option ℕ) (again : Option (List ℕ)) (old new : Option Folder) (before now : ℕ) (stay : new ≡ old) where
+  pub not_joined : (refusal : ModuleRefusal) → IsSource old before now file (source.Unjoined refusal)
+      → IsAnswer (requests file longest budget again) old new before now (Unjoined refusal)
+  not_joined refusal unjoined = NotJoined file longest budget refusal refl unjoined stay
 
-pub not_plain : (file bytes : List ℕ) (longest : ℕ) (budget : Option ℕ) (again : Option (List ℕ)) (old new : Option Folder) (before now : ℕ)
-    → HandedOut old file module_limit bytes → IsNotPlain file bytes → new ≡ old → IsAnswer (requests file longest budget again) old new before now NotBuilt
-not_plain file bytes longest budget again old new before now handed not stay = NotPlain file bytes longest budget refl handed not stay
+  pub not_made : (files : List (List ℕ)) (fault : InlineFault) → IsSource old before now file (source.Unmade files fault)
+      → IsAnswer (requests file longest budget again) old new before now (Unmade files fault)
+  not_made files fault unmade = NotMade file longest budget files fault refl unmade.0 stay
 
-pub not_spelled : (file bytes : List ℕ) (longest : ℕ) (budget : Option ℕ) (again : Option (List ℕ)) (old new : Option Folder) (before now : ℕ) (refusal : Refusal) (holders : List (List ℕ))
-    → HandedOut old file module_limit bytes → IsRefused bytes refusal → holders ≡ file ∷ [] → new ≡ old
-    → IsAnswer (requests file longest budget again) old new before now (Refused holders refusal)
-not_spelled file bytes longest budget again old new before now refusal holders handed refused same stay =
-    subst (λ (x : List (List ℕ)). IsAnswer (requests file longest budget again) old new before now (Refused x refusal)) (sym same)
-    (NotSpelled file bytes longest budget refusal refl handed refused stay)
+  pub not_plain : IsSource old before now file source.NotBuilt → IsAnswer (requests file longest budget again) old new before now NotBuilt
+  not_plain not = NotPlain file longest budget refl not.0 stay
 
-pub job_read : (held : Option Folder) (file bytes : List ℕ) (job : Job) (m : Plain) → HandedOut held file module_limit bytes → IsOnlyPlainText file job bytes
-    → IsPlain job m → IsJobRead held file job m
-job_read held file bytes job m handed form plain = record { bytes = bytes; handed = handed; form = form; plain = plain }
+counted_calm : (before now : ℕ) (files : List (List ℕ)) (fault : ModuleFault) → IsCounted before now fault → is_want fault ≡ false
+    → IsCalm before now (Unjoined (record { files = files; fault = fault }))
+counted_calm before now files (modules.Read file) counted want = inr (inl refl)
+counted_calm before now files (modules.TooLong file) counted want = inr (inl refl)
+counted_calm before now files (modules.Memory e) counted want = absurd (true≢false want)
+counted_calm before now files fault counted want = inl counted
+
+-- the count of the files' faults rises with a failed read alone
+pub unjoined_calm : (held : Option Folder) (before now : ℕ) (file : List ℕ) (refusal : ModuleRefusal) → IsUnjoined held before now file refusal
+    → IsCalm before now (Unjoined refusal)
+unjoined_calm held before now file refusal unjoined = counted_calm before now refusal.files refusal.fault unjoined.counted unjoined.no_want
+
+-- the job was read where no fault was counted and no file changed
+pub job_read : (old held : Option Folder) (file : List ℕ) (job : Job) (m : Plain) → held ≡ old → IsOnlyPlainJob old file job → IsPlain job m
+    → IsJobRead held file job m
+job_read old held file job m stay form plain =
+    record { form = subst (λ (h : Option Folder). IsOnlyPlainJob h file job) (sym stay) form; plain = plain }
 
 -- ---- a module that was checked
 
@@ -93,8 +109,6 @@ module _ (m : Plain) (file : List ℕ) (job : Job) (longest : ℕ) (budget : Opt
     longest = longest;
     budget = budget;
     asked = refl;
-    bytes = read.bytes;
-    handed = read.handed;
     job = job;
     form = read.form;
     checked = checked job read.plain;

@@ -1,22 +1,26 @@
 -- What the status says of the answer and of what was written.
-use Rattle.std.proofs.Common.{◌≡◌, ℕ, ◌<◌, ◌≤◌, inl, inr, ◌⊎◌, List, length, Option, None, Some, Result, Ok, Err, refl, sym, ◌∙◌, ap, subst, arith}
+use Rattle.std.proofs.Common.{◌≡◌, ℕ, ◌<◌, ◌≤◌, inl, inr, ◌⊎◌, false, List, length, Option, None, Some, Result, Ok, Err, refl, sym, ◌∙◌, ap, subst, arith}
 use Rattle.std.specs.Prelude.{OnOk, OnErr, unwrap_or}
 use Rattle.std.specs.Io.KnownBytes.{Appends}
 use Rattle.refutation_checker.specs.declared.answers.Recheck.TheVariants.{Accepted, BadLine, BadStep}
-use Rattle.tool_outside.specs.Causes.{HandedOut, Holds, IsLong, WritesPrefix, Stayed}
+use Rattle.tool_outside.specs.Causes.{IsLong, WritesPrefix, Stayed}
 use Rattle.tool_outside.specs.Outside.{Folder, Rose, file_at}
 use Rattle.tool_outside.proofs.Prefixes.{all_of}
 use Rattle.tla_meaning.specs.declared.job.Job.{Job}
-use Rattle.plain_texts.specs.Sources.{IsPlainText}
+use Rattle.plain_modules.specs.Jobs.{IsPlainJob, is_want}
+use Rattle.tla_modules.specs.Answers as joined
+use Rattle.tla_modules.specs.Refusals.{IsCounted, IsOutside}
+use Rattle.tla_modules.specs.declared.fault.ModuleFault.{ModuleFault}
+use Rattle.tla_modules.specs.declared.fault.ModuleFault.TheVariants as modules
 use Rattle.trace_text.specs.declared.verdict.Verdict.{Verdict}
 use Rattle.trace_text.specs.declared.verdict.Verdict.TheVariants.{Clean, Inductive, Error, Overflow, Spent, NotInductive}
 use Rattle.trace_text.specs.declared.verdict.Where.TheVariants.{Level, Typed}
 use Rattle.symbolic_mc.specs.declared.answer.Answer.{Answer}
-use Rattle.symbolic_mc.specs.Report.{status_of, verdict_status, report_of, memory_line}
-use Rattle.symbolic_mc.specs.Top.{IsAnswer, NoCommand, ReadFailed, IsTooLong, NoModule, NotSpelled, NotPlain, WriteFailed, Found, NoFile, Reread, AsksForPlainText, AsksToRecheck, IsStatus, IsVerdictStatus, IsCutStatus, Tells, TellsPart, WritesError, WritesClean, WritesSpent, WritesAccepted, module_limit}
+use Rattle.symbolic_mc.specs.Report.{status_of, unjoined_status, verdict_status, report_of, memory_line}
+use Rattle.symbolic_mc.specs.Top.{IsAnswer, NoCommand, NotJoined, NotMade, NotPlain, WriteFailed, Found, ReadFailed, IsTooLong, NoFile, Reread, AsksForPlainJob, AsksToRecheck, IsStatus, IsVerdictStatus, IsCutStatus, Tells, TellsPart, WritesError, WritesClean, WritesSpent, WritesAccepted, certificate_limit}
 use Rattle.symbolic_mc.specs.Verdicts.{IsVerdict}
 use Rattle.symbolic_mc.specs.Words.{Command, Request}
-use Rattle.plain_texts.proofs.Sources.{refused_not}
+use Rattle.std.proofs.lemmas.Bool.{true≢false}
 use Rattle.symbolic_mc.specs.inner.Told.{IsCalm, IsTold}
 
 -- a report, whole or in part
@@ -35,15 +39,30 @@ found_status job longest budget Inductive is = absurd is
 found_status job longest budget (Overflow w part place trace) is = absurd is
 found_status job longest budget (NotInductive fault trace) is = absurd is
 
+unjoined_either : (fault : ModuleFault) → (unjoined_status fault ≡ 30) ⊎ (unjoined_status fault ≡ 40)
+unjoined_either (modules.Read file) = inr refl
+unjoined_either (modules.TooLong file) = inr refl
+unjoined_either fault = inl refl
+
+unjoined_answer : (status : ℕ) → (status ≡ 30) ⊎ (status ≡ 40) → IsStatus status × (status ≤ 41)
+unjoined_answer status (inl refused) = (inr (inr (inl refused)), omega arith)
+unjoined_answer status (inr unread) = (inr (inr (inr (inr (inl unread)))), omega arith)
+
+unjoined_not : (fault : ModuleFault) (status : ℕ) → unjoined_status fault ≡ status → (status ≡ 30 → ⊥) → (status ≡ 40 → ⊥) → ⊥
+unjoined_not fault status is not_refused not_unread = elim (unjoined_either fault) [
+  | inl refused ↦ not_refused (sym is ∙ refused)
+  | inr unread ↦ not_unread (sym is ∙ unread)
+]
+
 -- of an answer with its cause
 pub answer_status : (c : Command) (old new : Option Folder) (before now : ℕ) (answer : Answer) → IsAnswer c old new before now answer
     → IsStatus (status_of answer) × (status_of answer ≤ 41)
 answer_status c old new before now _ (NoCommand none again stay) = (inr (inr (inr (inl refl))), omega arith)
-answer_status c old new before now _ (ReadFailed file limit names rose stay) = (inr (inr (inr (inr (inl refl)))), omega arith)
-answer_status c old new before now _ (IsTooLong file limit names long stay) = (inr (inr (inr (inr (inl refl)))), omega arith)
-answer_status c old new before now _ (NoModule file name longest budget asked none is stay) = (inr (inr (inl refl)), omega arith)
-answer_status c old new before now _ (NotSpelled file bytes longest budget refusal asked handed refused stay) = (inr (inr (inl refl)), omega arith)
-answer_status c old new before now _ (NotPlain file bytes longest budget asked handed not stay) = (inr (inr (inl refl)), omega arith)
+answer_status c old new before now _ (ReadFailed cert asked rose stay) = (inr (inr (inr (inr (inl refl)))), omega arith)
+answer_status c old new before now _ (IsTooLong cert asked long stay) = (inr (inr (inr (inr (inl refl)))), omega arith)
+answer_status c old new before now _ (NotJoined file longest budget refusal asked unjoined stay) = unjoined_answer (unjoined_status refusal.fault) (unjoined_either refusal.fault)
+answer_status c old new before now _ (NotMade file longest budget files fault asked unmade stay) = (inr (inr (inl refl)), omega arith)
+answer_status c old new before now _ (NotPlain file longest budget asked not stay) = (inr (inr (inl refl)), omega arith)
 answer_status c old new before now _ (WriteFailed verdict sections k rose saved) = (inr (inr (inr (inr (inr (inl refl))))), omega arith)
 answer_status c old new before now _ (Found verdict sections k saved) =
     let of = found_status k.job k.longest k.budget verdict k.checked.verdict_is in
@@ -68,12 +87,6 @@ same_file c file other n m b d asked again = ap (λ (r : Request). r.0) (the_sam
 
 -- ---- what the files are told to hold
 
-held_there : (held : Option Folder) (folder : Folder) (file other : List ℕ) (there bytes : Option (List ℕ)) → held ≡ Some folder → other ≡ file
-    → file_at folder file ≡ bytes → Holds held other there → there ≡ bytes
-held_there held folder file other there bytes told same at holds =
-    let known : file_at folder other ≡ there = subst (λ (h : Option Folder). Holds h other there) told holds in
-    sym known ∙ ap (file_at folder) same ∙ at
-
 too_long_not : (held : Option Folder) (folder : Folder) (file : List ℕ) (limit : ℕ) → held ≡ Some folder → ((bytes : List ℕ) → file_at folder file ≡ Some bytes → length bytes ≤ limit)
     → IsLong held file limit → ⊥
 too_long_not held folder file limit told short long =
@@ -82,32 +95,35 @@ too_long_not held folder file limit told short long =
     let longer = known.2 in
     omega arith
 
--- ---- an answer to a text that says a job, and of a certificate
+-- ---- an answer to modules that make a job, and of a certificate
 
--- the bytes that were handed out are those that say the job
-text_read : (c : Command) (old : Option Folder) (file bytes : List ℕ) (longest : ℕ) (budget : Option ℕ) → c.0 ≡ Some (file, longest, budget)
-    → HandedOut old file module_limit bytes → (form : AsksForPlainText c old) → IsPlainText file form.job bytes
-text_read c old file bytes longest budget asked handed form =
-    let same : file ≡ form.file = same_file c _ _ _ _ _ _ asked form.asked in
-    let read : bytes ≡ form.bytes = the_same _ _ (held_there old form.folder form.file file (Some bytes) _ form.told same form.there handed.told) in
-    subst (λ (x : List ℕ). IsPlainText x form.job bytes) (sym same) (subst (λ (x : List ℕ). IsPlainText form.file form.job x) (sym read) form.form)
+-- such modules are refused for a failed read alone
+outside_not : (before now : ℕ) (fault : ModuleFault) → IsCounted before now fault → is_want fault ≡ false → IsOutside fault → Stayed before now → ⊥
+outside_not before now (modules.Read file) counted want out stayed = let rose = counted.0 in omega arith
+outside_not before now (modules.Memory e) counted want out stayed = true≢false want
+outside_not before now fault counted want out stayed = out
 
-form_answer : (c : Command) (old new : Option Folder) (before now : ℕ) (answer : Answer) → AreApart c → AsksForPlainText c old → Stayed before now
+-- the job that the modules of the file make, where the command names it
+job_made : (c : Command) (old : Option Folder) (file : List ℕ) (longest : ℕ) (budget : Option ℕ) → c.0 ≡ Some (file, longest, budget)
+    → (form : AsksForPlainJob c old) → IsPlainJob old file form.job
+job_made c old file longest budget asked form =
+    subst (λ (x : List ℕ). IsPlainJob old x form.job) (sym (same_file c _ _ _ _ _ _ asked form.asked)) form.form
+
+is_told : (c : Command) (old : Option Folder) (form : AsksForPlainJob c old) → joined.IsTold old
+is_told c old form = (form.folder, form.told)
+
+form_answer : (c : Command) (old new : Option Folder) (before now : ℕ) (answer : Answer) → AreApart c → AsksForPlainJob c old → Stayed before now
     → IsAnswer c old new before now answer → IsVerdictStatus (status_of answer)
 form_answer c old new before now _ apart form stayed (NoCommand none again stay) = absurd (none_some (sym none ∙ form.asked))
-form_answer c old new before now _ apart form stayed (ReadFailed file limit names rose stay) = absurd (omega arith)
-form_answer c old new before now _ apart form stayed (IsTooLong file limit (inl names) long stay) =
-    let same : file ≡ form.file = same_file c _ _ _ _ _ _ names.2 form.asked in
-    absurd (too_long_not old form.folder file limit form.told (λ bytes at.
-    let here : bytes ≡ form.bytes = the_same _ _ (sym at ∙ ap (file_at form.folder) same ∙ form.there) in
-    subst (λ (n : ℕ). length bytes ≤ n) (sym names.3) (subst (λ (x : List ℕ). length x ≤ module_limit) (sym here) form.short)) long)
-form_answer c old new before now _ apart form stayed (IsTooLong file limit (inr names) long stay) = absurd (apart _ _ form.asked names.0)
-form_answer c old new before now _ apart form stayed (NoModule file name longest budget asked none is stay) =
-    absurd (none_some (held_there old form.folder form.file file None _ form.told (same_file c _ _ _ _ _ _ asked form.asked) form.there none))
-form_answer c old new before now _ apart form stayed (NotSpelled file bytes longest budget refusal asked handed refused stay) =
-    absurd (refused_not bytes refusal _ refused (text_read c old file bytes longest budget asked handed form).spelled)
-form_answer c old new before now _ apart form stayed (NotPlain file bytes longest budget asked handed not stay) =
-    absurd (not.none form.job (text_read c old file bytes longest budget asked handed form))
+form_answer c old new before now _ apart form stayed (NotJoined file longest budget refusal asked unjoined stay) =
+    absurd (outside_not before now refusal.fault unjoined.counted unjoined.no_want
+    (unjoined.apart (is_told c old form) form.job (job_made c old file longest budget asked form)) stayed)
+form_answer c old new before now _ apart form stayed (NotMade file longest budget files fault asked unmade stay) =
+    absurd (unmade.none (is_told c old form) form.job (job_made c old file longest budget asked form))
+form_answer c old new before now _ apart form stayed (NotPlain file longest budget asked not stay) =
+    absurd (not.none (is_told c old form) form.job (job_made c old file longest budget asked form))
+form_answer c old new before now _ apart form stayed (ReadFailed cert asked rose stay) = absurd (apart _ _ form.asked asked)
+form_answer c old new before now _ apart form stayed (IsTooLong cert asked long stay) = absurd (apart _ _ form.asked asked)
 form_answer c old new before now _ apart form stayed (WriteFailed verdict sections k rose saved) = absurd (omega arith)
 form_answer c old new before now _ apart form stayed (Found verdict sections k saved) = (found_status k.job k.longest k.budget verdict k.checked.verdict_is).0
 form_answer c old new before now _ apart form stayed (NoFile cert asked none stay) = absurd (apart _ _ form.asked asked)
@@ -116,15 +132,14 @@ form_answer c old new before now _ apart form stayed (Reread cert bytes answer a
 cert_answer : (c : Command) (old new : Option Folder) (before now : ℕ) (answer : Answer) → AreApart c → AsksToRecheck c old → Stayed before now
     → IsAnswer c old new before now answer → (status_of answer ≡ 0) ⊎ (status_of answer ≡ 14)
 cert_answer c old new before now _ apart form stayed (NoCommand none again stay) = absurd (none_some (sym again ∙ form.asked))
-cert_answer c old new before now _ apart form stayed (ReadFailed file limit names rose stay) = absurd (omega arith)
-cert_answer c old new before now _ apart form stayed (IsTooLong file limit (inl names) long stay) = absurd (apart _ _ names.2 form.asked)
-cert_answer c old new before now _ apart form stayed (IsTooLong file limit (inr names) long stay) =
-    let same : file ≡ form.cert = the_same _ _ (sym names.0 ∙ form.asked) in
-    absurd (too_long_not old form.folder file limit form.told (λ bytes at.
-    subst (λ (n : ℕ). length bytes ≤ n) (sym names.1) (form.short bytes (ap (file_at form.folder) (sym same) ∙ at))) long)
-cert_answer c old new before now _ apart form stayed (NoModule file name longest budget asked none is stay) = absurd (apart _ _ asked form.asked)
-cert_answer c old new before now _ apart form stayed (NotSpelled file bytes longest budget refusal asked handed refused stay) = absurd (apart _ _ asked form.asked)
-cert_answer c old new before now _ apart form stayed (NotPlain file bytes longest budget asked handed not stay) = absurd (apart _ _ asked form.asked)
+cert_answer c old new before now _ apart form stayed (NotJoined file longest budget refusal asked unjoined stay) = absurd (apart _ _ asked form.asked)
+cert_answer c old new before now _ apart form stayed (NotMade file longest budget files fault asked unmade stay) = absurd (apart _ _ asked form.asked)
+cert_answer c old new before now _ apart form stayed (NotPlain file longest budget asked not stay) = absurd (apart _ _ asked form.asked)
+cert_answer c old new before now _ apart form stayed (ReadFailed cert asked rose stay) = absurd (omega arith)
+cert_answer c old new before now _ apart form stayed (IsTooLong cert asked long stay) =
+    let same : cert ≡ form.cert = the_same _ _ (sym asked ∙ form.asked) in
+    absurd (too_long_not old form.folder cert certificate_limit form.told (λ bytes at.
+    form.short bytes (ap (file_at form.folder) (sym same) ∙ at)) long)
 cert_answer c old new before now _ apart form stayed (WriteFailed verdict sections k rose saved) = absurd (apart _ _ k.asked form.asked)
 cert_answer c old new before now _ apart form stayed (Found verdict sections k saved) = absurd (apart _ _ k.asked form.asked)
 cert_answer c old new before now _ apart form stayed (NoFile cert asked none stay) = inr refl
@@ -134,13 +149,11 @@ cert_answer c old new before now _ apart form stayed (Reread cert bytes (BadStep
 
 usage_answer : (c : Command) (old new : Option Folder) (before now : ℕ) (answer : Answer) → c.0 ≡ None → c.1 ≡ None → IsAnswer c old new before now answer → status_of answer ≡ 31
 usage_answer c old new before now _ none again (NoCommand check recheck stay) = refl
-usage_answer c old new before now _ none again (ReadFailed file limit (inl names) rose stay) = absurd (none_some (sym none ∙ names.2))
-usage_answer c old new before now _ none again (ReadFailed file limit (inr names) rose stay) = absurd (none_some (sym again ∙ names.0))
-usage_answer c old new before now _ none again (IsTooLong file limit (inl names) long stay) = absurd (none_some (sym none ∙ names.2))
-usage_answer c old new before now _ none again (IsTooLong file limit (inr names) long stay) = absurd (none_some (sym again ∙ names.0))
-usage_answer c old new before now _ none again (NoModule file name longest budget asked other is stay) = absurd (none_some (sym none ∙ asked))
-usage_answer c old new before now _ none again (NotSpelled file bytes longest budget refusal asked handed refused stay) = absurd (none_some (sym none ∙ asked))
-usage_answer c old new before now _ none again (NotPlain file bytes longest budget asked handed not stay) = absurd (none_some (sym none ∙ asked))
+usage_answer c old new before now _ none again (NotJoined file longest budget refusal asked unjoined stay) = absurd (none_some (sym none ∙ asked))
+usage_answer c old new before now _ none again (NotMade file longest budget files fault asked unmade stay) = absurd (none_some (sym none ∙ asked))
+usage_answer c old new before now _ none again (NotPlain file longest budget asked not stay) = absurd (none_some (sym none ∙ asked))
+usage_answer c old new before now _ none again (ReadFailed cert asked rose stay) = absurd (none_some (sym again ∙ asked))
+usage_answer c old new before now _ none again (IsTooLong cert asked long stay) = absurd (none_some (sym again ∙ asked))
 usage_answer c old new before now _ none again (WriteFailed verdict sections k rose saved) = absurd (none_some (sym none ∙ k.asked))
 usage_answer c old new before now _ none again (Found verdict sections k saved) = absurd (none_some (sym none ∙ k.asked))
 usage_answer c old new before now _ none again (NoFile cert asked other stay) = absurd (none_some (sym again ∙ asked))
@@ -151,11 +164,12 @@ usage_answer c old new before now _ none again (Reread cert bytes answer asked h
 error_answer : (c : Command) (old new : Option Folder) (before now : ℕ) (was is : Option (List ℕ)) (answer : Answer) → status_of answer ≡ 12
     → Appends was is (report_of answer) → IsAnswer c old new before now answer → WritesError c old new was is
 error_answer c old new before now was is _ coded added (NoCommand none again stay) = absurd (omega arith)
-error_answer c old new before now was is _ coded added (ReadFailed file limit names rose stay) = absurd (omega arith)
-error_answer c old new before now was is _ coded added (IsTooLong file limit names long stay) = absurd (omega arith)
-error_answer c old new before now was is _ coded added (NoModule file name longest budget asked none named stay) = absurd (omega arith)
-error_answer c old new before now was is _ coded added (NotSpelled file bytes longest budget refusal asked handed refused stay) = absurd (omega arith)
-error_answer c old new before now was is _ coded added (NotPlain file bytes longest budget asked handed not stay) = absurd (omega arith)
+error_answer c old new before now was is _ coded added (ReadFailed cert asked rose stay) = absurd (omega arith)
+error_answer c old new before now was is _ coded added (IsTooLong cert asked long stay) = absurd (omega arith)
+error_answer c old new before now was is _ coded added (NotJoined file longest budget refusal asked unjoined stay) =
+    absurd (unjoined_not refusal.fault 12 coded (λ e. omega (e, arith)) (λ e. omega (e, arith)))
+error_answer c old new before now was is _ coded added (NotMade file longest budget files fault asked unmade stay) = absurd (omega arith)
+error_answer c old new before now was is _ coded added (NotPlain file longest budget asked not stay) = absurd (omega arith)
 error_answer c old new before now was is _ coded added (WriteFailed verdict sections k rose saved) = absurd (omega arith)
 error_answer c old new before now was is _ coded added (Found (Error n fault trace) sections k saved) =
     record { level = n; fault = fault; trace = trace; sections = sections; checks = k; saved = saved; written = added }
@@ -172,11 +186,12 @@ error_answer c old new before now was is _ coded added (Reread cert bytes (BadSt
 clean_answer : (c : Command) (old new : Option Folder) (before now : ℕ) (was is : Option (List ℕ)) (answer : Answer) → status_of answer ≡ 0
     → Appends was is (report_of answer) → IsAnswer c old new before now answer → WritesClean c old new was is ⊎ WritesAccepted c old new was is
 clean_answer c old new before now was is _ coded added (NoCommand none again stay) = absurd (omega arith)
-clean_answer c old new before now was is _ coded added (ReadFailed file limit names rose stay) = absurd (omega arith)
-clean_answer c old new before now was is _ coded added (IsTooLong file limit names long stay) = absurd (omega arith)
-clean_answer c old new before now was is _ coded added (NoModule file name longest budget asked none named stay) = absurd (omega arith)
-clean_answer c old new before now was is _ coded added (NotSpelled file bytes longest budget refusal asked handed refused stay) = absurd (omega arith)
-clean_answer c old new before now was is _ coded added (NotPlain file bytes longest budget asked handed not stay) = absurd (omega arith)
+clean_answer c old new before now was is _ coded added (ReadFailed cert asked rose stay) = absurd (omega arith)
+clean_answer c old new before now was is _ coded added (IsTooLong cert asked long stay) = absurd (omega arith)
+clean_answer c old new before now was is _ coded added (NotJoined file longest budget refusal asked unjoined stay) =
+    absurd (unjoined_not refusal.fault 0 coded (λ e. omega (e, arith)) (λ e. omega (e, arith)))
+clean_answer c old new before now was is _ coded added (NotMade file longest budget files fault asked unmade stay) = absurd (omega arith)
+clean_answer c old new before now was is _ coded added (NotPlain file longest budget asked not stay) = absurd (omega arith)
 clean_answer c old new before now was is _ coded added (WriteFailed verdict sections k rose saved) = absurd (omega arith)
 clean_answer c old new before now was is _ coded added (Found (Clean n) sections k saved) =
     inl record { level = n; sections = sections; checks = k; saved = saved; written = added }
@@ -194,11 +209,12 @@ clean_answer c old new before now was is _ coded added (Reread cert bytes (BadSt
 spent_answer : (c : Command) (old new : Option Folder) (before now : ℕ) (was is : Option (List ℕ)) (answer : Answer) → status_of answer ≡ 21
     → Appends was is (report_of answer) → IsAnswer c old new before now answer → WritesSpent c old new was is
 spent_answer c old new before now was is _ coded added (NoCommand none again stay) = absurd (omega arith)
-spent_answer c old new before now was is _ coded added (ReadFailed file limit names rose stay) = absurd (omega arith)
-spent_answer c old new before now was is _ coded added (IsTooLong file limit names long stay) = absurd (omega arith)
-spent_answer c old new before now was is _ coded added (NoModule file name longest budget asked none named stay) = absurd (omega arith)
-spent_answer c old new before now was is _ coded added (NotSpelled file bytes longest budget refusal asked handed refused stay) = absurd (omega arith)
-spent_answer c old new before now was is _ coded added (NotPlain file bytes longest budget asked handed not stay) = absurd (omega arith)
+spent_answer c old new before now was is _ coded added (ReadFailed cert asked rose stay) = absurd (omega arith)
+spent_answer c old new before now was is _ coded added (IsTooLong cert asked long stay) = absurd (omega arith)
+spent_answer c old new before now was is _ coded added (NotJoined file longest budget refusal asked unjoined stay) =
+    absurd (unjoined_not refusal.fault 21 coded (λ e. omega (e, arith)) (λ e. omega (e, arith)))
+spent_answer c old new before now was is _ coded added (NotMade file longest budget files fault asked unmade stay) = absurd (omega arith)
+spent_answer c old new before now was is _ coded added (NotPlain file longest budget asked not stay) = absurd (omega arith)
 spent_answer c old new before now was is _ coded added (WriteFailed verdict sections k rose saved) = absurd (omega arith)
 spent_answer c old new before now was is _ coded added (Found (Spent n (Level l)) sections k saved) =
     record { conflicts = n; level = l; sections = sections; checks = k; saved = saved; written = added }
@@ -264,7 +280,7 @@ module _ (c : Command) (old new : Option Folder) (before now : ℕ) (was is : Op
   told_usage (inr (inl cut)) none again = inr (inl cut.0)
   told_usage (inr (inr spent)) none again = inr (inr spent.0)
 
-  pub told_form : AreApart c → IsTold answer was is sink_before sink_now result → AsksForPlainText c old → Stayed before now → Stayed sink_before sink_now
+  pub told_form : AreApart c → IsTold answer was is sink_before sink_now result → AsksForPlainJob c old → Stayed before now → Stayed sink_before sink_now
       → IsVerdictStatus result ⊎ (result ≡ 50)
   told_form apart (inl all) form stayed calm = inl (subst IsVerdictStatus (sym all.0) (form_answer c old new before now answer apart form stayed cause))
   told_form apart (inr (inl cut)) form stayed calm = absurd (let rose = cut.1 in omega arith)

@@ -16,36 +16,29 @@ use Rattle.trace_text.specs.declared.verdict.Verdict.{Verdict}
 use Rattle.trace_text.specs.declared.verdict.Verdict.TheVariants.{Clean, Error, Spent}
 use Rattle.trace_text.specs.declared.verdict.Where.TheVariants.{Level}
 use Rattle.symbolic_mc.specs.declared.answer.Answer.{Answer}
-use Rattle.symbolic_mc.specs.declared.answer.Answer.TheVariants.{Usage, ReadFault, TooLong, Missing, Refused, NotBuilt, WriteFault, Checked, NoCertificate, Rechecked}
-use Rattle.plain_texts.specs.declared.refusal.Refusal.{Refusal}
-use Rattle.plain_texts.specs.Naming.{IsModuleOf}
+use Rattle.symbolic_mc.specs.declared.answer.Answer.TheVariants.{Usage, ReadFault, TooLong, Unjoined, Unmade, NotBuilt, WriteFault, Checked, NoCertificate, Rechecked}
+use Rattle.op_inliner.specs.declared.parts.InlineFault.{InlineFault}
+use Rattle.tla_modules.specs.declared.fault.ModuleRefusal.{ModuleRefusal}
+use Rattle.plain_modules.specs.Jobs.{IsNotPlain, IsOnlyPlainJob, IsPlainJob, IsUnjoined, IsUnmade}
 use Rattle.symbolic_mc.specs.Naming.{certificate_name}
 use Rattle.symbolic_mc.specs.Report.{recheck_report, report_of, status_of}
-use Rattle.plain_texts.specs.Sources.{IsNotPlain, IsOnlyPlainText, IsPlainText, IsRefused}
 use Rattle.symbolic_mc.specs.Verdicts.{IsChecked}
 use Rattle.symbolic_mc.specs.Words.{Command}
 
--- the most bytes that a module may have: 4 MiB
-abbrev pub module_limit : ℕ
-module_limit = 4194304
-
--- and a certificate: 256 MiB
+-- the most bytes that a certificate may have: 256 MiB
 abbrev pub certificate_limit : ℕ
 certificate_limit = 268435456
 
 -- ---- a module that was checked
 
--- the command names a file whose bytes, as they were handed out, say a job, and these are the verdict on it and its
--- certificate
+-- the command names a file whose modules make a job, and these are the verdict on it and its certificate
 pub record Checks (c : Command) (held : Option Folder) (verdict : Verdict) (sections : List Section) : Type 0 where
   pub file : List ℕ
   pub longest : ℕ
   pub budget : Option ℕ
   pub asked : c.0 ≡ Some (file, longest, budget)
-  pub bytes : List ℕ
-  pub handed : HandedOut held file module_limit bytes
   pub job : Job
-  pub form : IsOnlyPlainText file job bytes
+  pub form : IsOnlyPlainJob held file job
   pub checked : IsChecked job longest budget verdict sections
 
 -- the certificate's file holds its text, and every other file is as before
@@ -58,39 +51,30 @@ SavesPart file sections old new = Changes old new (certificate_name file) (IsCut
 
 -- ---- every answer
 
--- the command names a file, and how many bytes it may have
-abbrev pub Names : Command → List ℕ → ℕ → Type 0
-Names c file limit =
-    ((longest : ℕ) × (budget : Option ℕ) × (c.0 ≡ Some (file, longest, budget)) × (limit ≡ module_limit))
-    ⊎ ((c.1 ≡ Some file) × (limit ≡ certificate_limit))
-
 -- why an answer is given, by what the files held before and hold now, and by their counts of faults
 pub data IsAnswer (c : Command) (old new : Option Folder) (before now : ℕ) : Answer → Type 0 where
   -- there is no command
   NoCommand : c.0 ≡ None → c.1 ≡ None → new ≡ old → IsAnswer c old new before now Usage
-  -- the count rose in the read
-  ReadFailed : (file : List ℕ) (limit : ℕ) → Names c file limit → Rose before now → new ≡ old
-      → IsAnswer c old new before now (ReadFault file)
-  -- the file is longer than it may be
-  IsTooLong : (file : List ℕ) (limit : ℕ) → Names c file limit → IsLong old file limit → new ≡ old
-      → IsAnswer c old new before now (TooLong file)
-  -- the files hold no such module
-  NoModule : (file name : List ℕ) (longest : ℕ) (budget : Option ℕ) → c.0 ≡ Some (file, longest, budget)
-      → Holds old file None → IsModuleOf file name → new ≡ old → IsAnswer c old new before now (Missing name)
-  -- the bytes spell no module of at most 400 levels
-  NotSpelled : (file bytes : List ℕ) (longest : ℕ) (budget : Option ℕ) (refusal : Refusal) → c.0 ≡ Some (file, longest, budget)
-      → HandedOut old file module_limit bytes → IsRefused bytes refusal → new ≡ old
-      → IsAnswer c old new before now (Refused (file ∷ []) refusal)
-  -- they spell a module, which is in no form that is checked so far
-  NotPlain : (file bytes : List ℕ) (longest : ℕ) (budget : Option ℕ) → c.0 ≡ Some (file, longest, budget)
-      → HandedOut old file module_limit bytes → IsNotPlain file bytes → new ≡ old
-      → IsAnswer c old new before now NotBuilt
+  -- the modules of the file make no flat module
+  NotJoined : (file : List ℕ) (longest : ℕ) (budget : Option ℕ) (refusal : ModuleRefusal) → c.0 ≡ Some (file, longest, budget)
+      → IsUnjoined old before now file refusal → new ≡ old → IsAnswer c old new before now (Unjoined refusal)
+  -- their flat module makes no job
+  NotMade : (file : List ℕ) (longest : ℕ) (budget : Option ℕ) (files : List (List ℕ)) (fault : InlineFault) → c.0 ≡ Some (file, longest, budget)
+      → IsUnmade old file files fault → new ≡ old → IsAnswer c old new before now (Unmade files fault)
+  -- what it makes is in no form that is checked so far
+  NotPlain : (file : List ℕ) (longest : ℕ) (budget : Option ℕ) → c.0 ≡ Some (file, longest, budget)
+      → IsNotPlain old file → new ≡ old → IsAnswer c old new before now NotBuilt
   -- the count rose while the certificate was written
   WriteFailed : (verdict : Verdict) (sections : List Section) (k : Checks c old verdict sections) → Rose before now
       → SavesPart k.file sections old new → IsAnswer c old new before now (WriteFault (certificate_name k.file))
   -- the verdict on the module, whose certificate was written
   Found : (verdict : Verdict) (sections : List Section) (k : Checks c old verdict sections)
       → Saves k.file sections old new → IsAnswer c old new before now (Checked k.job.names k.job.files verdict)
+  -- the count rose in the read of the certificate
+  ReadFailed : (cert : List ℕ) → c.1 ≡ Some cert → Rose before now → new ≡ old → IsAnswer c old new before now (ReadFault cert)
+  -- the certificate is longer than it may be
+  IsTooLong : (cert : List ℕ) → c.1 ≡ Some cert → IsLong old cert certificate_limit → new ≡ old
+      → IsAnswer c old new before now (TooLong cert)
   -- the files hold no such certificate
   NoFile : (cert : List ℕ) → c.1 ≡ Some cert → Holds old cert None → new ≡ old
       → IsAnswer c old new before now NoCertificate
@@ -114,7 +98,7 @@ pub record TellsPart (c : Command) (old new : Option Folder) (before now : ℕ) 
 
 -- ---- the verdicts of a check
 
--- an error of the module that the command names: its report, by what the bytes of its file say, and its certificate
+-- an error of the module that the command names: its report, by the job that its modules make, and its certificate
 pub record WritesError (c : Command) (old new : Option Folder) (was is : Option (List ℕ)) : Type 0 where
   pub level : ℕ
   pub fault : Fault
@@ -163,20 +147,16 @@ Touches c old new =
 
 -- ---- when which status comes
 
--- the command names a file that the files are told to hold, of at most so many bytes as a module may have, in the form
--- that is checked so far
-pub record AsksForPlainText (c : Command) (held : Option Folder) : Type 0 where
+-- the command names a file whose modules, as the files are told, make a job in the form that is checked so far
+pub record AsksForPlainJob (c : Command) (held : Option Folder) : Type 0 where
   pub folder : Folder
   pub told : held ≡ Some folder
   pub file : List ℕ
   pub longest : ℕ
   pub budget : Option ℕ
   pub asked : c.0 ≡ Some (file, longest, budget)
-  pub bytes : List ℕ
-  pub there : file_at folder file ≡ Some bytes
-  pub short : length bytes ≤ module_limit
   pub job : Job
-  pub form : IsPlainText file job bytes
+  pub form : IsPlainJob held file job
 
 -- the command asks for a certificate which the files, as they are told, do not hold too long
 pub record AsksToRecheck (c : Command) (held : Option Folder) : Type 0 where

@@ -1,11 +1,13 @@
 // What the program answers: its status, and what it writes.
 ghost use Rattle.std.specs.Prelude.{◌≡◌, ◌++◌, codes, IfOk};
-ghost use Rattle.symbolic_mc.specs.Report.{status_of, report_of, verdict_status, recheck_status, recheck_report};
+ghost use Rattle.symbolic_mc.specs.Report.{status_of, report_of, unjoined_status, verdict_status, recheck_status, recheck_report};
 
-use plain_texts::Refusal;
+use op_inliner::InlineFault;
+use plain_modules::{inline_line, module_line};
 use refutation_checker::Recheck;
 use std::alloc::{AllocError, Global};
 use tla_meaning::Decl;
+use tla_modules::{ModuleFault, ModuleRefusal};
 use tla_values::{List, Text};
 use trace_text::{Verdict, report_text};
 
@@ -14,15 +16,15 @@ use trace_text::{Verdict, report_text};
 pub(crate) enum Answer {
     /// The words are no command.
     Usage,
-    /// The read of this file failed.
+    /// The read of this certificate failed.
     ReadFault(Text),
-    /// This file is longer than it may be.
+    /// This certificate is longer than it may be.
     TooLong(Text),
-    /// There is no file for the module of this name.
-    Missing(Text),
-    /// The text of the module in the files of these names is refused.
-    Refused(List<Text>, Refusal),
-    /// It spells a module that is in no form that is checked so far.
+    /// The modules of the file make no flat module.
+    Unjoined(ModuleRefusal),
+    /// Their flat module, in the files of these names, makes no job.
+    Unmade(List<Text>, InlineFault),
+    /// What it makes is in no form that is checked so far.
     NotBuilt,
     /// The certificate of this name could not be written.
     WriteFault(Text),
@@ -43,7 +45,8 @@ impl Answer {
             Answer::Usage => 31,
             Answer::ReadFault(_) | Answer::TooLong(_) => 40,
             Answer::WriteFault(_) => 41,
-            Answer::Missing(_) | Answer::Refused(_, _) | Answer::NotBuilt => 30,
+            Answer::Unjoined(refusal) => unjoined_status(&refusal.fault),
+            Answer::Unmade(_, _) | Answer::NotBuilt => 30,
             Answer::Checked(_, _, verdict) => verdict_status(verdict),
             Answer::NoCertificate => 14,
             Answer::Rechecked(answer) => recheck_status(answer),
@@ -62,13 +65,22 @@ impl Answer {
             Answer::ReadFault(file) => line(alloc, "read fault: ", file, "\n"),
             Answer::TooLong(file) => line(alloc, "file is too long: ", file, "\n"),
             Answer::WriteFault(file) => line(alloc, "write fault: ", file, "\n"),
-            Answer::Missing(name) => line(alloc, "refused: module ", name, " is missing\n"),
-            Answer::Refused(files, refusal) => refusal.line(alloc, files.as_slice()),
+            Answer::Unjoined(refusal) => module_line(alloc, refusal),
+            Answer::Unmade(files, fault) => inline_line(alloc, files.as_slice(), fault),
             Answer::NotBuilt => Vec::from_slice(alloc, b"refused: form is not built\n"),
             Answer::Checked(names, files, verdict) => report_text(alloc, verdict, names, files),
             Answer::NoCertificate => Vec::from_slice(alloc, b"certificate refused: no file\n"),
             Answer::Rechecked(answer) => recheck_report(alloc, answer),
         }
+    }
+}
+
+fn unjoined_status(fault: &ModuleFault) -> u8
+    ensures { result ≡ unjoined_status fault.now }
+{
+    match fault {
+        ModuleFault::Read(_) | ModuleFault::TooLong(_) => 40,
+        _ => 30,
     }
 }
 

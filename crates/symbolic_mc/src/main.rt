@@ -46,4 +46,6 @@ fn given_words(rt: &HostRuntime, alloc: Global) -> Result<Vec<String>, AllocErro
 }
 
 #[cfg(test)]
+mod rows;
+#[cfg(test)]
 mod tests;

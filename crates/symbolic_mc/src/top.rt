@@ -1,23 +1,23 @@
 // The top call: words, module or certificate, verdict, certificate file, report.
 ghost use Rattle.std.specs.Prelude.{◌≡◌, ◌⊎◌, ◌<◌, ℕ, List as Items, Option, None, Some, IfOk};
-ghost use Rattle.tool_outside.specs.Causes.{HandedOut, Stayed, WritesPrefix};
+ghost use Rattle.tool_outside.specs.Causes.{Stayed, WritesPrefix};
 ghost use Rattle.tool_outside.specs.Outside.{Rose};
 ghost use Rattle.tla_meaning.specs.declared.job.Job.{Job as Work};
 ghost use Rattle.plain_jobs.specs.Plain.{IsWhole};
 ghost use Rattle.symbolic_mc.specs.Report.{memory_line};
 ghost use Rattle.symbolic_mc.specs.inner.Told.{IsTold, IsJobRead, IsReadFault, IsCalm, answer_of, requests};
-ghost use Rattle.symbolic_mc.specs.Top.{module_limit, WritesError, WritesClean, WritesSpent, WritesAccepted, Tells, TellsPart, Touches, IsAnswer, AsksForPlainText, AsksToRecheck, IsStatus, IsVerdictStatus, IsCutStatus};
+ghost use Rattle.symbolic_mc.specs.Top.{WritesError, WritesClean, WritesSpent, WritesAccepted, Tells, TellsPart, Touches, IsAnswer, AsksForPlainJob, AsksToRecheck, IsStatus, IsVerdictStatus, IsCutStatus};
 ghost use Rattle.symbolic_mc.specs.Words.{command_of, request_of, recheck_of};
 
 use crate::answer::Answer;
 use crate::checking::check;
-use crate::copies::{copied, one_text};
+use crate::copies::copied;
 use crate::lines::write_lines;
 use crate::naming::certificate_of;
 use crate::saving::save;
 use crate::words::{Request, recheck_requested, requested};
 use plain_jobs::Plain;
-use plain_texts::{Source, module_of, read_source};
+use plain_modules::{Source, read_job};
 use refutation_checker::recheck;
 use std::alloc::{AllocError, Global};
 use tla_meaning::Job;
@@ -25,13 +25,10 @@ use tla_values::Text;
 use tool_outside::{FileFail, Files, Sink, SinkFail};
 use trace_text::Verdict;
 
-/// The most bytes that a module may have.
-const MODULE_LIMIT: u64 = 4_194_304;
-
 /// The most bytes that a certificate may have.
 const CERTIFICATE_LIMIT: u64 = 268_435_456;
 
-/// Does all that the program does: takes the words after its name, reads the module or the certificate that they name,
+/// Does all that the program does: takes the words after its name, reads the modules or the certificate that they name,
 /// checks it, writes the certificate of a verdict to its file and the report to the sink, and answers the status of
 /// the program: 0 where no level errs or the certificate is accepted, 12 where a level errs, 14 where the certificate
 /// is refused, 21 where the conflicts are spent, 30 where the module is refused, 31 where the words are no command, 40
@@ -53,7 +50,7 @@ pub fn run<F: Files, K: Sink>(alloc: Global, words: &[String], files: &mut F, ou
         ⊎ WritesPrefix (K.written out.old) (K.written out.new) memory_line }
     ensures statuses { IsStatus result }
     ensures usage { request_of words.now ≡ None → recheck_of words.now ≡ None → (result ≡ 31) ⊎ IsCutStatus result }
-    ensures in_form { AsksForPlainText (command_of words.now) (F.held files.old) → Stayed (F.faults files.old) (F.faults files.new)
+    ensures in_form { AsksForPlainJob (command_of words.now) (F.held files.old) → Stayed (F.faults files.old) (F.faults files.new)
         → Stayed (K.faults out.old) (K.faults out.new) → IsVerdictStatus result ⊎ (result ≡ 50) }
     ensures rechecked { AsksToRecheck (command_of words.now) (F.held files.old) → Stayed (F.faults files.old) (F.faults files.new)
         → Stayed (K.faults out.old) (K.faults out.new) → (result ≡ 0) ⊎ (result ≡ 14) ⊎ (result ≡ 50) }
@@ -94,35 +91,15 @@ fn check_file<F: Files>(
     ensures files { (again : Option (Items ℕ)) → Touches (requests request.now.file.now request.now.longest request.now.budget again)
         (F.held files.old) (F.held files.new) }
 {
-    match files.read(alloc, request.file, MODULE_LIMIT) {
-        Ok(Some(bytes)) => check_bytes(alloc, request, &bytes, files),
-        Ok(None) => Ok(Answer::Missing(copied(alloc, module_of(request.file))?)),
-        Err(fail) => read_fault(alloc, request.file, fail),
-    }
-}
-
-// The answer to the bytes of the file.
-fn check_bytes<F: Files>(
-    alloc: Global,
-    request: &Request<'_>,
-    bytes: &[u8],
-    files: &mut F,
-) -> Result<Answer, AllocError>
-    requires { HandedOut (F.held files.old) request.now.file.now module_limit bytes.now }
-    ensures answer { IfOk result (λ answer. (again : Option (Items ℕ)) → IsAnswer (requests request.now.file.now request.now.longest request.now.budget again)
-        (F.held files.old) (F.held files.new) (F.faults files.old) (F.faults files.new) answer) }
-    ensures calm { IfOk result (IsCalm (F.faults files.old) (F.faults files.new)) }
-    ensures files { (again : Option (Items ℕ)) → Touches (requests request.now.file.now request.now.longest request.now.budget again)
-        (F.held files.old) (F.held files.new) }
-{
-    match read_source(alloc, request.file, bytes)? {
-        Source::Refused(refusal) => Ok(Answer::Refused(one_text(alloc, request.file)?, refusal)),
+    match read_job(alloc, request.file, files)? {
+        Source::Unjoined(refusal) => Ok(Answer::Unjoined(refusal)),
+        Source::Unmade(files, fault) => Ok(Answer::Unmade(files, fault)),
         Source::NotBuilt => Ok(Answer::NotBuilt),
         Source::Said(job, plain) => check_job(alloc, request, job, &plain, files),
     }
 }
 
-// The answer to the job that the file says.
+// The answer to the job that the modules of the file make.
 fn check_job<F: Files>(
     alloc: Global,
     request: &Request<'_>,

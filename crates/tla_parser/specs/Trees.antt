@@ -8,7 +8,7 @@ use Rattle.tla_meaning.specs.declared.expr.Expr.{Expr, out-Expr, roll-Expr}
 use Rattle.tla_meaning.specs.declared.expr.Expr.TheOpen.{Expr-F}
 use Rattle.tla_meaning.specs.declared.op.Op.{Op}
 use Rattle.tla_meaning.specs.declared.op.Op.TheVariants as op
-use Rattle.tla_meaning.specs.declared.op.Form.TheVariants.{Choose, Enabled, Temporal, Unbounded}
+use Rattle.tla_meaning.specs.declared.op.Form.TheVariants.{Choose, Enabled, Power, Temporal, Unbounded}
 use Rattle.tla_meaning.specs.declared.place.Place.{Place}
 use Rattle.tla_parser.specs.declared.items.Item.{Item}
 use Rattle.tla_parser.specs.declared.items.Item.TheVariants.{Piece, Tree}
@@ -16,7 +16,7 @@ use Rattle.tla_parser.specs.declared.items.Digest.{Digest}
 use Rattle.tla_parser.specs.declared.items.Updates.{Updates}
 use Rattle.tla_parser.specs.declared.items.Locals.{Locals}
 use Rattle.tla_parser.specs.declared.items.Head.{Head}
-use Rattle.std.specs.Prelude.{ℕ, Bool, true, false, cond, max, List, Option, Some, None, length, reverse, ◌+◌, ◌∷◌, ◌++◌, []}
+use Rattle.std.specs.Prelude.{ℕ, pos, int_le, ◌&&◌, Bool, true, false, cond, max, List, Option, Some, None, length, reverse, ◌+◌, ◌∷◌, ◌++◌, []}
 use Rattle.tla_parser.specs.Signs.{sign}
 use Rattle.tla_parser.specs.declared.moves.Construct.{Construct}
 use Rattle.tla_parser.specs.declared.moves.Construct.TheVariants.{Application, Booleans, Call, Cases, CasesOther, Choice, Conditional, Enumeration, Exception, Fairness, FalseLiteral, FieldAccess, Filter, FoldCall, FoldUse, Function, FunctionSet, Instanced, Junction, Local, Mapping, NameUse, NumberLiteral, OldValue, Parenthesis, Primed, Quantifier, RecordSet, RecordValue, SquareAction, Strings, TextLiteral, TrueLiteral, TupleValue}
@@ -81,8 +81,20 @@ prefix_node t e = node t.place (prefix_op (sign t)) [] (e ∷ [])
 abbrev pub grown : Expr-F Expr → Expr → Expr
 grown x e = roll-Expr (record x { args = x.args ++ (e ∷ []) })
 
+-- a number from 1 to 127
+abbrev pub is_exponent : Op → Bool
+is_exponent (op.Int n) = int_le (pos 1) n && int_le n (pos 127)
+is_exponent o = false
+
+-- a power with another exponent is a form that is only refused
+abbrev pub raised : Op → Bool → Op
+raised op.Pow false = op.Outside Power
+raised o exponent = o
+
 abbrev pub infix_node : Bool → Token → Expr → Expr → Expr
-infix_node joined t a b = cond joined (grown (out-Expr a) b) (node t.place (infix_op (sign t)) [] (a ∷ b ∷ []))
+infix_node joined t a b =
+    cond joined (grown (out-Expr a) b)
+    (node t.place (raised (infix_op (sign t)) (is_exponent (out-Expr b).op)) [] (a ∷ b ∷ []))
 
 -- ---- what a form has
 

@@ -1,7 +1,7 @@
 // Nodes of trees, and what operators make of their operands.
 ghost use Rattle.std.specs.Prelude.{◌≡◌, ◌++◌, ◌∷◌, [], IfOk, max, MatchOption, OnOk};
 ghost use Rattle.tla_meaning.specs.declared.expr.Expr.{out-Expr};
-ghost use Rattle.tla_parser.specs.Trees.{first_tree, grown, index_of, infix_node, infix_op, leaf, name_of, node, prefix_node, prefix_op, rotated};
+ghost use Rattle.tla_parser.specs.Trees.{first_tree, grown, index_of, infix_node, infix_op, is_exponent, leaf, name_of, node, prefix_node, prefix_op, raised, rotated};
 
 use crate::looks::look;
 use crate::signs::Sign;
@@ -118,9 +118,29 @@ pub(crate) fn infix_node(
     if joined {
         return grown(left, right);
     }
+    let op = raised(infix_op(look(operator).sign), is_exponent(&right.op));
     let args = pair(alloc, left, right)?;
-    let op = infix_op(look(operator).sign);
     Ok(node(operator.place, op, List::new(alloc), args))
+}
+
+// Whether it is a number from 1 to 127.
+fn is_exponent(op: &Op) -> bool
+    ensures { result ≡ is_exponent op.now }
+{
+    match op {
+        Op::Int(n) => 1 <= *n && *n <= 127,
+        _ => false,
+    }
+}
+
+// A power with another exponent is a form that is only refused.
+fn raised(op: Op, exponent: bool) -> Op
+    ensures { result ≡ raised op exponent }
+{
+    match op {
+        Op::Pow if !exponent => Op::Outside(Form::Power),
+        op => op,
+    }
 }
 
 fn grown(chain: Expr, operand: Expr) -> Result<Expr, AllocError>

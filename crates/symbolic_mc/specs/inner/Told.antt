@@ -1,7 +1,7 @@
 -- How an answer comes about and how it is told: what is written of it, and the status.
 use Rattle.std.specs.Prelude.{◌≡◌, ◌⊎◌, ℕ, List, Option, Some}
 use Rattle.std.specs.Io.KnownBytes.{Appends}
-use Rattle.tool_outside.specs.Causes.{HandedOut, WritesPrefix}
+use Rattle.tool_outside.specs.Causes.{WritesPrefix}
 use Rattle.tool_outside.specs.Outside.{Folder, Rose}
 use Rattle.tool_outside.specs.declared.files.FileFail.{FileFail}
 use Rattle.tool_outside.specs.declared.files.FileFail.TheVariants as fail
@@ -11,8 +11,7 @@ use Rattle.tla_meaning.specs.declared.job.Job.{Job}
 use Rattle.symbolic_mc.specs.declared.answer.Answer.{Answer}
 use Rattle.symbolic_mc.specs.declared.answer.Answer.TheVariants.{Checked, ReadFault, TooLong, WriteFault}
 use Rattle.symbolic_mc.specs.Report.{status_of, report_of, memory_line}
-use Rattle.plain_texts.specs.Sources.{IsOnlyPlainText}
-use Rattle.symbolic_mc.specs.Top.{module_limit}
+use Rattle.plain_modules.specs.Jobs.{IsOnlyPlainJob}
 use Rattle.symbolic_mc.specs.declared.top.Kept.{Kept}
 use Rattle.symbolic_mc.specs.declared.top.Kept.TheVariants.{Saved, Unsaved}
 use Rattle.symbolic_mc.specs.Words.{Command}
@@ -21,11 +20,9 @@ use Rattle.symbolic_mc.specs.Words.{Command}
 abbrev pub requests : List ℕ → ℕ → Option ℕ → Option (List ℕ) → Command
 requests file longest budget again = (Some (file, longest, budget), again)
 
--- the bytes that were handed out for the file say this job, and no other, and this is what its parts say
+-- the modules of the file make this job, and no other, and this is what its parts say
 pub record IsJobRead (held : Option Folder) (file : List ℕ) (job : Job) (m : Plain) : Type 0 where
-  pub bytes : List ℕ
-  pub handed : HandedOut held file module_limit bytes
-  pub form : IsOnlyPlainText file job bytes
+  pub form : IsOnlyPlainJob held file job
   pub plain : IsPlain job m
 
 -- the answer to what became of a check, where this is the job

@@ -6,4 +6,4 @@ use Rattle.plain_jobs.proofs.parts.+part.Goals as goal
 
 pub part_of-returns : goal.part_of-returns
 part_of-returns t c =
-    subst (λ q. IfOk c.part_at.result (λ p. p ≡ q)) (part_node c.args.e.now _ (c.deref.ensures.value ∙ c.in_ok-parts.ensures ∙ ap (map part) c.as_slice.ensures)) c.part_at.ensures
+    subst (λ q. IfOk c.part_at.result (λ p. p ≡ q)) (part_node c.args.e.now _ (c.in_ok-parts.ensures ∙ ap (map part) c.as_slice.ensures)) c.part_at.ensures

@@ -1,4 +1,4 @@
-use Rattle.std.proofs.Common.{ℕ, ◌≤◌, inr, refl, ap, length, Err}
+use Rattle.std.proofs.Common.{ℕ, ◌≤◌, refl, ap, length, Err}
 use Rattle.std.specs.Option.{option_map}
 use Rattle.std.specs.Prelude.{Vec}
 use Rattle.std.specs.declared.alloc.Global.{Global}
@@ -24,5 +24,5 @@ returns-in-Ok-None-clause-answer g c =
 pub returns-in-Err-clause-answer : goal.returns-in-Err-clause-answer
 returns-in-Err-clause-answer g c =
     on_ok c.read_fault.result _ _ (λ answer is.
-    failed_read _ c.args.cert.now certificate_limit (g.F.Files.held c.args.files.now) _ _ _ c.in-Err.fail answer (inr (refl, refl))
+    failed_read _ c.args.cert.now (g.F.Files.held c.args.files.now) _ _ _ c.in-Err.fail answer refl
     (λ e. c.in-Err.ensures.cause.failed (ap Err e)) (λ e. c.in-Err.ensures.too_long (ap Err e)) c.in-Err.ensures.keeps is) c.read_fault.ensures

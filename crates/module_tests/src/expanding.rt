@@ -1,0 +1,214 @@
+// What expansion gives of the flat modules of the sets: a tree, its size, or a refusal.
+//
+//   >expand N PART   what the operator N gives for a part of a job: a tree, `size N levels L`, or the line that tells the
+//                    refusal
+//   >job I N C V ..  what the operators give as Init, Next, CInit (`-` for none) and invariants: a tree for each part,
+//                    behind `cinit`, `assume`, `init`, `next` and `inv V`, or the line that tells the refusal
+use crate::expansions_cases::EXPANSIONS;
+use crate::extending_cases::EXTENDING;
+use crate::further_cases::FURTHER;
+use crate::generated_cases::GENERATED;
+use crate::instances_cases::INSTANCES;
+use crate::names_cases::NAMES;
+use crate::reader::{Case, Part, cases};
+use crate::room_cases::ROOM;
+use crate::showing::put_names;
+use crate::sources_cases::SOURCES;
+use crate::trees::{extent, is_tree};
+use crate::users_cases::USERS;
+use op_inliner::{InlineFault, PartKind, expand, is_known, job_of};
+use plain_modules::inline_line;
+use std::alloc::{AllocError, Global};
+use std::test::Fail;
+use tla_meaning::{Expr, Flat, Job};
+use tla_modules::resolve;
+use tla_values::{List, Text};
+
+fn part_kind(word: &str) -> PartKind {
+    match word {
+        "constants" => PartKind::Constants,
+        "start" => PartKind::Start,
+        "step" => PartKind::Step,
+        _ => PartKind::Inv,
+    }
+}
+
+// Whether the line tells this refusal.
+fn tells(alloc: Global, line: &[u8], flat: &Flat, fault: &InlineFault) -> Result<bool, AllocError> {
+    let given = inline_line(alloc, flat.files.as_slice(), fault)?;
+    Ok(given.as_slice().strip_suffix(b"\n") == Some(line))
+}
+
+// Whether the text is this tree, or tells its size.
+fn is_told(alloc: Global, text: &[u8], flat: &Flat, tree: &Expr) -> Result<bool, AllocError> {
+    if text.starts_with(b"size ") {
+        let (nodes, levels) = extent(tree);
+        let given = format!(in alloc; "size {nodes} levels {levels}")?;
+        return Ok(text == given.as_bytes());
+    }
+    let mut names = Vec::new(alloc);
+    put_names(flat, &mut names)?;
+    is_tree(alloc, text, &names, tree)
+}
+
+// The text without the line feeds at its end.
+fn trimmed(text: &[u8]) -> &[u8] {
+    let mut rest = text;
+    while let Some(front) = rest.strip_suffix(b"\n") {
+        rest = front;
+    }
+    rest
+}
+
+fn expands_so(alloc: Global, part: &Part, flat: &Flat) -> Result<bool, Fail> {
+    let Some((name, kind)) = part.rest.split_once(' ') else {
+        return Err("no part".into());
+    };
+    if !is_known(alloc, flat)? {
+        return Ok(false);
+    }
+    let text = trimmed(&part.body);
+    match expand(alloc, flat, name, part_kind(kind)) {
+        Ok(tree) => Ok(is_told(alloc, text, flat, &tree)?),
+        Err(fault) => Ok(tells(alloc, text, flat, &fault)?),
+    }
+}
+
+// ---- jobs
+
+// The texts of the parts, each behind its line's first word.
+fn is_beginning(line: &[u8]) -> bool {
+    let words: [&[u8]; 5] = [b"cinit ", b"assume ", b"init ", b"next ", b"inv "];
+    words.iter().any(|word| line.starts_with(word))
+}
+
+fn parts_of(alloc: Global, text: &[u8]) -> Result<Vec<Vec<u8>>, AllocError> {
+    let mut parts: Vec<Vec<u8>> = Vec::new(alloc);
+    for line in text.split(|byte| *byte == b'\n') {
+        if is_beginning(line) {
+            parts.push(Vec::from_slice(alloc, line)?)?;
+        } else if let Some(part) = parts.last_mut() {
+            part.push(b' ')?;
+            part.extend_from_slice(line)?;
+        }
+    }
+    Ok(parts)
+}
+
+// Whether a part's text is this word with this tree.
+fn is_part(
+    alloc: Global,
+    part: Option<&Vec<u8>>,
+    word: &[u8],
+    flat: &Flat,
+    tree: &Expr,
+) -> Result<bool, AllocError> {
+    let Some(part) = part else {
+        return Ok(false);
+    };
+    match part.as_slice().strip_prefix(word) {
+        Some(text) => is_told(alloc, text, flat, tree),
+        None => Ok(false),
+    }
+}
+
+fn is_job(alloc: Global, text: &[u8], flat: &Flat, job: &Job) -> Result<bool, AllocError> {
+    let parts = parts_of(alloc, text)?;
+    let trees: [(&[u8], &Expr); 4] = [
+        (b"cinit ", &job.cinit),
+        (b"assume ", &job.assume),
+        (b"init ", &job.init),
+        (b"next ", &job.next),
+    ];
+    let mut parts = parts.iter();
+    for (word, tree) in trees {
+        if !is_part(alloc, parts.next(), word, flat, tree)? {
+            return Ok(false);
+        }
+    }
+    for (name, tree) in job.invs.as_slice() {
+        let mut word = Vec::from_slice(alloc, b"inv ")?;
+        word.extend_from_slice(name.bytes())?;
+        word.push(b' ')?;
+        if !is_part(alloc, parts.next(), &word, flat, tree)? {
+            return Ok(false);
+        }
+    }
+    Ok(parts.next().is_none())
+}
+
+fn makes_so(alloc: Global, part: &Part, flat: &Flat) -> Result<bool, Fail> {
+    let mut words = part.rest.split_whitespace();
+    let (Some(init), Some(next), Some(cinit)) = (words.next(), words.next(), words.next()) else {
+        return Err("no three names".into());
+    };
+    let mut invariants = Vec::new(alloc);
+    for word in words {
+        invariants.push(Text::from_vec(Vec::from_slice(alloc, word.as_bytes())?))?;
+    }
+    let invariants = List::from_vec(invariants);
+    let cinit = if cinit == "-" { None } else { Some(cinit) };
+    if !is_known(alloc, flat)? {
+        return Ok(false);
+    }
+    let text = trimmed(&part.body);
+    match job_of(alloc, flat, init, next, cinit, &invariants) {
+        Ok(job) => Ok(is_job(alloc, text, flat, &job)?),
+        Err(fault) => Ok(tells(alloc, text, flat, &fault)?),
+    }
+}
+
+// ---- sets
+
+// Adds the headings of a set that expansion does not meet, and how many there are.
+fn differs(alloc: Global, case: &Case, report: &mut String) -> Result<usize, Fail> {
+    let mut files = case.files(alloc)?;
+    let root = case.root(alloc)?;
+    let Ok(flat) = resolve(alloc, root.as_str(), &mut files) else {
+        return Ok(0);
+    };
+    let mut count: usize = 0;
+    for part in &case.parts {
+        let is_met = match part.word {
+            "expand" => expands_so(alloc, part, &flat)?,
+            "job" => makes_so(alloc, part, &flat)?,
+            _ => continue,
+        };
+        count = count.saturating_add(1);
+        if !is_met {
+            for text in [case.title, ": ", part.word, " ", part.rest, "\n"] {
+                report.push_str(text)?;
+            }
+        }
+    }
+    Ok(count)
+}
+
+fn differing(alloc: Global, text: &str) -> Result<(String, usize), Fail> {
+    let mut report = String::new(alloc);
+    let mut count: usize = 0;
+    for case in &cases(alloc, text)? {
+        count = count.saturating_add(differs(alloc, case, &mut report)?);
+    }
+    Ok((report, count))
+}
+
+#[test]
+fn operators_and_jobs_are_expanded(rt: HostRuntime) -> Result<(), Fail> {
+    for (text, wanted) in [
+        (EXPANSIONS, 118),
+        (EXTENDING, 12),
+        (FURTHER, 7),
+        (GENERATED, 44),
+        (INSTANCES, 16),
+        (NAMES, 29),
+        (ROOM, 5),
+        (SOURCES, 2),
+        (USERS, 14),
+    ] {
+        let (report, count) = differing(rt.alloc(), text)?;
+        assert_eq!(rt; report.as_str(), "");
+        assert_eq!(rt; count, wanted);
+    }
+    Ok(())
+}
