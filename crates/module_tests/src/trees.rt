@@ -63,6 +63,7 @@ impl<'a> Comparison<'a> {
         self.tokens.get(at)
     }
 
+    #[cycle(meets)]
     fn meets(&mut self, tree: &Expr) -> Result<bool, AllocError> {
         let word = word_of(self.alloc, &tree.op, self.names)?;
         let is_node = match self.next() {
@@ -108,6 +109,7 @@ impl<'a> Comparison<'a> {
         }
     }
 
+    #[cycle(meets)]
     fn meets_node(&mut self, tree: &Expr) -> Result<bool, AllocError> {
         let outside = self.bound.len();
         if !self.meets_details(&tree.op)? || !self.binds(tree.binds.as_slice())? {
