@@ -51,6 +51,10 @@ scope_more keys origins es e s m k o = record {
       ∙ sym (flat_map-append (λ (e : Entry). if is_declaration e.kind then e.origin else []) es (e ∷ [])) ∙ ap declared_origins (sym m);
 }
 
+pub keys_next : (fs : List Entry) (i : ℕ) (f : Entry) → i < length fs → f ≡ get_or fs i f → keys_of (take i fs) ++ key_of f.name ∷ [] ≡ keys_of (take (i + 1) fs)
+keys_next fs i f lt is =
+    sym (ap keys_of (take_more fs i f lt ∙ ap (λ y. take i fs ++ y ∷ []) (sym is)) ∙ map-append name_key (take i fs) (f ∷ []))
+
 pub scope_less : (keys origins : List ℕ) (es : List Entry) (n m : ℕ) (e : Entry) {less_keys less_origins origin : List ℕ} {less : List Entry} → IsScope keys origins es →
     length es ≡ suc n → e ≡ get_or es n e → origin ≡ declared_origins (e ∷ []) → m ≡ length origins - length origin →
     less ≡ take n es → less_keys ≡ take (length keys - 1) keys → less_origins ≡ take m origins → IsScope less_keys less_origins less

@@ -65,6 +65,14 @@ impl Index {
         self.chains.seek(&self.keys, head, key)
     }
 
+    // The key at a place, from 0.
+    pub(crate) fn key(&self, place: usize) -> usize
+        requires { place < length self.now }
+        ensures { result ≡ get_or self.now place 0 }
+    {
+        self.keys[place]
+    }
+
     // The last place before this one of the key that stands there.
     pub(crate) fn before(&self, place: usize) -> usize
         requires some { 0 < place }

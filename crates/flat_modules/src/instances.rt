@@ -9,7 +9,7 @@ use crate::copies::{ModuleCopy, joined, origin_at};
 use crate::entries::add_place;
 use crate::items::Item;
 use crate::scope::Scope;
-use crate::shared::Shared;
+use crate::shared::SharedEntry;
 use std::alloc::{AllocError, Global};
 use tla_meaning::{Def, Entry, Expr, Kind, Op, Place, copy_op};
 use tla_values::{List, Text, copy_text};
@@ -75,8 +75,8 @@ impl<'a> Instance<'a> {
         &self,
         alloc: Global,
         scope: &Scope,
-        inside: &[Shared<Entry>],
-    ) -> Result<Vec<Shared<Entry>>, AllocError>
+        inside: &[SharedEntry],
+    ) -> Result<Vec<SharedEntry>, AllocError>
         ensures { IfOk result (λ v. v.items ≡ instance_names scope.now self.now.name.now self.now.local self.now.place
             ++ instance_entries self.now.name.now self.now.local inside.now) }
     {
@@ -84,14 +84,14 @@ impl<'a> Instance<'a> {
         for entry in inside {
             if self.brings(entry.get()) {
                 let name = self.renamed(alloc, entry.get())?;
-                names.push(Shared::new(alloc, name)?)?;
+                names.push(SharedEntry::new(alloc, name)?)?;
             }
         }
         Ok(names)
     }
 
     // The name of the INSTANCE, where it has one.
-    fn own_name(&self, alloc: Global, scope: &Scope) -> Result<Vec<Shared<Entry>>, AllocError>
+    fn own_name(&self, alloc: Global, scope: &Scope) -> Result<Vec<SharedEntry>, AllocError>
         ensures { IfOk result (λ v. v.items ≡ instance_names scope.now self.now.name.now self.now.local self.now.place) }
     {
         let mut names = Vec::new(alloc);
@@ -108,7 +108,7 @@ impl<'a> Instance<'a> {
                 arity: 0,
                 exported: !self.local,
             };
-            names.push(Shared::new(alloc, entry)?)?;
+            names.push(SharedEntry::new(alloc, entry)?)?;
         }
         Ok(names)
     }

@@ -18,7 +18,7 @@ use crate::instances::Instance;
 use crate::items::{Item, Items, copy_decl};
 use crate::resolving::Resolving;
 use crate::scope::Scope;
-use crate::shared::Shared;
+use crate::shared::SharedEntry;
 use crate::standards::{OUTSIDE, Standard};
 use std::alloc::{AllocError, Global};
 use tla_meaning::{Decl, Def, Entry, Expr, Kind, Misuse, Unit};
@@ -196,13 +196,13 @@ fn declared_names(
     alloc: Global,
     copy: &ModuleCopy,
     decls: &[Decl],
-) -> Result<Vec<Shared<Entry>>, AllocError>
+) -> Result<Vec<SharedEntry>, AllocError>
     ensures { IfOk result (λ v. v.items ≡ map (declared (copy_of copy.now)) decls.now) }
 {
     let mut names = Vec::new(alloc);
     for d in decls {
         let name = copy.declared(alloc, d)?;
-        names.push(Shared::new(alloc, name)?)?;
+        names.push(SharedEntry::new(alloc, name)?)?;
     }
     Ok(names)
 }
@@ -244,12 +244,12 @@ fn is_open(scope: &Scope, name: &Text) -> bool
     }
 }
 
-fn exported(alloc: Global, entries: &[Shared<Entry>]) -> Result<Vec<Shared<Entry>>, AllocError>
+fn exported(alloc: Global, entries: &[SharedEntry]) -> Result<Vec<SharedEntry>, AllocError>
     ensures { IfOk result (λ v. v.items ≡ filter (λ (e : Name). e.exported) entries.now) }
 {
     let mut names = Vec::new(alloc);
     for entry in entries {
-        if entry.get().exported {
+        if entry.is_exported() {
             names.push(entry.share()?)?;
         }
     }

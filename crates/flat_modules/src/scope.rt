@@ -2,11 +2,12 @@
 ghost use Rattle.std.specs.Prelude.{◌≡◌, ◌∷◌, ◌++◌, ◌≤◌, ◌<◌, ◌-◌, [], length, reverse, take, option_copied, OnOk, IfOk};
 ghost use Rattle.tla_meaning.specs.Flattening.{declared_origins};
 ghost use Rattle.tla_meaning.specs.Scopes.{same_text};
+ghost use Rattle.flat_modules.specs.inner.Places.{key_of, keys_of};
 ghost use Rattle.tla_meaning.specs.Symbols.{entry_of, is_there, repeated, serves, with_new};
 
 use crate::entries::{add_repeated, same, same_bytes};
 use crate::index::{Index, key_of};
-use crate::shared::Shared;
+use crate::shared::SharedEntry;
 use std::alloc::{AllocError, Global};
 use std::marker::Model;
 use tla_meaning::{Entry, Kind, Misuse};
@@ -15,7 +16,7 @@ use tla_meaning::{Entry, Kind, Misuse};
 #[derive(Drop)]
 pub(crate) struct Scope {
     alloc: Global,
-    entries: Vec<Shared<Entry>>,
+    entries: Vec<SharedEntry>,
     // The keys of their names.
     index: Index,
     // The origins of the declared ones.
@@ -71,7 +72,7 @@ impl Scope {
         None
     }
 
-    pub(crate) fn entries(&self) -> &[Shared<Entry>]
+    pub(crate) fn entries(&self) -> &[SharedEntry]
         ensures { result.now ≡ self.now }
     {
         self.entries.as_slice()
@@ -80,15 +81,15 @@ impl Scope {
     pub(crate) fn push(&mut self, entry: Entry) -> Result<(), AllocError>
         ensures { OnOk result (self.new ≡ self.old ++ (entry ∷ [])) }
     {
-        let entry = Shared::new(self.alloc, entry)?;
+        let entry = SharedEntry::new(self.alloc, entry)?;
         self.push_shared(entry)
     }
 
-    pub(crate) fn push_shared(&mut self, entry: Shared<Entry>) -> Result<(), AllocError>
+    pub(crate) fn push_shared(&mut self, entry: SharedEntry) -> Result<(), AllocError>
         ensures { OnOk result (self.new ≡ self.old ++ (entry ∷ [])) }
     {
-        let key = key_of(entry.get().name.bytes());
-        let origin = declared_origin(entry.get());
+        let key = entry.key();
+        let origin = entry.declared_origin();
         self.entries.reserve(1)?;
         self.origins.reserve(origin.len())?;
         self.index.push(key)?;
@@ -101,20 +102,20 @@ impl Scope {
     pub(crate) fn add(&mut self, entry: Entry) -> Result<(), AllocError>
         ensures { OnOk result (self.new ≡ with_new self.old (entry ∷ [])) }
     {
-        let entry = Shared::new(self.alloc, entry)?;
+        let entry = SharedEntry::new(self.alloc, entry)?;
         self.add_shared(entry)
     }
 
-    fn add_shared(&mut self, entry: Shared<Entry>) -> Result<(), AllocError>
+    fn add_shared(&mut self, entry: SharedEntry) -> Result<(), AllocError>
         ensures { OnOk result (self.new ≡ with_new self.old (entry ∷ [])) }
     {
-        if self.is_there(entry.get()) {
+        if self.is_there(&entry) {
             return Ok(());
         }
         self.push_shared(entry)
     }
 
-    pub(crate) fn add_all(&mut self, entries: Vec<Shared<Entry>>) -> Result<(), AllocError>
+    pub(crate) fn add_all(&mut self, entries: Vec<SharedEntry>) -> Result<(), AllocError>
         ensures { OnOk result (self.new ≡ with_new self.old entries.items) }
     {
         for entry in entries {
@@ -133,12 +134,12 @@ impl Scope {
         Ok(())
     }
 
-    fn is_there(&self, new: &Entry) -> bool
+    fn is_there(&self, new: &SharedEntry) -> bool
         ensures { result ≡ is_there self.now new.now }
     {
-        let mut place = self.index.last(key_of(new.name.bytes()));
+        let mut place = self.index.last(new.key());
         while place > 0 {
-            if serves(self.entries[place - 1].get(), new) {
+            if serves(self.entries[place - 1].get(), new.get()) {
                 return true;
             }
             place = self.index.before(place);
@@ -150,13 +151,15 @@ impl Scope {
     pub(crate) fn repeated(&self, new: &Entry) -> Result<Vec<Misuse>, AllocError>
         ensures { IfOk result (λ v. reverse v.items ≡ repeated self.now new.now) }
     {
-        let mut told = Vec::new(self.alloc);
-        let mut place = self.index.last(key_of(new.name.bytes()));
-        while place > 0 {
-            add_repeated(self.alloc, self.entries[place - 1].get(), new, &mut told)?;
-            place = self.index.before(place);
-        }
-        Ok(told)
+        let key = key_of(new.name.bytes());
+        repeated(self.alloc, &self.entries, &self.index, key, new)
+    }
+
+    // The same of one whose key is known.
+    pub(crate) fn repeated_by(&self, new: &SharedEntry) -> Result<Vec<Misuse>, AllocError>
+        ensures { IfOk result (λ v. reverse v.items ≡ repeated self.now new.now) }
+    {
+        repeated(self.alloc, &self.entries, &self.index, new.key(), new.get())
     }
 
     // The origins of the declared names.
@@ -181,22 +184,33 @@ impl Scope {
         ensures { self.new ≡ take (length self.old - 1) self.old }
     {
         let last = self.entries.len() - 1;
-        let origin = declared_origin(self.entries[last].get()).len();
+        let origin = self.entries[last].declared_origin().len();
         self.origins.truncate(self.origins.len() - origin);
         self.entries.truncate(last);
         self.index.pop();
     }
 }
 
-// The origin of a declared name, and nothing of another.
-fn declared_origin(entry: &Entry) -> &[u8]
-    ensures { result.now ≡ declared_origins (entry.now ∷ []) }
+// What is told of a new name with this key that repeats some of these with their keys, the last of them first.
+pub(crate) fn repeated(
+    alloc: Global,
+    entries: &[SharedEntry],
+    index: &Index,
+    key: usize,
+    new: &Entry,
+) -> Result<Vec<Misuse>, AllocError>
+    requires keys { index.now ≡ keys_of entries.now }
+    requires key { key ≡ key_of new.now.name }
+    ensures { IfOk result (λ v. reverse v.items ≡ repeated entries.now new.now) }
 {
-    if entry.kind == Kind::Declaration {
-        entry.origin.bytes()
-    } else {
-        &[]
+    let mut told = Vec::new(alloc);
+    let mut place = index.last(key);
+    while place > 0 {
+        let entry = &entries[place - 1];
+        add_repeated(alloc, entry.get(), new, &mut told)?;
+        place = index.before(place);
     }
+    Ok(told)
 }
 
 fn is_name(entry: &Entry, name: &[u8]) -> bool

@@ -6,38 +6,48 @@ ghost use Rattle.tla_meaning.specs.Scopes.{same_text};
 ghost use Rattle.tla_meaning.specs.Symbols.{all_repeated, is_declaration, repeated};
 ghost use Rattle.flat_modules.specs.inner.Learning.{TellsItems, one_symbol, told_body, with_resolved};
 ghost use Rattle.flat_modules.specs.inner.Instances.{with_item};
+ghost use Rattle.flat_modules.specs.inner.Places.{keys_of};
 ghost use Rattle.flat_modules.specs.inner.Telling.{Tells, Told, own_count};
 
 use crate::entries::same;
+use crate::index::Index;
 use crate::instances::with_definition;
 use crate::items::Item;
 use crate::resolving::Resolving;
-use crate::scope::Scope;
-use crate::shared::Shared;
+use crate::scope::repeated;
+use crate::shared::SharedEntry;
 use std::alloc::AllocError;
 use tla_meaning::{Def, Entry, Expr, Kind, Misuse, Op, Place};
 use tla_values::{Text, copy_text};
 
 impl Resolving {
     // Tells of new names that repeat names in scope or each other.
-    pub(crate) fn tell_names(&mut self, entries: &[Shared<Entry>]) -> Result<(), AllocError>
+    pub(crate) fn tell_names(&mut self, entries: &[SharedEntry]) -> Result<(), AllocError>
         ensures { OnOk result (Told self.old self.new (all_repeated self.old.scope entries.now)) }
     {
-        let mut before = Scope::new(self.alloc);
-        for new in entries {
-            self.tell_beside(&before, new.get())?;
-            before.push_shared(new.share()?)?;
+        let mut index = Index::new(self.alloc);
+        for i in 0..entries.len() {
+            let new = &entries[i];
+            self.tell_beside(&entries[..i], &index, new)?;
+            index.push(new.key())?;
         }
         Ok(())
     }
 
-    // Tells where a new name repeats one in scope, or a new one before it.
-    fn tell_beside(&mut self, before: &Scope, new: &Entry) -> Result<(), AllocError>
+    // Tells where a new name repeats one in scope, or a new one before it. The index has the keys of those before it.
+    fn tell_beside(
+        &mut self,
+        before: &[SharedEntry],
+        index: &Index,
+        new: &SharedEntry,
+    ) -> Result<(), AllocError>
+        requires { index.now ≡ keys_of before.now }
         ensures { OnOk result (Told self.old self.new (repeated (self.old.scope ++ before.now) new.now)) }
     {
-        self.tell_repeated(new)?;
-        let misuses = before.repeated(new)?;
-        self.tell_all(misuses);
+        let in_scope = self.scope.repeated_by(new)?;
+        self.tell_all(in_scope);
+        let among_new = repeated(self.alloc, before, index, new.key(), new.get())?;
+        self.tell_all(among_new);
         Ok(())
     }
 
@@ -76,7 +86,7 @@ impl Resolving {
         prefix: &[u8],
         place: Place,
         with: &[(Text, Expr)],
-        inside: &[Shared<Entry>],
+        inside: &[SharedEntry],
     ) -> Result<Vec<Item>, AllocError>
         ensures { TellsItems self.old self.new (with_misuses place self.old.scope inside.now with.now) (map (with_item prefix.now self.old.scope) with.now) result }
     {
@@ -93,7 +103,7 @@ impl Resolving {
     fn with_part(
         &mut self,
         place: Place,
-        inside: &[Shared<Entry>],
+        inside: &[SharedEntry],
         part: &(Text, Expr),
         rest: &[(Text, Expr)],
     ) -> Result<Expr, AllocError>
@@ -116,7 +126,7 @@ impl Resolving {
         &mut self,
         place: Place,
         with: &[(Text, Expr)],
-        inside: &[Shared<Entry>],
+        inside: &[SharedEntry],
     ) -> Result<(), AllocError>
         ensures { OnOk result (Told self.old self.new (symbol_misuses place self.old.scope with.now inside.now)) }
     {
@@ -142,7 +152,7 @@ impl Resolving {
     }
 }
 
-fn is_declared(name: &Text, inside: &[Shared<Entry>]) -> bool
+fn is_declared(name: &Text, inside: &[SharedEntry]) -> bool
     ensures { result ≡ list_any (λ e. is_declaration e.kind && same_text name.now e.name) inside.now }
 {
     inside.iter().any(|entry| is_declared_as(entry.get(), name))

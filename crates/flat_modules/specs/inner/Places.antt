@@ -4,6 +4,7 @@ use Rattle.tla_meaning.specs.declared.expr.Expr.{out-Expr}
 use Rattle.tla_meaning.specs.declared.place.Place.{Place}
 use Rattle.tla_meaning.specs.declared.symbols.Entry.{Entry}
 use Rattle.tla_meaning.specs.Flattening.{declared_origins}
+use Rattle.tla_meaning.specs.Symbols.{is_declaration}
 use Rattle.flat_modules.specs.declared.index.Chains.{Chains}
 use Rattle.flat_modules.specs.declared.items.Item.{Item}
 use Rattle.flat_modules.specs.declared.items.Item.TheVariants.{Declares, Defines, Assumes}
@@ -70,6 +71,12 @@ item_key (Assumes e) = place_key (out-Expr e).place
 
 abbrev pub item_keys : List Item → List ℕ
 item_keys is = map item_key is
+
+-- what stands beside a name
+pub record IsKeyed (e : Entry) (key : ℕ) (exported declared : Bool) : Type 0 where
+  pub key_so : key ≡ key_of e.name
+  pub exported_so : exported ≡ e.exported
+  pub declared_so : declared ≡ is_declaration e.kind
 
 -- the keys of names in scope, and the origins of the declared ones
 pub record IsScope (keys origins : List ℕ) (es : List Entry) : Type 0 where

@@ -9,5 +9,5 @@ invariant_of-self c =
     let n = c.len-last.result - 1 in
     let size : length inside.entries.items ≡ suc n = omega (arith, inside.entries.ok.0, ap length c.self.view_is) in
     let many : c.len.result - length c.declared_origin-origin.result.now ≡ length inside.origins.items - length c.declared_origin-origin.result.now = omega (arith, inside.origins.ok.0) in
-    scope_less inside.index inside.origins.items inside.entries.items n _ c.get.result.now c.self.invariant size (read_as inside.entries.items n c.get.ensures c.index.ensures)
+    scope_less inside.index inside.origins.items inside.entries.items n _ c.index.result.now c.self.invariant size c.index.ensures
     c.declared_origin-origin.ensures many c.truncate-2.ensures.items c.pop.ensures c.truncate.ensures.items

@@ -1,8 +1,8 @@
 use Rattle.flat_modules.proofs.Scopes.{IsTold}
-use Rattle.flat_modules.proofs.scope.Scope.repeated.Given as goal
+use Rattle.flat_modules.proofs.scope.repeated.Given as goal
 
 abbrev pub invariant-loop-place : goal.invariant-loop-place
-invariant-loop-place l = IsTold l.new l.self-inside.entries.items l.place l.told.items
+invariant-loop-place l = IsTold l.new l.entries l.place l.told.items
 
 abbrev pub decreases-loop-place : goal.decreases-loop-place
 decreases-loop-place l = l.place
