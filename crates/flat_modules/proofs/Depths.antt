@@ -1,6 +1,5 @@
 -- What is known at one depth is known at others that fit.
-use Rattle.std.proofs.Common.{◌≡◌, ◌∙◌, ◌+◌, ◌-◌, ◌≤◌, ℕ, suc, List, [], ◌∷◌, ◌++◌, Bool, true, false, cond, Option, Some, None, refl, ap, sym, subst, arith}
-use Rattle.tla_meaning.specs.declared.modules.Module.{Module}
+use Rattle.std.proofs.Common.{◌≡◌, ◌∙◌, ◌-◌, ◌≤◌, ℕ, suc, List, [], ◌∷◌, ◌++◌, Bool, true, false, cond, Option, Some, None, refl, ap, sym, subst, arith}
 use Rattle.tla_meaning.specs.declared.symbols.Misuse.{Misuse}
 use Rattle.tla_meaning.specs.Flattening.{Modules, after_module, extended, known_within, nothing_known, standard_or}
 use Rattle.tla_meaning.specs.Flattening as flat

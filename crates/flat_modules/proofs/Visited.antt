@@ -2,7 +2,7 @@
 use Rattle.std.proofs.Common.{◌≡◌, ◌∙◌, ◌≤◌, ℕ, zero, suc, Bool, true, false, cond, List, [], ◌∷◌, ◌++◌, ◌&&◌, ◌||◌, Option, Some, None, OnOk, Result, Ok, Err, refl, ap, sym, arith}
 use Rattle.std.proofs.lemmas.Bool.{and_parts, false≢true}
 use Rattle.std.proofs.lemmas.List.Folds.{list_all-append, list_any-append}
-use Rattle.std.specs.List.{flat_map, list_all, list_any}
+use Rattle.std.specs.List.{flat_map}
 use Rattle.tla_meaning.specs.declared.modules.Module.{Module}
 use Rattle.tla_meaning.specs.Flattening.{Modules, mentioned_files}
 use Rattle.tla_meaning.specs.ReadingOrder.{is_among}

@@ -1,6 +1,6 @@
 use Rattle.std.proofs.Common.{arith, ◌≡◌, ◌-◌, ◌∙◌, ap, sym}
 use Rattle.tla_meaning.specs.Scopes.{find_last}
-use Rattle.flat_modules.specs.inner.Orders.{AddsBehind, AreBehind, names_behind, with_names}
+use Rattle.flat_modules.specs.inner.Orders.{AddsBehind, names_behind, with_names}
 use Rattle.flat_modules.proofs.Behind.{behind_next, behind_some}
 use Rattle.flat_modules.proofs.LearningLemmas.{on_ok}
 use Rattle.flat_modules.proofs.Visited.{both_ok, none_new, walked_more}

@@ -1,6 +1,6 @@
 use Rattle.std.proofs.Common.{arith, ◌≡◌, ◌∙◌, ◌-◌, ap, subst, suc, sym, Some, None, IfOk}
 use Rattle.std.proofs.lemmas.List.{take_all}
-use Rattle.tla_meaning.specs.Flattening.{Known, after_extends, after_unit, after_units, extended, known_within, nothing_known}
+use Rattle.tla_meaning.specs.Flattening.{after_extends, after_unit, after_units, extended, known_within, nothing_known}
 use Rattle.tla_meaning.specs.declared.modules.Unit.TheVariants as unit
 use Rattle.flat_modules.specs.inner.Copies.{copy_of}
 use Rattle.flat_modules.specs.inner.Gathering.{Follows, Fits, IsExtended, Reaches, Remembers}

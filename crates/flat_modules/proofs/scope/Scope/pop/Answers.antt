@@ -1,5 +1,4 @@
 use Rattle.std.proofs.Common.{◌≡◌, ◌-◌, ap, arith, length, suc}
-use Rattle.flat_modules.proofs.Places.{read_as}
 use Rattle.flat_modules.proofs.Scopes.{scope_less}
 use Rattle.flat_modules.proofs.scope.Scope.pop.Goals as goal
 
