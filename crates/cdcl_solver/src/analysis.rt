@@ -65,7 +65,7 @@ pub fn first_unique_point(
 }
 
 // How many literals are followed to find that one is not wanted.
-const FEW: usize = 32;
+const FEW: usize = 100;
 
 impl Causes {
     // Notes the clause, and marks its variables.

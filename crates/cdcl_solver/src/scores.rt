@@ -40,7 +40,7 @@ impl Scores {
 
     /// Goes on to the next conflict. The order of the scores stays, but that some become the same.
     pub fn age(&mut self) {
-        self.gain = self.gain.saturating_add(self.gain / 19);
+        self.gain = self.gain.saturating_add(self.gain / 16);
         if self.gain > GREATEST_GAIN {
             self.gain = LEAST_GAIN;
             for score in self.scores.iter_mut() {
