@@ -60,18 +60,26 @@ fn trimmed(text: &[u8]) -> &[u8] {
     rest
 }
 
-fn expands_so(alloc: Global, part: &Part, flat: &Flat) -> Result<bool, Fail> {
-    let Some((name, kind)) = part.rest.split_once(' ') else {
-        return Err("no part".into());
-    };
+// Whether the text tells this answer.
+fn is_answer(
+    alloc: Global,
+    text: &[u8],
+    flat: &Flat,
+    answer: &Result<Expr, InlineFault>,
+) -> Result<bool, AllocError> {
+    match answer {
+        Ok(tree) => is_told(alloc, text, flat, tree),
+        Err(fault) => tells(alloc, text, flat, fault),
+    }
+}
+
+fn expands_so(alloc: Global, part: &Part, flat: &Flat) -> Result<bool, AllocError> {
+    let (name, kind) = part.rest.split_once(' ').unwrap_or((part.rest, ""));
     if !is_known(alloc, flat)? {
         return Ok(false);
     }
-    let text = trimmed(&part.body);
-    match expand(alloc, flat, name, part_kind(kind)) {
-        Ok(tree) => Ok(is_told(alloc, text, flat, &tree)?),
-        Err(fault) => Ok(tells(alloc, text, flat, &fault)?),
-    }
+    let answer = expand(alloc, flat, name, part_kind(kind));
+    is_answer(alloc, trimmed(&part.body), flat, &answer)
 }
 
 // ---- jobs
@@ -137,42 +145,71 @@ fn is_job(alloc: Global, text: &[u8], flat: &Flat, job: &Job) -> Result<bool, Al
     Ok(parts.next().is_none())
 }
 
-fn makes_so(alloc: Global, part: &Part, flat: &Flat) -> Result<bool, Fail> {
-    let mut words = part.rest.split_whitespace();
-    let (Some(init), Some(next), Some(cinit)) = (words.next(), words.next(), words.next()) else {
-        return Err("no three names".into());
-    };
+// Whether the text tells this answer.
+fn is_made(
+    alloc: Global,
+    text: &[u8],
+    flat: &Flat,
+    answer: &Result<Job, InlineFault>,
+) -> Result<bool, AllocError> {
+    match answer {
+        Ok(job) => is_job(alloc, text, flat, job),
+        Err(fault) => tells(alloc, text, flat, fault),
+    }
+}
+
+// The words from the fourth on.
+fn invariants_of(alloc: Global, rest: &str) -> Result<List<Text>, AllocError> {
     let mut invariants = Vec::new(alloc);
-    for word in words {
+    for word in rest.split_whitespace().skip(3) {
         invariants.push(Text::from_vec(Vec::from_slice(alloc, word.as_bytes())?))?;
     }
-    let invariants = List::from_vec(invariants);
+    Ok(List::from_vec(invariants))
+}
+
+fn makes_so(alloc: Global, part: &Part, flat: &Flat) -> Result<bool, AllocError> {
+    let mut words = part.rest.split_whitespace();
+    let (Some(init), Some(next), Some(cinit)) = (words.next(), words.next(), words.next()) else {
+        return Ok(false);
+    };
     let cinit = if cinit == "-" { None } else { Some(cinit) };
+    let invariants = invariants_of(alloc, part.rest)?;
     if !is_known(alloc, flat)? {
         return Ok(false);
     }
-    let text = trimmed(&part.body);
-    match job_of(alloc, flat, init, next, cinit, &invariants) {
-        Ok(job) => Ok(is_job(alloc, text, flat, &job)?),
-        Err(fault) => Ok(tells(alloc, text, flat, &fault)?),
-    }
+    let answer = job_of(alloc, flat, init, next, cinit, &invariants);
+    is_made(alloc, trimmed(&part.body), flat, &answer)
 }
 
 // ---- sets
 
-// Adds the headings of a set that expansion does not meet, and how many there are.
-fn differs(alloc: Global, case: &Case, report: &mut String) -> Result<usize, Fail> {
+// The flat module of a set, where there is one.
+fn flat_of(alloc: Global, case: &Case) -> Result<Option<Flat>, Fail> {
     let mut files = case.files(alloc)?;
     let root = case.root(alloc)?;
-    let Ok(flat) = resolve(alloc, root.as_str(), &mut files) else {
-        return Ok(0);
-    };
+    Ok(resolve(alloc, root.as_str(), &mut files).ok())
+}
+
+// Whether expansion meets the heading, where it is one of expansion.
+fn is_met(alloc: Global, part: &Part, flat: &Flat) -> Result<Option<bool>, AllocError> {
+    match part.word {
+        "expand" => Ok(Some(expands_so(alloc, part, flat)?)),
+        "job" => Ok(Some(makes_so(alloc, part, flat)?)),
+        _ => Ok(None),
+    }
+}
+
+// Adds the headings of a set that expansion does not meet, and says how many there are.
+fn differs_in(
+    alloc: Global,
+    case: &Case,
+    flat: &Flat,
+    report: &mut String,
+) -> Result<usize, AllocError> {
     let mut count: usize = 0;
     for part in &case.parts {
-        let is_met = match part.word {
-            "expand" => expands_so(alloc, part, &flat)?,
-            "job" => makes_so(alloc, part, &flat)?,
-            _ => continue,
+        let Some(is_met) = is_met(alloc, part, flat)? else {
+            continue;
         };
         count = count.saturating_add(1);
         if !is_met {
@@ -182,6 +219,13 @@ fn differs(alloc: Global, case: &Case, report: &mut String) -> Result<usize, Fai
         }
     }
     Ok(count)
+}
+
+fn differs(alloc: Global, case: &Case, report: &mut String) -> Result<usize, Fail> {
+    match flat_of(alloc, case)? {
+        Some(flat) => Ok(differs_in(alloc, case, &flat, report)?),
+        None => Ok(0),
+    }
 }
 
 fn differing(alloc: Global, text: &str) -> Result<(String, usize), Fail> {

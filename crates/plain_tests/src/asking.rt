@@ -11,22 +11,30 @@ use std::test::Fail;
 use tla_values::List;
 use tool_outside::MemoryFiles;
 
-// What the text of the module of this name says, or why it makes no job.
-fn shown(alloc: Global, name: &str, text: &[u8]) -> Result<Vec<u8>, Fail> {
+// What the text of the module in this file makes.
+fn source_of(alloc: Global, name: &str, text: &[u8]) -> Result<Source, AllocError> {
     let mut files = MemoryFiles::new(alloc, List::new(alloc));
     files.put(name, text)?;
-    match read_job(alloc, name, &mut files)? {
+    read_job(alloc, name, &mut files)
+}
+
+// What it says, or why it makes no job.
+fn said(alloc: Global, source: &Source) -> Result<Vec<u8>, AllocError> {
+    match source {
         Source::Said(_, plain) => {
             let mut out = Vec::new(alloc);
-            put_plain(&mut out, &plain)?;
+            put_plain(&mut out, plain)?;
             Ok(out)
         }
-        Source::NotBuilt => Ok(Vec::from_slice(alloc, b"not plain")?),
-        Source::Unjoined(refusal) => Ok(told(alloc, &module_line(alloc, &refusal)?)?),
-        Source::Unmade(files, fault) => {
-            Ok(told(alloc, &inline_line(alloc, files.as_slice(), &fault)?)?)
-        }
+        Source::NotBuilt => Vec::from_slice(alloc, b"not plain"),
+        Source::Unjoined(refusal) => told(alloc, &module_line(alloc, refusal)?),
+        Source::Unmade(files, fault) => told(alloc, &inline_line(alloc, files.as_slice(), fault)?),
     }
+}
+
+fn shown(alloc: Global, name: &str, text: &[u8]) -> Result<Vec<u8>, AllocError> {
+    let source = source_of(alloc, name, text)?;
+    said(alloc, &source)
 }
 
 // The cause that a line tells.
