@@ -1,19 +1,18 @@
 use Rattle.std.proofs.Common.{◌≡◌, ℕ, ◌+◌, ◌-◌, ◌<◌, ◌≤◌, inl, inr, true, List, [], ◌∷◌, ◌++◌, length, drop, take, map, All, Option, Some, None, get_or, refl, sym, ◌∙◌, ap, subst, arith, length-append}
-use Rattle.std.specs.Prelude.{Contains, MatchOption, slice_get}
+use Rattle.std.specs.Prelude.{slice_get}
 use Rattle.std.proofs.lemmas.Bool.{cases_lt}
-use Rattle.std.proofs.lemmas.List.{append-nil, length_push, get_or_push, get_or_append_left, get_or-append_right, get_or-map, length-map}
+use Rattle.std.proofs.lemmas.List.{append-nil, length_push, get_or_push, get_or-append_right, get_or-map, length-map}
 use Rattle.std.proofs.lemmas.Option.{slice_get-get_or}
 use Rattle.std.proofs.lemmas.List.Elements.{All-nil, All-push, All-weaker}
 use Rattle.sat_formula.specs.declared.lit.Lit.{Lit}
 use Rattle.sat_formula.specs.Lit.{IsBelow}
 use Rattle.sat_formula.specs.Clause.{NamesBelow}
 use Rattle.refutation_checker.specs.declared.log.Step.{Step}
-use Rattle.refutation_checker.specs.Follows.{negation, HasNoOpposites, IsUnit, known, Follows, is_empty_step}
+use Rattle.refutation_checker.specs.Follows.{negation, known, Follows, is_empty_step}
 use Rattle.refutation_checker.proofs.FollowLemmas.{EachFollows-push}
-use Rattle.refutation_checker.proofs.HintLemmas.{IsUnit-not_false}
 use Rattle.watched_search.specs.declared.entry.Entry.{Entry}
 use Rattle.watched_search.specs.Trail.{lits_of, IsFree, AreEntries}
-use Rattle.watched_search.specs.Searching.{SearchView, IsOpen, IsFalseAt, Forced, Propagates}
+use Rattle.watched_search.specs.Searching.{SearchView, IsOpen, Forced, Propagates}
 use Rattle.watched_search.proofs.TrailLemmas.{no_entry}
 use Rattle.cdcl_solver.specs.declared.deciding.Deciding.{Deciding}
 use Rattle.cdcl_solver.specs.declared.marks.Marks.{Marks}
