@@ -162,7 +162,7 @@ fn modules_that_cannot_be_joined_are_refused(rt: HostRuntime) -> Result<(), Fail
 fn extending(alloc: Global, count: usize) -> Result<(u8, Vec<u8>), Fail> {
     let mut held = MemoryFiles::new(alloc, List::new(alloc));
     let mut text = String::from_str(alloc, "---- MODULE Row ----\nEXTENDS M1")?;
-    for i in 1..count + 1 {
+    for i in 1..count.saturating_add(1) {
         let name = format!(in alloc; "M{i}.tla")?;
         let empty = format!(in alloc; "---- MODULE M{i} ----\n====\n")?;
         held.put(&name, empty.as_bytes())?;
@@ -198,12 +198,10 @@ fn at_most_sixty_four_modules_are_joined(rt: HostRuntime) -> Result<(), Fail> {
 // D0 has three nodes, and each definition one more than twice those before it.
 fn doubling(alloc: Global, last: usize) -> Result<String, AllocError> {
     let mut lines = String::from_str(alloc, "Init == x = 0\nNext == x' = x\nD0 == 1 + 1\n")?;
-    let mut before = 0;
-    while before < last {
-        let next = before + 1;
+    for before in 0..last {
+        let next = before.saturating_add(1);
         let line = format!(in alloc; "D{next} == D{before} + D{before}\n")?;
         lines.push_str(&line)?;
-        before = next;
     }
     let invariant = format!(in alloc; "Inv == D{last} = 0\n")?;
     lines.push_str(&invariant)?;
