@@ -51,13 +51,10 @@ fn is_told(alloc: Global, text: &[u8], flat: &Flat, tree: &Expr) -> Result<bool,
     is_tree(alloc, text, &names, tree)
 }
 
-// The text without the line feeds at its end.
+// The text without the line feed at its end, and without that of the line behind it.
 fn trimmed(text: &[u8]) -> &[u8] {
-    let mut rest = text;
-    while let Some(front) = rest.strip_suffix(b"\n") {
-        rest = front;
-    }
-    rest
+    let text = text.strip_suffix(b"\n").unwrap_or(text);
+    text.strip_suffix(b"\n").unwrap_or(text)
 }
 
 // Whether the text tells this answer.
