@@ -1,29 +1,26 @@
-use Rattle.std.proofs.Common.{◌≡◌, ℕ, ◌+◌, ◌<◌, ◌≤◌, inl, inr, List, [], ◌∷◌, ◌++◌, length, get_or, All, Option, Some, None, refl, sym, ◌∙◌, ap, subst, arith, length-set, append_assoc}
+use Rattle.std.proofs.Common.{◌≡◌, ◌≢◌, ℕ, ◌+◌, ◌<◌, ◌≤◌, inl, inr, List, [], ◌∷◌, ◌++◌, length, get_or, All, Option, Some, None, refl, sym, ◌∙◌, ap, subst, arith, length-set, append_assoc}
 use Rattle.std.specs.Prelude.{Contains}
 use Rattle.std.proofs.lemmas.Bool.{cases_lt}
-use Rattle.std.proofs.lemmas.List.{get_or_append_left, get_or_push, length_push, length-append, get_or_past}
-use Rattle.std.proofs.lemmas.List.Elements.{All-push}
+use Rattle.std.proofs.lemmas.List.{get_or-set_other, get_or_append_left, get_or_push, length_push, length-append, get_or_past}
+use Rattle.std.proofs.lemmas.List.Elements.{All-push, Contains-get_or}
 use Rattle.sat_formula.specs.declared.lit.Lit.{Lit}
 use Rattle.sat_formula.specs.Lit.{IsBelow}
 use Rattle.watch_chains.specs.declared.link.Link.{Link}
 use Rattle.watch_chains.specs.Chains.{place_of}
-use Rattle.watch_chains.specs.Watches.{list_at, IsSlot, IsAbsent}
+use Rattle.watch_chains.specs.Watches.{list_at, IsSlot}
 use Rattle.watched_search.specs.declared.entry.Entry.{Entry}
 use Rattle.watched_search.specs.Codes.{code}
 use Rattle.watched_search.specs.Searching.{clause_at}
 use Rattle.watched_search.specs.Watching.{HasTwo, WatchesTwo, IsWatched}
 use Rattle.watched_search.specs.inner.Keeping.{Watched, slot_of, watch_at, IsPairOf, IsPaired}
 use Rattle.watched_search.proofs.CodeLemmas.{code-same, code-below, below-code}
-use Rattle.watched_search.proofs.PairLemmas.{slot_cases, code-onto, place-same, linked_at, linked-cases, linked-later, linked-here, IsPairOf-same, watch-place, some_same, none_not_some}
+use Rattle.watched_search.proofs.PairLemmas.{slot_cases, place-same, linked_at, linked-cases, linked-later, linked-here, linked-once, IsPairOf-same, watch-place, some_same, none_not_some}
 
--- a link of a clause that is not there yet stands in no list
-pub fresh_absent : (w : Watched) (s : ℕ) → IsPaired w → IsAbsent w.chains (slot_of (length w.clauses) s)
-fresh_absent w s h = λ z lt has.
-    let u = code-onto z in
-    let codes = h.codes in
-    let below = below-code u.0 w.vars (rw (u.1) (omega arith)) in
-    let p = h.stands (slot_of (length w.clauses) s) u.0 below (subst (λ (i : ℕ). Contains (list_at w.chains i) (slot_of (length w.clauses) s)) (sym u.1) has) in
-    let bad = p.0.clause in
+-- no list has a clause that is not there yet
+pub fresh_apart : (w : Watched) (l : Lit) → IsPaired w → l.var < w.vars → All (λ m. m.clause ≢ length w.clauses) (list_at w.chains (code l))
+fresh_apart w l h below = λ j d within e.
+    let m = get_or (list_at w.chains (code l)) j d in
+    let lt = (h.stands m l below (Contains-get_or (list_at w.chains (code l)) j d within)).0.clause in
     omega arith
 
 -- what watches once two slots were added at the end
@@ -94,25 +91,12 @@ IsPaired-add_short w c h below short =
               | inr o ↦ absurd (none_not_some l (sym is ∙ second_watch w.slots None None k (omega arith)))
             ]
           ];
+      once = h.once;
     }
 
 -- the chains after both slots of a clause were linked
 abbrev pub added_chains : List (List Link) → ℕ → Lit → Lit → List (List Link)
 added_chains chains n a b = linked_at (linked_at chains (code a) (slot_of n 0)) (code b) (slot_of n 1)
-
-slots_differ : (n : ℕ) → slot_of n 0 ≡ slot_of n 1 → ⊥
-slots_differ n e = let bad : ◌≡◌ {A = ℕ} 0 1 = ap (λ (k : Link). k.slot) e in omega arith
-
-pub second_absent : (w : Watched) (a : Lit) → IsPaired w → a.var < w.vars → IsAbsent (linked_at w.chains (code a) (slot_of (length w.clauses) 0)) (slot_of (length w.clauses) 1)
-second_absent w a h below = λ z lt has.
-    let n = length w.clauses in
-    let codes = h.codes in
-    let ca = code-below a w.vars below in
-    let long = length-set w.chains (code a) (slot_of n 0 ∷ list_at w.chains (code a)) in
-    elim (linked-cases w.chains (code a) z (slot_of n 0) (slot_of n 1) (omega arith) has) [
-      | inl e ↦ absurd (slots_differ n (e.1))
-      | inr old ↦ fresh_absent w 1 h z (omega arith) old
-    ]
 
 -- a clause that two of its literals watch is added
 pub IsPaired-add_long : (w : Watched) (c : List Lit) (a b : Lit) → IsPaired w → All (IsBelow w.vars) c → a.var < w.vars → b.var < w.vars → IsPairOf c (Some a) (Some b)
@@ -126,11 +110,11 @@ IsPaired-add_long w c a b h below ba bb pair =
     let ca = code-below a w.vars ba in
     let cb = code-below b w.vars bb in
     let one = linked_at w.chains (code a) (slot_of n 0) in
-    let long = length-set w.chains (code a) (slot_of n 0 ∷ list_at w.chains (code a)) in
+    let long = length-set w.chains (code a) (list_at w.chains (code a) ++ slot_of n 0 ∷ []) in
     let la : code a < length w.chains = omega arith in
     let lb : code b < length one = omega arith in
     record {
-      codes = length-set one (code b) (slot_of n 1 ∷ list_at one (code b)) ∙ long ∙ codes;
+      codes = length-set one (code b) (list_at one (code b) ++ slot_of n 1 ∷ []) ∙ long ∙ codes;
       slots = omega arith;
       names = All-push (λ (x : List Lit). All (IsBelow w.vars) x) w.clauses c h.names below;
       pairs = added_pairs w c (Some a) (Some b) h pair;
@@ -177,6 +161,8 @@ IsPaired-add_long w c a b h below ba bb pair =
                   (linked-here one (code b) (slot_of n 1) lb)))
             ]
           ];
+      once = λ l bl. linked-once one (code b) (code l) (slot_of n 1) lb (linked-once w.chains (code a) (code l) (slot_of n 0) la (h.once l bl) (fresh_apart w a h ba))
+          (rw (get_or-set_other w.chains (code a) (code b) (list_at w.chains (code a) ++ slot_of n 0 ∷ []) [] (λ e. pair.2 (sym (code-same b a e)))) (fresh_apart w b h bb));
     }
 
 -- a clause of two different literals is watched by two

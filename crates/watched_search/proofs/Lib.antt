@@ -4,11 +4,15 @@ pub mod Examples
 pub mod HeldLemmas
 pub mod KeepLemmas
 pub mod LevelLemmas
+pub mod ListLemmas
 pub mod MoveLemmas
 pub mod PairLemmas
+pub mod RoomLemmas
 pub mod SettleLemmas
 pub mod SpanLemmas
 pub mod StartLemmas
+pub mod SwapLemmas
 pub mod TrailLemmas
+pub mod TruthLemmas
 pub mod VisitLemmas
 pub mod WalkLemmas

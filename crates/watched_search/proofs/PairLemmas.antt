@@ -1,12 +1,13 @@
-use Rattle.std.proofs.Common.{◌≡◌, ◌≢◌, ℕ, ◌+◌, ◌*◌, ◌/◌, ◌%◌, ◌<◌, ◌⊎◌, inl, inr, true, false, List, [], ◌∷◌, length, set, get_or, Option, Some, None, refl, sym, ◌∙◌, ap, subst, arith, length-set}
-use Rattle.std.specs.Prelude.{Contains}
+use Rattle.std.proofs.Common.{◌≡◌, ◌≢◌, ℕ, ◌<◌, ◌⊎◌, inl, inr, List, [], ◌∷◌, ◌++◌, length, All, set, get_or, Option, Some, None, refl, sym, ◌∙◌, ap, subst, arith, length-set}
+use Rattle.std.specs.Prelude.{Contains, AllPairs}
 use Rattle.std.proofs.lemmas.Bool.{cases_eq, cases_lt}
 use Rattle.std.proofs.lemmas.List.{get_or-set_same, get_or-set_other}
-use Rattle.std.proofs.lemmas.List.Elements.{Contains-append_left, Contains-append_right, Contains-append_cases, Contains-push}
+use Rattle.std.proofs.lemmas.List.Elements.{All-contains, Contains-append_left, Contains-get_or, Contains-push, Contains-push_cases}
+use Rattle.std.proofs.lemmas.List.Quantifiers.{all_pairs_push}
 use Rattle.sat_formula.specs.declared.lit.Lit.{Lit}
 use Rattle.watch_chains.specs.declared.link.Link.{Link}
 use Rattle.watch_chains.specs.Chains.{place_of}
-use Rattle.watch_chains.specs.Watches.{list_at, IsSlot, IsAbsent}
+use Rattle.watch_chains.specs.Watches.{list_at, IsSlot}
 use Rattle.watched_search.specs.Codes.{code}
 use Rattle.watched_search.specs.Searching.{clause_at}
 use Rattle.watched_search.specs.inner.Keeping.{Watched, slot_of, other_of, watch_at, IsPairOf, IsPaired}
@@ -32,52 +33,54 @@ place-same k m sk sm e = Link-same k m (omega arith) (omega arith)
 pub slot_cases : (s : ℕ) → s < 2 → (s ≡ 0) ⊎ (s ≡ 1)
 slot_cases s lt = elim (cases_lt s 1) [ inl z ↦ inl (omega arith) | inr o ↦ inr (omega arith) ]
 
--- each number is a literal's code
-pub code-onto : (z : ℕ) → (l : Lit) × (code l ≡ z)
-code-onto z = elim (cases_eq (z % 2) 0) [
-  | inl even ↦ let at : 2 * (z / 2) + 0 ≡ z = omega arith in (record { var = z / 2; neg = false }, at)
-  | inr odd ↦ let at : 2 * (z / 2) + 1 ≡ z = omega arith in (record { var = z / 2; neg = true }, at)
-]
-
--- the lists after a link was put to the front of one
-
-only_one : (x y : Link) → Contains (x ∷ []) y → x ≡ y
-only_one x y h = let lt : h.0 < 1 = h.1 in let z : h.0 ≡ 0 = omega arith in rw z at h.2
-
-pub cons_cases : (x : Link) (xs : List Link) (y : Link) → Contains (x ∷ xs) y → (x ≡ y) ⊎ Contains xs y
-cons_cases x xs y h = elim (Contains-append_cases (x ∷ []) xs y h) [ inl p ↦ inl (only_one x y p) | inr q ↦ inr q ]
-
-pub cons_here : (x : Link) (xs : List Link) → Contains (x ∷ xs) x
-cons_here x xs = Contains-append_left (x ∷ []) xs x (Contains-push [] x)
-
-pub cons_later : (x : Link) (xs : List Link) (y : Link) → Contains xs y → Contains (x ∷ xs) y
-cons_later x xs y h = Contains-append_right (x ∷ []) xs y h
+-- the lists after a link was put to the end of one
 
 abbrev pub linked_at : List (List Link) → ℕ → Link → List (List Link)
-linked_at lists y k = set lists y (k ∷ list_at lists y)
+linked_at lists y k = set lists y (list_at lists y ++ k ∷ [])
 
 pub linked-cases : (lists : List (List Link)) (y z : ℕ) (k m : Link) → y < length lists → Contains (list_at (linked_at lists y k) z) m
     → ((z ≡ y) × (k ≡ m)) ⊎ Contains (list_at lists z) m
 linked-cases lists y z k m lt has = elim (cases_eq z y) [
   | inl here ↦
-      (let at : list_at (linked_at lists y k) z ≡ k ∷ list_at lists y = ap (λ (i : ℕ). list_at (linked_at lists y k) i) here ∙ get_or-set_same lists y (k ∷ list_at lists y) [] lt in
-      elim (cons_cases k (list_at lists y) m (rw at at has)) [
-        | inl e ↦ inl (here, e)
-        | inr old ↦ inr (subst (λ (i : ℕ). Contains (list_at lists i) m) (sym here) old)
+      (let at : list_at (linked_at lists y k) z ≡ list_at lists y ++ k ∷ [] = ap (λ (i : ℕ). list_at (linked_at lists y k) i) here ∙ get_or-set_same lists y (list_at lists y ++ k ∷ []) [] lt in
+      elim (Contains-push_cases (list_at lists y) k m (rw at at has)) [
+        | inl old ↦ inr (subst (λ (i : ℕ). Contains (list_at lists i) m) (sym here) old)
+        | inr e ↦ inl (here, e)
       ])
-  | inr apart ↦ inr (rw (get_or-set_other lists y z (k ∷ list_at lists y) [] apart) at has)
+  | inr apart ↦ inr (rw (get_or-set_other lists y z (list_at lists y ++ k ∷ []) [] apart) at has)
 ]
 
 pub linked-later : (lists : List (List Link)) (y z : ℕ) (k m : Link) → y < length lists → Contains (list_at lists z) m → Contains (list_at (linked_at lists y k) z) m
 linked-later lists y z k m lt has = elim (cases_eq z y) [
   | inl here ↦
-      (let at : list_at (linked_at lists y k) z ≡ k ∷ list_at lists y = ap (λ (i : ℕ). list_at (linked_at lists y k) i) here ∙ get_or-set_same lists y (k ∷ list_at lists y) [] lt in
-      rw at (cons_later k (list_at lists y) m (subst (λ (i : ℕ). Contains (list_at lists i) m) here has)))
-  | inr apart ↦ rw (get_or-set_other lists y z (k ∷ list_at lists y) [] apart) has
+      (let at : list_at (linked_at lists y k) z ≡ list_at lists y ++ k ∷ [] = ap (λ (i : ℕ). list_at (linked_at lists y k) i) here ∙ get_or-set_same lists y (list_at lists y ++ k ∷ []) [] lt in
+      rw at (Contains-append_left (list_at lists y) (k ∷ []) m (subst (λ (i : ℕ). Contains (list_at lists i) m) here has)))
+  | inr apart ↦ rw (get_or-set_other lists y z (list_at lists y ++ k ∷ []) [] apart) has
 ]
 
 pub linked-here : (lists : List (List Link)) (y : ℕ) (k : Link) → y < length lists → Contains (list_at (linked_at lists y k) y) k
-linked-here lists y k lt = rw (get_or-set_same lists y (k ∷ list_at lists y) [] lt) (cons_here k (list_at lists y))
+linked-here lists y k lt = rw (get_or-set_same lists y (list_at lists y ++ k ∷ []) [] lt) (Contains-push (list_at lists y) k)
+
+-- no clause stands twice in one of these lists
+abbrev pub Once : List Link → Type 0
+Once list = AllPairs (λ a b. a.clause ≢ b.clause) list
+
+pub linked-once : (lists : List (List Link)) (y z : ℕ) (k : Link) → y < length lists → Once (list_at lists z) → All (λ m. m.clause ≢ k.clause) (list_at lists y)
+    → Once (list_at (linked_at lists y k) z)
+linked-once lists y z k lt once apart = elim (cases_eq z y) [
+  | inl here ↦
+      (let at : list_at (linked_at lists y k) z ≡ list_at lists y ++ k ∷ [] = ap (λ (i : ℕ). list_at (linked_at lists y k) i) here ∙ get_or-set_same lists y (list_at lists y ++ k ∷ []) [] lt in
+      rw at (all_pairs_push (λ a b. a.clause ≢ b.clause) (list_at lists y) k (subst (λ (i : ℕ). Once (list_at lists i)) here once) apart))
+  | inr other ↦ rw (get_or-set_other lists y z (list_at lists y ++ k ∷ []) [] other) once
+]
+
+pub replaced-once : (lists : List (List Link)) (x z : ℕ) (list : List Link) → x < length lists → Once list → Once (list_at lists z) → Once (list_at (set lists x list) z)
+replaced-once lists x z list lt left once = elim (cases_eq z x) [
+  | inl here ↦
+      (let at : list_at (set lists x list) z ≡ list = ap (λ (i : ℕ). list_at (set lists x list) i) here ∙ get_or-set_same lists x list [] lt in
+      rw at left)
+  | inr other ↦ rw (get_or-set_other lists x z list [] other) once
+]
 
 -- a list is replaced by one that lacks k alone
 pub replaced-in : (lists : List (List Link)) (x z : ℕ) (list : List Link) (m : Link) → x < length lists → ((n : Link) → Contains list n → Contains (list_at lists x) n)
@@ -186,12 +189,27 @@ moved_pair w k l v h s at has apart c lt =
 abbrev pub moved_chains : List (List Link) → Lit → List Link → Lit → Link → List (List Link)
 moved_chains chains l list v k = linked_at (set chains (code l) list) (code v) k
 
+-- a literal that watches in neither slot of a clause does not have it in its list
+pub clause_apart : (w : Watched) (k m : Link) (l v : Lit) → IsPaired w → v.var < w.vars → IsSlot (length w.clauses) k → watch_at w.slots k ≡ Some l → v ≢ l
+    → ((u : Lit) → watch_at w.slots (other_of k) ≡ Some u → v ≢ u) → Contains (list_at w.chains (code v)) m → m.clause ≢ k.clause
+clause_apart w k m l v h bv s at other apart has e =
+    let p = h.stands m v bv has in
+    let ns = p.0 in
+    let slot = s.slot in
+    let slot' = ns.slot in
+    elim (cases_eq m.slot k.slot) [
+      | inl same ↦
+          (let it : m ≡ k = place-same m k slot' slot (omega arith) in
+          other (some_same v l (sym p.1 ∙ ap (λ (n : Link). watch_at w.slots n) it ∙ at)))
+      | inr differs ↦ apart v (watch-place w.slots (other_of k) m (omega arith) ∙ p.1) refl
+    ]
+
 pub IsPaired-move : (w : Watched) (k : Link) (l v : Lit) (list : List Link) → IsPaired w → l.var < w.vars → v.var < w.vars → IsSlot (length w.clauses) k
-    → watch_at w.slots k ≡ Some l → Contains (clause_at w.clauses k.clause) v → ((m : Lit) → watch_at w.slots (other_of k) ≡ Some m → v ≢ m)
-    → IsAbsent (set w.chains (code l) list) k → ((n : Link) → Contains list n → Contains (list_at w.chains (code l)) n)
+    → watch_at w.slots k ≡ Some l → Contains (clause_at w.clauses k.clause) v → v ≢ l → ((m : Lit) → watch_at w.slots (other_of k) ≡ Some m → v ≢ m)
+    → Once list → All (λ m. m.clause ≢ k.clause) list → ((n : Link) → Contains list n → Contains (list_at w.chains (code l)) n)
     → ((n : Link) → Contains (list_at w.chains (code l)) n → (n ≡ k) ⊎ Contains list n)
     → IsPaired (record w { slots = set w.slots (place_of k) (Some v); chains = moved_chains w.chains l list v k })
-IsPaired-move w k l v list h bl bv s at has apart absent sub rest =
+IsPaired-move w k l v list h bl bv s at has differs apart once gone sub rest =
     let clause = s.clause in
     let slot = s.slot in
     let sized = h.slots in
@@ -204,7 +222,7 @@ IsPaired-move w k l v list h bl bv s at has apart absent sub rest =
     let into : code v < length one = omega arith in
     let within : place_of k < length w.slots = omega arith in
     record {
-      codes = length-set one (code v) (k ∷ list_at one (code v)) ∙ long ∙ codes;
+      codes = length-set one (code v) (list_at one (code v) ++ k ∷ []) ∙ long ∙ codes;
       slots = length-set w.slots (place_of k) (Some v) ∙ sized;
       names = h.names;
       pairs = moved_pair w k l v h s at has apart;
@@ -217,9 +235,12 @@ IsPaired-move w k l v list h bl bv s at has apart absent sub rest =
             ))
         | inr old ↦
             (let was = h.stands m u bu (replaced-in w.chains (code l) (code u) list m lt sub old) in
-            let cu = code-below u w.vars bu in
             let ns = was.0 in
-            let apart' : place_of m ≡ place_of k → ⊥ = λ e. absent (code u) (omega arith) (subst (λ (n : Link). Contains (list_at one (code u)) n) (place-same m k ns.slot slot e) old) in
+            let apart' : place_of m ≡ place_of k → ⊥ = λ e.
+            let it : m ≡ k = place-same m k ns.slot slot e in
+            let same : u ≡ l = some_same u l (sym was.1 ∙ ap (λ (n : Link). watch_at w.slots n) it ∙ at) in
+            let in' : Contains list m = rw (get_or-set_same w.chains (code l) list [] lt) at (subst (λ (x : Lit). Contains (list_at one (code x)) m) same old) in
+            All-contains (λ n. n.clause ≢ k.clause) list m gone in' (ap (λ (n : Link). n.clause) it) in
             (was.0, get_or-set_other w.slots (place_of k) (place_of m) (Some v) None apart' ∙ was.1))
       ];
       linked = λ m u ms is. elim (cases_eq (place_of m) (place_of k)) [
@@ -235,4 +256,7 @@ IsPaired-move w k l v list h bl bv s at has apart absent sub rest =
               | inr left ↦ linked-later one (code v) (code u) k m into left
             ])
       ];
+      once = λ u bu. linked-once one (code v) (code u) k into (replaced-once w.chains (code l) (code u) list lt once (h.once u bu))
+          (rw (get_or-set_other w.chains (code l) (code v) list [] (λ e. differs (code-same v l e)))
+          (λ j d within. clause_apart w k (get_or (list_at w.chains (code v)) j d) l v h bv s at differs apart (Contains-get_or (list_at w.chains (code v)) j d within)));
     }

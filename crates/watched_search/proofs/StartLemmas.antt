@@ -196,9 +196,6 @@ not_false false e f = cc
 at_limit : (limit x : ℕ) → not (nat_lt x limit) ≡ true → limit ≤ x
 at_limit limit x e = elim (cases_lt x limit) [ inl less ↦ absurd (not_false (nat_lt x limit) e (lt-ltb x limit less)) | inr ge ↦ omega arith ]
 
-pub starts_below-in : (limit : ℕ) (starts : List ℕ) (s : ℕ) → Contains starts s → s < limit → Contains (starts_below limit starts) s
-starts_below-in limit starts s h lt = passed_in (λ x. nat_lt x limit) starts s h (lt-ltb s limit lt)
-
 pub in-starts_below : (limit : ℕ) (starts : List ℕ) (s : ℕ) → Contains (starts_below limit starts) s → Contains starts s × (s < limit)
 in-starts_below limit starts s h = let p = passed_from (λ x. nat_lt x limit) starts s h in (p.0, ltb-true s limit p.1)
 
@@ -229,14 +226,6 @@ rising_first starts limit h least has =
           absurd (omega arith))
       | inr front ↦ let zero_at : i ≡ 0 = omega arith in rw zero_at at here
     ])
-
--- a start at the place itself is the first that is gone
-pub starts_from-at : (limit : ℕ) (starts : List ℕ) → Rising starts → Contains starts limit → slice_get (starts_from limit starts) 0 ≡ Some limit
-starts_from-at limit starts h has =
-    let test : ℕ → Bool = λ x. not (nat_lt x limit) in
-    rising_first (starts_from limit starts) limit (AllPairs-filter (λ s t. s < t) test starts h)
-    (All-weaker (λ x. test x ≡ true) (λ x. limit ≤ x) (λ x e. at_limit limit x e) (starts_from limit starts) (filter_passes test starts))
-    (passed_in test starts limit has (not_below limit))
 
 -- none is behind the last
 pub starts-last : (starts : List ℕ) (s t : ℕ) → Rising starts → slice_get starts (length starts - 1) ≡ Some s → Contains starts t → t ≤ s

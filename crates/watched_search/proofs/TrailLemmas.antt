@@ -8,10 +8,10 @@ use Rattle.std.proofs.lemmas.List.Elements.{All-push, All-contains, Contains-get
 use Rattle.sat_formula.specs.declared.lit.Lit.{Lit}
 use Rattle.sat_formula.specs.Lit.{IsBelow}
 use Rattle.refutation_checker.specs.Marks.{TellsValue}
-use Rattle.refutation_checker.specs.Follows.{negation, HasNoOpposites}
+use Rattle.refutation_checker.specs.Follows.{negation}
 use Rattle.refutation_checker.proofs.TrailLemmas.{Lit-same, told, not_not}
 use Rattle.watched_search.specs.declared.entry.Entry.{Entry}
-use Rattle.watched_search.specs.Trail.{lits_of, IsFree, DistinctVars, IsPlaceOf}
+use Rattle.watched_search.specs.Trail.{lits_of, IsFree, IsPlaceOf}
 use Rattle.watched_search.specs.inner.Tables.{Marks, Marked, Placed, Tabled}
 
 pub lits-append : (xs ys : List Entry) → lits_of (xs ++ ys) ≡ lits_of xs ++ lits_of ys
@@ -250,17 +250,3 @@ place_none marks T v h lt e = λ k d at same.
     let m = (get_or T k d).lit in
     let told = (h.agree m (rw same lt)).1 (lit_of-entry T k d at) in
     none_not_some (not m.neg) (sym e ∙ ap (λ (x : ℕ). get_or marks x None) (sym same) ∙ told)
-
--- no literal is true beside its negation
-pub no_opposites : (es : List Entry) → DistinctVars es → HasNoOpposites (lits_of es)
-no_opposites es h l p q =
-    let i = entry_of es l no_entry p in
-    let j = entry_of es (negation l) no_entry q in
-    let same : (get_or es i.0 no_entry).lit.var ≡ (get_or es j.0 no_entry).lit.var = ap (λ (x : Lit). x.var) i.2 ∙ sym (ap (λ (x : Lit). x.var) j.2) in
-    elim (cases_lt i.0 j.0) [
-      | inl before ↦ absurd (h i.0 j.0 no_entry before j.1 same)
-      | inr ge ↦ elim (cases_eq i.0 j.0) [
-        | inl at ↦ absurd (not_itself l.neg (ap (λ (x : Lit). x.neg) (sym i.2 ∙ ap (λ (k : ℕ). (get_or es k no_entry).lit) at ∙ j.2)))
-        | inr apart ↦ absurd (h j.0 i.0 no_entry (omega arith) i.1 (sym same))
-      ]
-    ]

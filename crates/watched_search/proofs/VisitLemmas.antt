@@ -1,4 +1,4 @@
-use Rattle.std.proofs.Common.{◌≡◌, ℕ, ◌+◌, ◌-◌, ◌<◌, ◌≤◌, ◌⊎◌, inl, inr, Bool, true, false, All, List, [], ◌∷◌, ◌++◌, length, Option, Some, None, refl, sym, ◌∙◌, ap, subst, arith}
+use Rattle.std.proofs.Common.{◌≡◌, ℕ, ◌+◌, ◌-◌, ◌<◌, ◌≤◌, ◌⊎◌, inl, inr, Bool, true, false, All, List, [], ◌∷◌, ◌++◌, length, Some, None, refl, sym, ◌∙◌, ap, subst, arith}
 use Rattle.std.specs.Prelude.{Contains, nat_lt}
 use Rattle.std.proofs.lemmas.Bool.{cases_lt, lt-ltb, ltb-true}
 use Rattle.std.proofs.lemmas.List.{get_or_default}
@@ -12,24 +12,21 @@ use Rattle.watched_search.specs.declared.entry.Entry.{Entry}
 use Rattle.watched_search.specs.Trail.{TrailView, lits_of, IsFree}
 use Rattle.watched_search.specs.Searching.{clause_at, lit_at, HasTrue, IsForced}
 use Rattle.watched_search.specs.inner.Keeping.{Watched, other_of, watch_at, IsPaired, IsKept}
-use Rattle.watched_search.specs.inner.Moving.{IsAt, IsStanding, IsMoved}
+use Rattle.watched_search.specs.inner.Moving.{IsAt, IsMoved}
 use Rattle.watched_search.specs.inner.Visiting.{IsReplacement, turned_by, Advances}
 use Rattle.watched_search.proofs.TrailLemmas.{lits-append}
 use Rattle.watched_search.proofs.PairLemmas.{pair_of, some_same}
-use Rattle.watched_search.proofs.MoveLemmas.{at_in}
+use Rattle.watched_search.proofs.MoveLemmas.{at_slot}
 use Rattle.watched_search.proofs.WalkLemmas.{IsDriven-refl, IsDriven-push}
 use Rattle.watched_search.proofs.KeepLemmas.{IsKept-push, IsKept-move}
 
 -- what watches where the walk has come to
-module _ (w : Watched) (l : Lit) (before : Option Link) (k : Link) (other : Lit) (paired : IsPaired w) (standing : IsStanding w l before k other) where
-  pub standing_slot : IsSlot (length w.clauses) k × (watch_at w.slots k ≡ Some l)
-  standing_slot = paired.stands k l standing.below (at_in w l before k standing.front standing.rest standing.at)
-
-  pub other_member : Contains (clause_at w.clauses k.clause) other
-  other_member =
-      let p = pair_of w k l paired standing_slot.0 standing_slot.1 in
-      let same : p.0 ≡ other = some_same p.0 other (sym p.1 ∙ standing.watch) in
-      rw same at p.3
+pub other_member : (w : Watched) (l : Lit) (i : ℕ) (k : Link) (other : Lit) → IsPaired w → IsAt w l i k → watch_at w.slots (other_of k) ≡ Some other → Contains (clause_at w.clauses k.clause) other
+other_member w l i k other paired at watch =
+    let st = at_slot w l i k paired at in
+    let p = pair_of w k l paired st.0 st.1 in
+    let same : p.0 ≡ other = some_same p.0 other (sym p.1 ∙ watch) in
+    rw same at p.3
 
 -- no literal but one is not false
 pub unit_of : (T c : List Lit) (other : Lit) → IsReplacement T c other None → Contains c other → IsFree T other → IsUnit T c other
@@ -51,9 +48,9 @@ pub entries_true : (es : List Entry) (e : Entry) (c : List Lit) → Contains c e
 entries_true es e c has = rw (lits-append es (e ∷ [])) (pushed_true (lits_of es) c e.lit has)
 
 -- another literal watches
-pub Advances-move : (w new : Watched) (t : TrailView) (l v : Lit) (before : Option Link) (k : Link) → IsPaired w → IsPaired new → IsSlot (length w.clauses) k → IsMoved w new l before k v
+pub Advances-move : (w new : Watched) (t : TrailView) (l v : Lit) (i : ℕ) (k : Link) → IsPaired w → IsPaired new → IsSlot (length w.clauses) k → IsMoved w new l i k v
     → (Contains (lits_of t.entries) (negation v) → ⊥) → Advances w new t t
-Advances-move w new t l v before k h paired s moved free =
+Advances-move w new t l v i k h paired s moved free =
     let clause = s.clause in
     let slot = s.slot in
     let sized = h.slots in
@@ -64,10 +61,6 @@ Advances-move w new t l v before k h paired s moved free =
       driven = IsDriven-refl w.clauses t;
       kept = λ p kept. subst (λ (x : Watched). IsKept x t p) (sym moved.same) (IsKept-move w t p k v new.chains (omega arith) free kept);
     }
-
-pub standing_of : (w : Watched) (l : Lit) (before : Option Link) (k : Link) (other : Lit) → l.var < w.vars → (front : List Link) × (rest : List Link) × IsAt w l before k front rest
-    → watch_at w.slots (other_of k) ≡ Some other → IsStanding w l before k other
-standing_of w l before k other below at watch = record { below = below; front = at.0; rest = at.1; at = at.2; watch = watch }
 
 not_ltb : (b : Bool) → (b ≡ true → ⊥) → b ≡ false
 not_ltb true h = absurd (h refl)

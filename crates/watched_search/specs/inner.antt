@@ -1,4 +1,5 @@
 pub mod Keeping
+pub mod Lists
 pub mod Moving
 pub mod Spans
 pub mod Tables

@@ -11,6 +11,7 @@ mod clauses;
 mod codes;
 mod entry;
 mod levels;
+mod lists;
 mod pairing;
 mod propagation;
 mod searching;

@@ -1,6 +1,6 @@
 //! Clauses with two literals that watch each.
 
-ghost use Rattle.std.specs.Prelude.{◌≡◌, ◌≢◌, ℕ, ◌+◌, ◌*◌, ◌^◌, ◌<◌, ◌≤◌, ◌++◌, ◌∷◌, [], List, length, IfOk, OnOk, OnErr, All, AllPairs, Contains, slice_get, Some};
+ghost use Rattle.std.specs.Prelude.{◌≡◌, ◌≢◌, ◌+◌, ◌*◌, ◌^◌, ◌<◌, ◌≤◌, ◌++◌, ◌∷◌, [], length, replicate, IfOk, OnOk, OnErr, All, Contains, slice_index_or, Some};
 ghost use Rattle.sat_formula.specs.declared.lit.Lit.{Lit as Literal};
 ghost use Rattle.sat_formula.specs.Lit.{IsBelow};
 ghost use Rattle.watch_chains.specs.declared.link.Link.{Link as Place};
@@ -10,42 +10,46 @@ ghost use Rattle.watched_search.specs.Codes.{code};
 ghost use Rattle.watched_search.specs.Searching.{clause_at, lit_at};
 ghost use Rattle.watched_search.specs.inner.Keeping.{slot_of, other_of, watch_at, IsPaired};
 ghost use Rattle.watched_search.specs.inner.Spans.{watching, IsSmall};
+ghost use Rattle.watched_search.specs.inner.Lists.{link_of as link_in, no_list, IsRoomier, MakesRoom};
 ghost use Rattle.watched_search.specs.inner.Moving.{IsAt, IsMoved, IsPair, IsAdded};
 
 use crate::clauses::Store;
 use crate::codes::{code_of, literal_of};
+use crate::lists::{Watch, WatchList};
 use sat_formula::Lit;
 use std::alloc::{AllocError, Global};
 use std::marker::Model;
-use watch_chains::{Link, WatchChains};
+use watch_chains::Link;
 
 // Codes of literals have at most 32 bits, and one such number stands where nothing watches.
 const MOST_VARS: usize = 2_147_483_647;
 
 const NOTHING: u32 = 4_294_967_295;
 
-/// A link in the chain of a literal, and the link that stands before it there, if one does.
+/// A link, and where it stands in the list of a literal.
 #[derive(Clone, Copy, Debug)]
 pub struct Standing {
     pub lit: Lit,
-    pub before: Option<Link>,
+    pub place: usize,
     pub link: Link,
 }
 
 /// Clauses over the variables below a fixed number. Two different literals of a clause watch it,
-/// where it has them: each of its two slots stands in the chain of one.
+/// where it has them: each of its two slots stands in the list of one. A list has room for each clause
+/// that names its literal, so that a watch can move without memory.
 #[derive(Drop)]
 pub struct WatchedClauses {
     vars: usize,
     store: Store,
     // What watches in each slot, two for each clause, as a number.
     slots: Vec<u32>,
-    chains: WatchChains,
+    lists: Vec<WatchList>,
 }
 
 impl Model for WatchedClauses {
-    ghost use Rattle.std.specs.Prelude.{length, ◌^◌, ◌<◌, ◌≤◌};
+    ghost use Rattle.std.specs.Prelude.{All, ◌^◌, ◌<◌};
     ghost use Rattle.watched_search.specs.inner.Keeping.{Watched, IsPaired};
+    ghost use Rattle.watched_search.specs.inner.Lists.{links_in, AreBlocked, HasRoom};
     ghost use Rattle.watched_search.specs.inner.Spans.{watching_in};
 
     ghost Value = { Watched };
@@ -54,12 +58,13 @@ impl Model for WatchedClauses {
       vars = w.vars;
       clauses = w.store;
       slots = watching_in w.slots.items;
-      chains = w.chains.lists;
+      chains = links_in w.lists.items;
     } };
 
     ghost invariant = { λ w.
-        IsPaired (record { vars = w.vars; clauses = w.store; slots = watching_in w.slots.items; chains = w.chains.lists })
-        × (length w.store ≤ w.chains.room)
+        IsPaired (record { vars = w.vars; clauses = w.store; slots = watching_in w.slots.items; chains = links_in w.lists.items })
+        × All (AreBlocked w.store) w.lists.items
+        × HasRoom w.vars w.store w.lists.items
         × (w.vars < 2 ^ 31) };
 }
 
@@ -72,12 +77,12 @@ impl WatchedClauses {
         if vars > MOST_VARS {
             return Err(AllocError);
         }
-        let chains = WatchChains::new(alloc, 2 * vars)?;
+        let lists = empty_lists(alloc, 2 * vars)?;
         Ok(WatchedClauses {
             vars,
             store: Store::new(alloc),
             slots: Vec::new(alloc),
-            chains,
+            lists,
         })
     }
 
@@ -158,40 +163,67 @@ impl WatchedClauses {
         watch_of(self.slots[place(other)]).unwrap()
     }
 
-    /// The first link of the literal's chain.
-    pub fn first(&self, l: Lit) -> Option<Link>
+    /// How many clauses the literal watches.
+    pub fn len(&self, l: Lit) -> usize
         requires { l.var < self.now.vars }
-        ensures front { result ≡ slice_get (list_at self.now.chains (code l)) 0 }
-        ensures paired { IsPaired self.now }
+        ensures { result ≡ length (list_at self.now.chains (code l)) }
     {
-        self.chains.first(code_of(l))
+        let _ = &self.store;
+        self.lists[code_of(l)].len()
     }
 
-    /// The link behind this one in the literal's chain.
-    pub fn next_of(&self, l: Lit, k: Link) -> Option<Link>
+    /// The link at this place of the literal's list.
+    pub fn link(&self, l: Lit, i: usize) -> Link
         requires below { l.var < self.now.vars }
-        requires linked { Contains (list_at self.now.chains (code l)) k }
-        ensures next { (front rest : List Place) → list_at self.now.chains (code l) ≡ front ++ k ∷ rest → result ≡ slice_get rest 0 }
-        ensures once { AllPairs (λ a b. a ≢ b) (list_at self.now.chains (code l)) }
+        requires place { i < length (list_at self.now.chains (code l)) }
+        ensures { slice_index_or (list_at self.now.chains (code l)) i result ≡ result }
     {
-        let _ = self.chains.first(code_of(l));
-        self.chains.next_of(code_of(l), k)
+        let _ = &self.store;
+        link_of(self.lists[code_of(l)].get(i))
     }
 
-    /// Lets `v` watch in the slot of the link in the place of the literal in whose chain it stands.
+    /// A literal of the clause, which its watch has at hand.
+    pub fn blocker(&self, at: Standing) -> Lit
+        requires { IsAt self.now at.lit at.place at.link }
+        ensures member { Contains (clause_at self.now.clauses at.link.clause) result }
+        ensures below { result.var < self.now.vars }
+    {
+        let _ = &self.store;
+        literal_of(self.lists[code_of(at.lit)].get(at.place).blocker as usize)
+    }
+
+    /// Lets the watch have another literal of the clause at hand.
+    pub fn set_blocker(&mut self, at: Standing, l: Lit)
+        requires at { IsAt self.old at.lit at.place at.link }
+        requires member { Contains (clause_at self.old.clauses at.link.clause) l }
+        requires below { l.var < self.old.vars }
+        ensures { self.new ≡ self.old }
+    {
+        let _ = &self.store;
+        let list = code_of(at.lit);
+        let watch = self.lists[list].get(at.place);
+        self.lists[list].replace(
+            at.place,
+            Watch {
+                link: watch.link,
+                blocker: code_of(l) as u32,
+            },
+        );
+    }
+
+    /// Lets `v` watch in the slot of the link in the place of the literal in whose list it stands.
     pub fn move_to(&mut self, at: Standing, v: Lit)
-        requires old { at.lit.var < self.old.vars }
+        requires at { IsAt self.old at.lit at.place at.link }
         requires new { v.var < self.old.vars }
         requires other { v ≢ at.lit }
-        requires at { (front : List Place) × (rest : List Place) × IsAt self.old at.lit at.before at.link front rest }
         requires member { Contains (clause_at self.old.clauses at.link.clause) v }
         requires apart { (m : Literal) → watch_at self.old.slots (other_of at.link) ≡ Some m → v ≢ m }
-        ensures moved { IsMoved self.old self.new at.lit at.before at.link v }
+        ensures moved { IsMoved self.old self.new at.lit at.place at.link v }
         ensures paired { IsPaired self.new }
     {
-        let _ = self.chains.unlink(code_of(at.lit), at.before);
-        self.chains.link(code_of(v), at.link);
-        self.slots[place(at.link)] = number_of(Some(v));
+        let watch = self.lists[code_of(at.lit)].take_out(at.place);
+        self.lists[code_of(v)].push(watch);
+        self.slots[watch.link as usize] = number_of(Some(v));
     }
 
     /// Adds a clause at the end, watched by its first literal and the first that differs from it. A
@@ -202,7 +234,10 @@ impl WatchedClauses {
         ensures err { OnErr result (self.new ≡ self.old) }
     {
         let c = self.store.count();
-        self.chains.reserve(c + 1)?;
+        if c >= MOST_VARS {
+            return Err(AllocError);
+        }
+        make_room(&mut self.lists, clause)?;
         self.slots.reserve(2)?;
         self.store.push(clause)?;
         match pair_of(clause) {
@@ -213,11 +248,52 @@ impl WatchedClauses {
             Some((a, b)) => {
                 self.slots.push_reserved(number_of(Some(a)));
                 self.slots.push_reserved(number_of(Some(b)));
-                self.chains.link(code_of(a), Link { clause: c, slot: 0 });
-                self.chains.link(code_of(b), Link { clause: c, slot: 1 });
+                let first = code_of(a);
+                let second = code_of(b);
+                self.lists[first].push(Watch {
+                    link: 2 * c as u32,
+                    blocker: second as u32,
+                });
+                self.lists[second].push(Watch {
+                    link: 2 * c as u32 + 1,
+                    blocker: first as u32,
+                });
             }
         }
         Ok(())
+    }
+}
+
+// So many lists with nothing in them.
+fn empty_lists(alloc: Global, count: usize) -> Result<Vec<WatchList>, AllocError>
+    ensures { IfOk result (λ v. v.items ≡ replicate count no_list) }
+{
+    let mut lists = Vec::with_capacity(alloc, count)?;
+    for _ in 0..count {
+        lists.push(WatchList::new(alloc))?;
+    }
+    Ok(lists)
+}
+
+// Makes room for one more watch of each literal of the clause.
+fn make_room(lists: &mut Vec<WatchList>, clause: &[Lit]) -> Result<(), AllocError>
+    requires { All (λ l. code l < length lists.old.items) clause.now }
+    ensures roomier { IsRoomier lists.old.items lists.new.items }
+    ensures room { OnOk result (MakesRoom lists.old.items lists.new.items clause.now) }
+{
+    for l in clause {
+        lists[code_of(*l)].make_room()?;
+    }
+    Ok(())
+}
+
+// The link of a watch.
+fn link_of(watch: Watch) -> Link
+    ensures { result ≡ link_in watch }
+{
+    Link {
+        clause: (watch.link / 2) as usize,
+        slot: (watch.link % 2) as u8,
     }
 }
 

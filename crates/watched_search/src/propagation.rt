@@ -25,8 +25,8 @@ pub struct Progress {
     pub ready: usize,
 }
 
-// What becomes of a link in the chain of a literal that is false: it stays, since its clause is
-// true, it goes to another chain, or its clause is false.
+// What becomes of a link in the list of a literal that is false: it stays, since its clause is true,
+// it goes to another list, or its clause is false.
 #[derive(Clone, Copy, Debug)]
 pub enum Visit {
     Stays,
@@ -40,10 +40,10 @@ fn move_watch(watched: &mut WatchedClauses, trail: &Trail, at: Standing, other: 
     requires room { watched.old.vars ≡ trail.now.room }
     requires is_false { Contains (lits_of trail.now.entries) (negation at.lit) }
     requires paired { IsPaired watched.old }
-    requires at { IsStanding watched.old at.lit at.before at.link other }
+    requires at { IsStanding watched.old at.lit at.place at.link other }
     ensures advances { Advances watched.old watched.new trail.now trail.now }
     ensures moved { MatchBool result
-        ((v : Literal) × IsMoved watched.old watched.new at.lit at.before at.link v)
+        ((v : Literal) × IsMoved watched.old watched.new at.lit at.place at.link v)
         ((watched.new ≡ watched.old) × IsReplacement (lits_of trail.now.entries) (clause_at watched.old.clauses at.link.clause) other None) }
 {
     match replacement(watched, trail, at.link.clause, other) {
@@ -57,62 +57,72 @@ fn move_watch(watched: &mut WatchedClauses, trail: &Trail, at: Standing, other: 
     }
 }
 
-// Looks at the clause of a link in the chain of a false literal.
-fn visit_link(watched: &mut WatchedClauses, trail: &mut Trail, at: Standing) -> Visit
+// Looks at the clause of a link in the list of a false literal.
+fn visit_clause(watched: &mut WatchedClauses, trail: &mut Trail, at: Standing) -> Visit
     requires room { watched.old.vars ≡ trail.old.room }
-    requires below { at.lit.var < watched.old.vars }
     requires is_false { Contains (lits_of trail.old.entries) (negation at.lit) }
-    requires at { (front : List Place) × (rest : List Place) × IsAt watched.old at.lit at.before at.link front rest }
+    requires at { IsAt watched.old at.lit at.place at.link }
     ensures advances { Advances watched.old watched.new trail.old trail.new }
-    ensures visited { IsVisited watched.old watched.new trail.new at.lit at.before at.link result }
+    ensures visited { IsVisited watched.old watched.new trail.new at.lit at.place at.link result }
 {
     let other = watched.other_watch(at.lit, at.link);
-    match trail.value(other) {
-        Some(true) => Visit::Stays,
-        Some(false) => {
-            if move_watch(watched, trail, at, other) {
-                Visit::Moves
-            } else {
-                Visit::Fails
-            }
-        }
-        None => {
-            if move_watch(watched, trail, at, other) {
-                return Visit::Moves;
-            }
-            trail.push(Entry {
-                lit: other,
-                reason: Some(at.link.clause),
-            });
-            Visit::Stays
-        }
+    if trail.is_true(other) {
+        watched.set_blocker(at, other);
+        return Visit::Stays;
     }
+    if move_watch(watched, trail, at, other) {
+        return Visit::Moves;
+    }
+    if trail.is_true(other.negated()) {
+        return Visit::Fails;
+    }
+    trail.push(Entry {
+        lit: other,
+        reason: Some(at.link.clause),
+    });
+    Visit::Stays
+}
+
+// Looks at the clause of a link in the list of a false literal, unless the literal that is at hand
+// makes it true.
+fn visit_link(watched: &mut WatchedClauses, trail: &mut Trail, at: Standing) -> Visit
+    requires room { watched.old.vars ≡ trail.old.room }
+    requires is_false { Contains (lits_of trail.old.entries) (negation at.lit) }
+    requires paired { IsPaired watched.old }
+    requires at { IsAt watched.old at.lit at.place at.link }
+    ensures advances { Advances watched.old watched.new trail.old trail.new }
+    ensures visited { IsVisited watched.old watched.new trail.new at.lit at.place at.link result }
+{
+    let blocker = watched.blocker(at);
+    if trail.is_true(blocker) {
+        return Visit::Stays;
+    }
+    visit_clause(watched, trail, at)
 }
 
 // Looks at the clauses that a false literal watches, and makes true what they force. Answers the
 // number of one that is false.
-fn visit_chain(watched: &mut WatchedClauses, trail: &mut Trail, l: Lit) -> Option<usize>
+fn visit_list(watched: &mut WatchedClauses, trail: &mut Trail, l: Lit) -> Option<usize>
     requires room { watched.old.vars ≡ trail.old.room }
     requires below { l.var < watched.old.vars }
     requires is_false { Contains (lits_of trail.old.entries) (negation l) }
+    requires paired { IsPaired watched.old }
     ensures advances { Advances watched.old watched.new trail.old trail.new }
     ensures walked { IsWalked watched.new trail.new l result }
 {
-    let mut before = None;
-    let mut at = watched.first(l);
-    while let Some(k) = at {
-        let next = watched.next_of(l, k);
-        let standing = Standing {
+    let mut place = 0;
+    while place < watched.len(l) {
+        let link = watched.link(l, place);
+        let at = Standing {
             lit: l,
-            before,
-            link: k,
+            place,
+            link,
         };
-        match visit_link(watched, trail, standing) {
-            Visit::Stays => before = Some(k),
+        match visit_link(watched, trail, at) {
+            Visit::Stays => place += 1,
             Visit::Moves => {}
-            Visit::Fails => return Some(k.clause),
+            Visit::Fails => return Some(link.clause),
         }
-        at = next;
     }
     None
 }
@@ -243,7 +253,7 @@ pub fn propagate_all(
     }
     while progress.head < trail.entries().len() {
         let l = trail.entries()[progress.head].lit.negated();
-        if let Some(c) = visit_chain(watched, trail, l) {
+        if let Some(c) = visit_list(watched, trail, l) {
             return Some(c);
         }
         progress.head += 1;

@@ -19,7 +19,7 @@ use std::marker::Model;
 
 /// A search for a model: clauses over variables below a fixed number, the literals that are true in
 /// the order in which they became so, and what the clauses force under these. Contracts see that, and
-/// for each code of a literal the chain of the clauses that it watches. All calls but `new` and
+/// for each code of a literal the list of the clauses that it watches. All calls but `new` and
 /// `learn` take no memory.
 #[derive(Drop)]
 pub struct Search {

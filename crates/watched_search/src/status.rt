@@ -58,10 +58,9 @@ pub fn replacement(watched: &WatchedClauses, trail: &Trail, c: usize, other: Lit
     for i in 0..size {
         let k = turned(mark, i, size);
         let l = watched.lit(c, k);
-        if l != other {
-            match trail.value(l) {
-                Some(false) => {}
-                _ => return Some(k),
+        if !trail.is_true(l.negated()) {
+            if l != other {
+                return Some(k);
             }
         }
     }

@@ -1,12 +1,13 @@
 //! What is true, in the order in which it became so.
 
-ghost use Rattle.std.specs.Prelude.{◌≡◌, ◌+◌, ◌-◌, ◌<◌, ◌++◌, ◌∷◌, [], length, IfOk, All, AllPairs, slice_get, take};
+ghost use Rattle.std.specs.Prelude.{◌≡◌, ◌+◌, ◌-◌, ◌<◌, ◌↔◌, ◌++◌, ◌∷◌, [], length, IfOk, IsTrue, All, AllPairs, Contains, slice_get, take};
 ghost use Rattle.std.specs.Vec.{vec_capacity};
 ghost use Rattle.refutation_checker.specs.Marks.{TellsValue};
 ghost use Rattle.watched_search.specs.Trail.{lits_of, IsFree, IsPlaceOf, IsTrail, starts_below, starts_from};
-ghost use Rattle.watched_search.specs.inner.Tables.{Marked};
+ghost use Rattle.watched_search.specs.inner.Tables.{Marked, Truths};
 
 use crate::Entry;
+use crate::codes::code_of;
 use sat_formula::Lit;
 use std::alloc::{AllocError, Global};
 use std::marker::Model;
@@ -18,6 +19,8 @@ use std::marker::Model;
 pub struct Trail {
     // The value of each variable that an entry has.
     values: Vec<Option<bool>>,
+    // Whether each literal is true, by its code.
+    truths: Vec<bool>,
     // Where the entry of each such variable stands. What the others have is not read.
     places: Vec<usize>,
     // Both lists have room for each variable from the start.
@@ -28,8 +31,8 @@ pub struct Trail {
 impl Model for Trail {
     ghost use Rattle.std.specs.Prelude.{◌≤◌, length};
     ghost use Rattle.std.specs.Vec.{vec_capacity};
-    ghost use Rattle.watched_search.specs.Trail.{TrailView, AreStarts};
-    ghost use Rattle.watched_search.specs.inner.Tables.{Tabled};
+    ghost use Rattle.watched_search.specs.Trail.{TrailView, AreStarts, lits_of};
+    ghost use Rattle.watched_search.specs.inner.Tables.{Tabled, Truths};
 
     ghost Value = { TrailView };
 
@@ -43,7 +46,8 @@ impl Model for Trail {
         Tabled t.values.items t.places.items t.entries.items
         × AreStarts (length t.entries.items) t.starts.items
         × (length t.values.items ≤ vec_capacity t.entries)
-        × (length t.values.items ≤ vec_capacity t.starts) };
+        × (length t.values.items ≤ vec_capacity t.starts)
+        × Truths (length t.values.items) t.truths.items (lits_of t.entries.items) };
 }
 
 impl Trail {
@@ -51,12 +55,17 @@ impl Trail {
     pub fn new(alloc: Global, room: usize) -> Result<Trail, AllocError>
         ensures { IfOk result (λ t. t ≡ record { room = room; entries = []; starts = [] }) }
     {
+        let Some(codes) = room.checked_mul(2) else {
+            return Err(AllocError);
+        };
         let values = vec![in alloc; None; room]?;
+        let truths = vec![in alloc; false; codes]?;
         let places = vec![in alloc; 0; room]?;
         let entries = Vec::with_capacity(alloc, room)?;
         let starts = Vec::with_capacity(alloc, room)?;
         Ok(Trail {
             values,
+            truths,
             places,
             entries,
             starts,
@@ -91,6 +100,15 @@ impl Trail {
         }
     }
 
+    /// Whether the literal is true, which is found faster than its value.
+    pub fn is_true(&self, l: Lit) -> bool
+        requires { l.var < self.now.room }
+        ensures { IsTrue result ↔ Contains (lits_of self.now.entries) l }
+    {
+        let _ = &self.entries;
+        self.truths[code_of(l)]
+    }
+
     /// Where the entry of this variable stands; `None` where it has no value.
     pub fn place(&self, v: usize) -> Option<usize>
         requires { v < self.now.room }
@@ -120,6 +138,7 @@ impl Trail {
         let place = self.entries.as_slice().len();
         self.entries.push_reserved(entry);
         self.values[entry.lit.var] = Some(!entry.lit.neg);
+        self.truths[code_of(entry.lit)] = true;
         self.places[entry.lit.var] = place;
     }
 
@@ -144,7 +163,7 @@ impl Trail {
         } }
         ensures first { result ≡ slice_get (starts_from keep self.old.starts) 0 }
     {
-        take_back(&mut self.values, &mut self.entries, keep);
+        take_back(&mut self.values, &mut self.truths, &mut self.entries, keep);
         cut_starts(&mut self.starts, keep)
     }
 
@@ -158,9 +177,16 @@ impl Trail {
 }
 
 // Takes back all but the first `keep` entries, with their values.
-fn take_back(values: &mut Vec<Option<bool>>, entries: &mut Vec<Entry>, keep: usize)
-    requires { Marked values.old.items entries.old.items }
+fn take_back(
+    values: &mut Vec<Option<bool>>,
+    truths: &mut Vec<bool>,
+    entries: &mut Vec<Entry>,
+    keep: usize,
+)
+    requires marked { Marked values.old.items entries.old.items }
+    requires truths { Truths (length values.old.items) truths.old.items (lits_of entries.old.items) }
     ensures marked { Marked values.new.items entries.new.items }
+    ensures truths { Truths (length values.new.items) truths.new.items (lits_of entries.new.items) }
     ensures room { length values.new.items ≡ length values.old.items }
     ensures kept { entries.new.items ≡ take keep entries.old.items }
     ensures capacity { vec_capacity entries.new ≡ vec_capacity entries.old }
@@ -168,6 +194,7 @@ fn take_back(values: &mut Vec<Option<bool>>, entries: &mut Vec<Entry>, keep: usi
     while entries.len() > keep {
         if let Some(e) = entries.pop() {
             values[e.lit.var] = None;
+            truths[code_of(e.lit)] = false;
         }
     }
 }

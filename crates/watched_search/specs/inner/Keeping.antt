@@ -1,5 +1,5 @@
 -- What holds between the calls of a search: of the clauses with what watches them, and of what was looked at.
-use Rattle.std.specs.Prelude.{◌≡◌, ◌≢◌, ℕ, ◌-◌, ◌*◌, ◌<◌, ◌≤◌, List, length, slice_index_or, All, Contains, Option, Some, None}
+use Rattle.std.specs.Prelude.{◌≡◌, ◌≢◌, ℕ, ◌-◌, ◌*◌, ◌<◌, ◌≤◌, List, length, slice_index_or, All, AllPairs, Contains, Option, Some, None}
 use Rattle.sat_formula.specs.declared.lit.Lit.{Lit}
 use Rattle.sat_formula.specs.Clause.{NamesBelow}
 use Rattle.refutation_checker.specs.Follows.{negation}
@@ -12,7 +12,7 @@ use Rattle.watched_search.specs.Trail.{TrailView, lits_of}
 use Rattle.watched_search.specs.Searching.{clause_at, lit_at}
 use Rattle.watched_search.specs.Watching.{HasTwo}
 
--- clauses, the literal that watches in each slot, and the chains
+-- clauses, the literal that watches in each slot, and the links of each literal's list
 pub record Watched : Type 0 where
   pub vars : ℕ
   pub clauses : List (List Lit)
@@ -38,7 +38,7 @@ IsPairOf c (Some a) (Some b) = Contains c a × Contains c b × (a ≢ b)
 IsPairOf c None (Some b) = ⊥
 IsPairOf c (Some a) None = ⊥
 
--- each slot stands in the chain of the literal that watches in it, and in no other
+-- each slot stands in the list of the literal that watches in it, and in no other, and no clause stands twice in one
 pub record IsPaired (w : Watched) : Type 0 where
   pub codes : length w.chains ≡ 2 * w.vars
   pub slots : length w.slots ≡ 2 * length w.clauses
@@ -46,6 +46,7 @@ pub record IsPaired (w : Watched) : Type 0 where
   pub pairs : (c : ℕ) → c < length w.clauses → IsPairOf (clause_at w.clauses c) (watch_at w.slots (slot_of c 0)) (watch_at w.slots (slot_of c 1))
   pub stands : (k : Link) (l : Lit) → l.var < w.vars → Contains (list_at w.chains (code l)) k → IsSlot (length w.clauses) k × (watch_at w.slots k ≡ Some l)
   pub linked : (k : Link) (l : Lit) → IsSlot (length w.clauses) k → watch_at w.slots k ≡ Some l → Contains (list_at w.chains (code l)) k
+  pub once : (l : Lit) → l.var < w.vars → AllPairs (λ a b. a.clause ≢ b.clause) (list_at w.chains (code l))
 
 -- the place j is in no later level than the place k
 abbrev pub SameLevel : List ℕ → ℕ → ℕ → Type 0

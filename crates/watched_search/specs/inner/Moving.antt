@@ -1,5 +1,5 @@
--- How a literal's chain is walked, and what may become of the clauses on it.
-use Rattle.std.specs.Prelude.{◌≡◌, ◌≢◌, ◌<◌, ◌++◌, List, [], ◌∷◌, slice_set, Contains, Option, Some, None}
+-- Where a literal's list is looked at, and what may become of the clauses in it.
+use Rattle.std.specs.Prelude.{◌≡◌, ◌≢◌, ℕ, ◌+◌, ◌<◌, ◌++◌, List, [], ◌∷◌, length, take, slice_index_or, slice_set, Contains, Option, Some, None}
 use Rattle.sat_formula.specs.declared.lit.Lit.{Lit}
 use Rattle.watch_chains.specs.declared.link.Link.{Link}
 use Rattle.watch_chains.specs.Chains.{place_of}
@@ -8,28 +8,22 @@ use Rattle.watched_search.specs.Codes.{code}
 use Rattle.watched_search.specs.inner.Keeping.{Watched, other_of, watch_at}
 use Rattle.watched_search.specs.Watching.{HasTwo}
 
--- the last link of a list, if it has one
-abbrev pub EndsWith : List Link → Option Link → Type 0
-EndsWith front None = front ≡ []
-EndsWith front (Some before) = (xs : List Link) × (front ≡ xs ++ before ∷ [])
-
--- the chain of the literal is a front that ends with `before`, then the link, then the rest
-pub record IsAt (w : Watched) (l : Lit) (before : Option Link) (k : Link) (front rest : List Link) : Type 0 where
-  pub chain : list_at w.chains (code l) ≡ front ++ k ∷ rest
-  pub ends : EndsWith front before
-
--- the link stands behind `before` in the chain of the literal, and another literal watches in the other slot
-pub record IsStanding (w : Watched) (l : Lit) (before : Option Link) (k : Link) (other : Lit) : Type 0 where
+-- the link stands at this place of the literal's list
+pub record IsAt (w : Watched) (l : Lit) (i : ℕ) (k : Link) : Type 0 where
   pub below : l.var < w.vars
-  pub front : List Link
-  pub rest : List Link
-  pub at : IsAt w l before k front rest
+  pub within : i < length (list_at w.chains (code l))
+  pub link : slice_index_or (list_at w.chains (code l)) i k ≡ k
+
+-- and another literal watches in the other slot
+pub record IsStanding (w : Watched) (l : Lit) (i : ℕ) (k : Link) (other : Lit) : Type 0 where
+  pub at : IsAt w l i k
   pub watch : watch_at w.slots (other_of k) ≡ Some other
 
--- the literal v watches in the slot in the place of l, whose chain the link leaves
-pub record IsMoved (old new : Watched) (l : Lit) (before : Option Link) (k : Link) (v : Lit) : Type 0 where
+-- the literal v watches in the slot in the place of l, whose list the link leaves, while what stands before it stays
+pub record IsMoved (old new : Watched) (l : Lit) (i : ℕ) (k : Link) (v : Lit) : Type 0 where
   pub same : new ≡ record old { slots = slice_set old.slots (place_of k) (Some v); chains = new.chains }
-  pub left : (front rest : List Link) → IsAt old l before k front rest → list_at new.chains (code l) ≡ front ++ rest
+  pub front : take i (list_at new.chains (code l)) ≡ take i (list_at old.chains (code l))
+  pub fewer : length (list_at new.chains (code l)) + 1 ≡ length (list_at old.chains (code l))
 
 -- two different literals of the clause, if it has them
 abbrev pub IsPair : List Lit → Option (Lit × Lit) → Type 0

@@ -1,8 +1,9 @@
--- The tables of the trail by variable.
-use Rattle.std.specs.Prelude.{◌≡◌, ℕ, ◌+◌, ◌<◌, ◌↔◌, Bool, not, List, length, All, Contains, slice_index_or, count_by, is_none, Option, Some, None}
+-- The tables of the trail by variable and by literal.
+use Rattle.std.specs.Prelude.{◌≡◌, ℕ, ◌+◌, ◌*◌, ◌<◌, ◌↔◌, Bool, true, false, not, List, length, All, Contains, slice_index_or, count_by, is_none, Option, Some, None}
 use Rattle.sat_formula.specs.declared.lit.Lit.{Lit}
 use Rattle.sat_formula.specs.Lit.{IsBelow}
 use Rattle.watched_search.specs.declared.entry.Entry.{Entry}
+use Rattle.watched_search.specs.Codes.{code}
 use Rattle.watched_search.specs.Trail.{lits_of, DistinctVars}
 
 -- a variable's mark is its value, where one of its literals is true
@@ -25,3 +26,8 @@ pub record Tabled (marks : List (Option Bool)) (places : List ℕ) (es : List En
   pub marked : Marked marks es
   pub placed : Placed places es
   pub sized : length places ≡ length marks
+
+-- the place of a literal's code tells whether it is true
+pub record Truths (room : ℕ) (truths : List Bool) (lits : List Lit) : Type 0 where
+  pub sized : length truths ≡ 2 * room
+  pub told : (l : Lit) → l.var < room → ((slice_index_or truths (code l) false ≡ true) ↔ Contains lits l)

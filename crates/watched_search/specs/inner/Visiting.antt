@@ -48,11 +48,11 @@ pub record Advances (w new : Watched) (t after : TrailView) : Type 0 where
   pub driven : IsDriven w.clauses t after
   pub kept : (p : Progress) → IsKept w t p → IsKept new after p
 
--- what became of a link: its clause is true, it left the chain, or its clause is false
-abbrev pub IsVisited : Watched → Watched → TrailView → Lit → Option Link → Link → Visit → Type 0
-IsVisited old new after l before k Stays = (new ≡ old) × HasTrue (lits_of after.entries) (clause_at new.clauses k.clause)
-IsVisited old new after l before k Moves = (v : Lit) × IsMoved old new l before k v
-IsVisited old new after l before k Fails = IsFalseAt new.clauses (lits_of after.entries) k.clause
+-- what became of a link: its clause is true, it left the list, or its clause is false
+abbrev pub IsVisited : Watched → Watched → TrailView → Lit → ℕ → Link → Visit → Type 0
+IsVisited old new after l i k Stays = (new ≡ old) × HasTrue (lits_of after.entries) (clause_at new.clauses k.clause)
+IsVisited old new after l i k Moves = (v : Lit) × IsMoved old new l i k v
+IsVisited old new after l i k Fails = IsFalseAt new.clauses (lits_of after.entries) k.clause
 
 -- each clause that l watches is true, or one is false
 abbrev pub IsWalked : Watched → TrailView → Lit → Option ℕ → Type 0

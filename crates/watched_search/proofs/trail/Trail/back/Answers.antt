@@ -15,4 +15,5 @@ invariant_of-self c =
       rw k (AreStarts-back _ c.args.keep _ c.self.invariant.1),
       c.self.invariant.2,
       c.self.invariant.3,
+      rw c.take_back.ensures.room at c.take_back.ensures.truths,
     )

@@ -8,4 +8,5 @@ invariant_of-self c =
       AreStarts-cut _ c.args.limit _ c.self.invariant.1,
       c.self.invariant.2,
       c.self.invariant.3,
+      c.self.invariant.4,
     )

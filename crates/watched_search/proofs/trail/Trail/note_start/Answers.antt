@@ -16,4 +16,5 @@ invariant_of-self c =
       AreStarts-push _ _ (rw (← c.self.view_is) at c.requires.some) (rw (← c.self.view_is) at c.requires.later) c.self.invariant.1,
       c.self.invariant.2,
       c.self.invariant.3,
+      c.self.invariant.4,
     )

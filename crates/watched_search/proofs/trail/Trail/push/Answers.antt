@@ -1,7 +1,8 @@
-use Rattle.std.proofs.Common.{◌∙◌, sym, length-set, arith}
+use Rattle.std.proofs.Common.{◌∙◌, ◌∷◌, [], sym, length-set, arith}
 use Rattle.std.proofs.lemmas.List.{length_push}
 use Rattle.watched_search.proofs.StartLemmas.{AreStarts-more}
-use Rattle.watched_search.proofs.TrailLemmas.{Marked-push, Marked-room, Placed-push}
+use Rattle.watched_search.proofs.TrailLemmas.{lits-append, Marked-push, Marked-room, Placed-push}
+use Rattle.watched_search.proofs.TruthLemmas.{Truths-push}
 use Rattle.watched_search.proofs.trail.Trail.push.Goals as goal
 
 pub push_reserved-requires : goal.push_reserved-requires
@@ -24,4 +25,5 @@ invariant_of-self c =
       AreStarts-more _ _ _ (omega arith) c.self.invariant.1,
       c.self.invariant.2,
       c.self.invariant.3,
+      rw (c.code_of.ensures, lits-append c.self.inside.entries.items (c.args.entry ∷ [])) (Truths-push _ _ _ c.args.entry.lit c.self.invariant.4 below),
     )
