@@ -21,7 +21,7 @@ use Rattle.cell_arena.specs.Decode.{decode, present, kind_value, text_at}
 use Rattle.cell_arena.specs.Growth.{Grows, Decodes, Adds}
 use Rattle.cell_arena.proofs.Growing.{Decodes-same, Satisfies-before}
 use Rattle.cell_merge.specs.declared.merging.Join.TheVariants.{Chosen}
-use Rattle.cell_merge.specs.Sorts.{Sort, truth, number, name, set_of as set_sort, record_of, tuple_of, OfSort, IsBit, IsWord, IsText, IsSet, IsRecord, IsTuple, OneType, IsOver}
+use Rattle.cell_merge.specs.Sorts.{Sort, truth, number, name, set_of as set_sort, function_of, sequence_of, record_of, tuple_of, OfSort, IsBit, IsWord, IsText, IsSet, IsFunction, IsSequence, IsRecord, IsTuple, OneType, IsOver}
 use Rattle.cell_merge.specs.Choices.{Chooses}
 use Rattle.cell_merge.specs.Edges.{LeadTo, Merges, TwoSets}
 use Rattle.cell_merge.proofs.Edges.{any-present, sort-there, edges-sort, one-set, left-there, right-there}
@@ -101,6 +101,8 @@ bit-else ks truth x m h e = refl
 bit-else ks number x m h e = let P : CellKind → Type 0 = IsWord in absurd (subst P e h.1)
 bit-else ks name x m h e = let P : CellKind → Type 0 = IsText in absurd (subst P e h.1)
 bit-else ks (set_sort s) x m h e = let P : CellKind → Type 0 = IsSet (OfSort ks s) in absurd (subst P e h.1)
+bit-else ks (function_of s t) x m h e = let P : CellKind → Type 0 = IsFunction (OfSort ks s) (OfSort ks t) in absurd (subst P e h.1)
+bit-else ks (sequence_of s) x m h e = let P : CellKind → Type 0 = IsSequence (OfSort ks s) in absurd (subst P e h.1)
 bit-else ks (record_of names s) x m h e = let P : CellKind → Type 0 = IsRecord names (λ i. OfSort ks (s i)) in absurd (subst P e h.1)
 bit-else ks (tuple_of n s) x m h e = let P : CellKind → Type 0 = IsTuple n (λ i. OfSort ks (s i)) in absurd (subst P e h.1)
 
@@ -109,6 +111,8 @@ word-else ks truth x v h e = let P : CellKind → Type 0 = IsBit in absurd (subs
 word-else ks number x v h e = refl
 word-else ks name x v h e = let P : CellKind → Type 0 = IsText in absurd (subst P e h.1)
 word-else ks (set_sort s) x v h e = let P : CellKind → Type 0 = IsSet (OfSort ks s) in absurd (subst P e h.1)
+word-else ks (function_of s t) x v h e = let P : CellKind → Type 0 = IsFunction (OfSort ks s) (OfSort ks t) in absurd (subst P e h.1)
+word-else ks (sequence_of s) x v h e = let P : CellKind → Type 0 = IsSequence (OfSort ks s) in absurd (subst P e h.1)
 word-else ks (record_of names s) x v h e = let P : CellKind → Type 0 = IsRecord names (λ i. OfSort ks (s i)) in absurd (subst P e h.1)
 word-else ks (tuple_of n s) x v h e = let P : CellKind → Type 0 = IsTuple n (λ i. OfSort ks (s i)) in absurd (subst P e h.1)
 
@@ -117,6 +121,8 @@ text-else ks truth x v h e = let P : CellKind → Type 0 = IsBit in absurd (subs
 text-else ks number x v h e = let P : CellKind → Type 0 = IsWord in absurd (subst P e h.1)
 text-else ks name x v h e = refl
 text-else ks (set_sort s) x v h e = let P : CellKind → Type 0 = IsSet (OfSort ks s) in absurd (subst P e h.1)
+text-else ks (function_of s t) x v h e = let P : CellKind → Type 0 = IsFunction (OfSort ks s) (OfSort ks t) in absurd (subst P e h.1)
+text-else ks (sequence_of s) x v h e = let P : CellKind → Type 0 = IsSequence (OfSort ks s) in absurd (subst P e h.1)
 text-else ks (record_of names s) x v h e = let P : CellKind → Type 0 = IsRecord names (λ i. OfSort ks (s i)) in absurd (subst P e h.1)
 text-else ks (tuple_of n s) x v h e = let P : CellKind → Type 0 = IsTuple n (λ i. OfSort ks (s i)) in absurd (subst P e h.1)
 
@@ -163,6 +169,8 @@ module _ (old mid new : Build) (l : Lit) (x y id : CellId) (j k made : CellKind)
   set-sorts truth es fs out e f g h p q = let P : CellKind → Type 0 = IsBit in absurd (subst P e p.1)
   set-sorts number es fs out e f g h p q = let P : CellKind → Type 0 = IsWord in absurd (subst P e p.1)
   set-sorts name es fs out e f g h p q = let P : CellKind → Type 0 = IsText in absurd (subst P e p.1)
+  set-sorts (function_of s t) es fs out e f g h p q = let P : CellKind → Type 0 = IsFunction (OfSort old.arena.kinds s) (OfSort old.arena.kinds t) in absurd (subst P e p.1)
+  set-sorts (sequence_of s) es fs out e f g h p q = let P : CellKind → Type 0 = IsSequence (OfSort old.arena.kinds s) in absurd (subst P e p.1)
   set-sorts (record_of names s) es fs out e f g h p q = let P : CellKind → Type 0 = IsRecord names (λ i. OfSort old.arena.kinds (s i)) in absurd (subst P e p.1)
   set-sorts (tuple_of n s) es fs out e f g h p q = let P : CellKind → Type 0 = IsTuple n (λ i. OfSort old.arena.kinds (s i)) in absurd (subst P e p.1)
   set-sorts (set_sort s) es fs out e f g h p q =

@@ -21,7 +21,7 @@ use Rattle.cell_arena.specs.declared.kinds.CellKind.{CellKind}
 use Rattle.cell_arena.specs.declared.kinds.CellKind.TheVariants.{Bit, Word, Text, Set, Fun, Rec, Tup, Seq}
 use Rattle.cell_arena.specs.Cells.{Cells, WellBuilt, kind_at}
 use Rattle.cell_arena.specs.Decode.{decode, present, kind_value}
-use Rattle.cell_merge.specs.Sorts.{Sort, truth, number, name, set_of as set_sort, record_of, tuple_of, OfSort, IsSet, IsBit, IsWord, IsText, IsRecord, IsTuple, OneType, SetsOfOneType}
+use Rattle.cell_merge.specs.Sorts.{Sort, truth, number, name, set_of as set_sort, function_of, sequence_of, record_of, tuple_of, OfSort, IsSet, IsBit, IsWord, IsText, IsFunction, IsSequence, IsRecord, IsTuple, OneType, SetsOfOneType, FunctionsOfOneType, SequencesOfOneType}
 
 pub any-present : (p : Value → Bool) (a : List Bool) (of : CellId → Value) (es : List (Lit × CellId)) → list_any p (present a of es) ≡ list_any (λ e. lit_value e.0 a && p (of e.1)) es
 any-present p a of [] = refl
@@ -58,12 +58,21 @@ sort-there ks truth id h = h.0
 sort-there ks number id h = h.0
 sort-there ks name id h = h.0
 sort-there ks (set_sort s) id h = h.0
+sort-there ks (function_of s t) id h = h.0
+sort-there ks (sequence_of s) id h = h.0
 sort-there ks (record_of names s) id h = h.0
 sort-there ks (tuple_of n s) id h = h.0
 
 -- the sorts of the edges of a set
 pub edges-sort : (ks : List CellKind) (s : Sort) (id : CellId) (es : List (Lit × CellId)) → OfSort ks (set_sort s) id → kind_at ks id ≡ Set es → All (λ e. OfSort ks s e.1) es
 edges-sort ks s id es h e = let P : CellKind → Type 0 = IsSet (OfSort ks s) in subst P e h.1
+
+-- the sorts of the arrows of a function, and of the places of a sequence
+pub arrows-sort : (ks : List CellKind) (s t : Sort) (id : CellId) (es : List (Lit × CellId × CellId)) → OfSort ks (function_of s t) id → kind_at ks id ≡ Fun es → All (λ e. OfSort ks s e.1 × OfSort ks t e.2) es
+arrows-sort ks s t id es h e = let P : CellKind → Type 0 = IsFunction (OfSort ks s) (OfSort ks t) in subst P e h.1
+
+pub places-sort : (ks : List CellKind) (s : Sort) (id : CellId) (w : List Lit) (ps : List CellId) → OfSort ks (sequence_of s) id → kind_at ks id ≡ Seq w ps → All (OfSort ks s) ps
+places-sort ks s id w ps h e = let P : CellKind → Type 0 = IsSequence (OfSort ks s) in subst P e h.1
 
 pub is-set : (P : CellId → Type 0) (k : CellKind) → IsSet P k → (es : List (Lit × CellId)) × (k ≡ Set es)
 is-set P (Bit l) h = absurd h
@@ -74,6 +83,26 @@ is-set P (Fun es) h = absurd h
 is-set P (Rec fs) h = absurd h
 is-set P (Tup ps) h = absurd h
 is-set P (Seq w ps) h = absurd h
+
+pub is-function : (P Q : CellId → Type 0) (k : CellKind) → IsFunction P Q k → (es : List (Lit × CellId × CellId)) × (k ≡ Fun es)
+is-function P Q (Bit l) h = absurd h
+is-function P Q (Word w) h = absurd h
+is-function P Q (Text w) h = absurd h
+is-function P Q (Set es) h = absurd h
+is-function P Q (Fun es) h = (es, refl)
+is-function P Q (Rec fs) h = absurd h
+is-function P Q (Tup ps) h = absurd h
+is-function P Q (Seq w ps) h = absurd h
+
+pub is-sequence : (P : CellId → Type 0) (k : CellKind) → IsSequence P k → (w : List Lit) × (ps : List CellId) × (k ≡ Seq w ps)
+is-sequence P (Bit l) h = absurd h
+is-sequence P (Word w) h = absurd h
+is-sequence P (Text w) h = absurd h
+is-sequence P (Set es) h = absurd h
+is-sequence P (Fun es) h = absurd h
+is-sequence P (Rec fs) h = absurd h
+is-sequence P (Tup ps) h = absurd h
+is-sequence P (Seq w ps) h = (w, ps, refl)
 
 pub is-bit : (k : CellKind) → IsBit k → (l : Lit) × (k ≡ Bit l)
 is-bit (Bit l) h = (l, refl)
@@ -142,6 +171,8 @@ module _ (ks : List CellKind) (x y : CellId) (t : OneType ks x y) where
       go number p q = let P : CellKind → Type 0 = IsWord in subst P e p.1
       go name p q = let P : CellKind → Type 0 = IsText in subst P e p.1
       go (set_sort s) p q = let P : CellKind → Type 0 = IsSet (OfSort ks s) in subst P e p.1
+      go (function_of s t) p q = let P : CellKind → Type 0 = IsFunction (OfSort ks s) (OfSort ks t) in subst P e p.1
+      go (sequence_of s) p q = let P : CellKind → Type 0 = IsSequence (OfSort ks s) in subst P e p.1
       go (record_of names s) p q = let P : CellKind → Type 0 = IsRecord names (λ i. OfSort ks (s i)) in subst P e p.1
       go (tuple_of count s) p q = let P : CellKind → Type 0 = IsTuple count (λ i. OfSort ks (s i)) in subst P e p.1
 
@@ -153,6 +184,8 @@ module _ (ks : List CellKind) (x y : CellId) (t : OneType ks x y) where
       go number p q = let b = is-word (kind_at ks y) q.1 in n b.0 b.1
       go name p q = let P : CellKind → Type 0 = IsText in subst P e p.1
       go (set_sort s) p q = let P : CellKind → Type 0 = IsSet (OfSort ks s) in subst P e p.1
+      go (function_of s t) p q = let P : CellKind → Type 0 = IsFunction (OfSort ks s) (OfSort ks t) in subst P e p.1
+      go (sequence_of s) p q = let P : CellKind → Type 0 = IsSequence (OfSort ks s) in subst P e p.1
       go (record_of names s) p q = let P : CellKind → Type 0 = IsRecord names (λ i. OfSort ks (s i)) in subst P e p.1
       go (tuple_of count s) p q = let P : CellKind → Type 0 = IsTuple count (λ i. OfSort ks (s i)) in subst P e p.1
 
@@ -164,6 +197,8 @@ module _ (ks : List CellKind) (x y : CellId) (t : OneType ks x y) where
       go number p q = let P : CellKind → Type 0 = IsWord in subst P e p.1
       go name p q = let b = is-text (kind_at ks y) q.1 in n b.0 b.1
       go (set_sort s) p q = let P : CellKind → Type 0 = IsSet (OfSort ks s) in subst P e p.1
+      go (function_of s t) p q = let P : CellKind → Type 0 = IsFunction (OfSort ks s) (OfSort ks t) in subst P e p.1
+      go (sequence_of s) p q = let P : CellKind → Type 0 = IsSequence (OfSort ks s) in subst P e p.1
       go (record_of names s) p q = let P : CellKind → Type 0 = IsRecord names (λ i. OfSort ks (s i)) in subst P e p.1
       go (tuple_of count s) p q = let P : CellKind → Type 0 = IsTuple count (λ i. OfSort ks (s i)) in subst P e p.1
 
@@ -175,21 +210,36 @@ module _ (ks : List CellKind) (x y : CellId) (t : OneType ks x y) where
       go number p q = absurd (let P : CellKind → Type 0 = IsWord in subst P e p.1)
       go name p q = absurd (let P : CellKind → Type 0 = IsText in subst P e p.1)
       go (set_sort s) p q = record { sort = s; left = p; right = q }
+      go (function_of s t) p q = absurd (let P : CellKind → Type 0 = IsFunction (OfSort ks s) (OfSort ks t) in subst P e p.1)
+      go (sequence_of s) p q = absurd (let P : CellKind → Type 0 = IsSequence (OfSort ks s) in subst P e p.1)
       go (record_of names s) p q = absurd (let P : CellKind → Type 0 = IsRecord names (λ i. OfSort ks (s i)) in subst P e p.1)
       go (tuple_of n s) p q = absurd (let P : CellKind → Type 0 = IsTuple n (λ i. OfSort ks (s i)) in subst P e p.1)
 
-  -- the kind is one of these six
-  pub one-other : ((l : Lit) → kind_at ks x ≡ Bit l → ⊥) → ((w : List Lit) → kind_at ks x ≡ Word w → ⊥) → ((w : List Lit) → kind_at ks x ≡ Text w → ⊥)
-      → ((es : List (Lit × CellId)) → kind_at ks x ≡ Set es → ⊥) → ((fs : List (List ℕ × CellId)) → kind_at ks x ≡ Rec fs → ⊥) → ((ps : List CellId) → kind_at ks x ≡ Tup ps → ⊥) → ⊥
-  one-other no-bit no-word no-text no-set no-record no-tuple = go t.sort t.left
+  pub one-function : (es : List (Lit × CellId × CellId)) → kind_at ks x ≡ Fun es → FunctionsOfOneType ks x y
+  one-function es e = go t.sort t.left t.right
     where
-      go : (s : Sort) → OfSort ks s x → ⊥
-      go truth p = let b = is-bit (kind_at ks x) p.1 in no-bit b.0 b.1
-      go number p = let b = is-word (kind_at ks x) p.1 in no-word b.0 b.1
-      go name p = let b = is-text (kind_at ks x) p.1 in no-text b.0 b.1
-      go (set_sort s) p = let b = is-set (OfSort ks s) (kind_at ks x) p.1 in no-set b.0 b.1
-      go (record_of names s) p = let b = is-record names (λ i. OfSort ks (s i)) (kind_at ks x) p.1 in no-record b.0 b.1
-      go (tuple_of n s) p = let b = is-tuple n (λ i. OfSort ks (s i)) (kind_at ks x) p.1 in no-tuple b.0 b.1
+      go : (s : Sort) → OfSort ks s x → OfSort ks s y → FunctionsOfOneType ks x y
+      go truth p q = absurd (let P : CellKind → Type 0 = IsBit in subst P e p.1)
+      go number p q = absurd (let P : CellKind → Type 0 = IsWord in subst P e p.1)
+      go name p q = absurd (let P : CellKind → Type 0 = IsText in subst P e p.1)
+      go (set_sort s) p q = absurd (let P : CellKind → Type 0 = IsSet (OfSort ks s) in subst P e p.1)
+      go (function_of s t) p q = record { from = s; to = t; left = p; right = q }
+      go (sequence_of s) p q = absurd (let P : CellKind → Type 0 = IsSequence (OfSort ks s) in subst P e p.1)
+      go (record_of names s) p q = absurd (let P : CellKind → Type 0 = IsRecord names (λ i. OfSort ks (s i)) in subst P e p.1)
+      go (tuple_of n s) p q = absurd (let P : CellKind → Type 0 = IsTuple n (λ i. OfSort ks (s i)) in subst P e p.1)
+
+  pub one-sequence : (w : List Lit) (ps : List CellId) → kind_at ks x ≡ Seq w ps → SequencesOfOneType ks x y
+  one-sequence w ps e = go t.sort t.left t.right
+    where
+      go : (s : Sort) → OfSort ks s x → OfSort ks s y → SequencesOfOneType ks x y
+      go truth p q = absurd (let P : CellKind → Type 0 = IsBit in subst P e p.1)
+      go number p q = absurd (let P : CellKind → Type 0 = IsWord in subst P e p.1)
+      go name p q = absurd (let P : CellKind → Type 0 = IsText in subst P e p.1)
+      go (set_sort s) p q = absurd (let P : CellKind → Type 0 = IsSet (OfSort ks s) in subst P e p.1)
+      go (function_of s t) p q = absurd (let P : CellKind → Type 0 = IsFunction (OfSort ks s) (OfSort ks t) in subst P e p.1)
+      go (sequence_of s) p q = record { sort = s; left = p; right = q }
+      go (record_of names s) p q = absurd (let P : CellKind → Type 0 = IsRecord names (λ i. OfSort ks (s i)) in subst P e p.1)
+      go (tuple_of n s) p q = absurd (let P : CellKind → Type 0 = IsTuple n (λ i. OfSort ks (s i)) in subst P e p.1)
 
 pub sets-back : (ks : List CellKind) (x y : CellId) → SetsOfOneType ks x y → SetsOfOneType ks y x
 sets-back ks x y t = record { sort = t.sort; left = t.right; right = t.left }

@@ -109,7 +109,7 @@ same_made make vs ws one = true_test _ _
 
 -- ---- tuples
 
-results-numbered : (n : ℕ) (vs : List Value) → map (λ (p : Pair). p.1) (numbered n vs) ≡ vs
+pub results-numbered : (n : ℕ) (vs : List Value) → map (λ (p : Pair). p.1) (numbered n vs) ≡ vs
 results-numbered n [] = refl
 results-numbered n (v ∷ vs) = ap (λ l. v ∷ l) (results-numbered (n + 1) vs)
 

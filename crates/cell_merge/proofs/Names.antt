@@ -52,7 +52,7 @@ place-one (t ∷ ts) d zero (suc j) p q e = absurd (first-alone _ _ d (stands t 
 place-one (t ∷ ts) d (suc i) zero p q e = absurd (first-alone _ _ d (stands t ts i (omega arith) (sym e)))
 place-one (t ∷ ts) d (suc i) (suc j) p q e = ap (λ (n : ℕ). suc n) (place-one ts (rest-so _ _ d) i j (omega arith) (omega arith) e)
 
-below : (m n : ℕ) → IsTrue (nat_lt m n) → m < n
+pub below : (m n : ℕ) → IsTrue (nat_lt m n) → m < n
 below m n h = grind (arith, ltb_yes)
 
 codes : (ts : List (List ℕ)) (m n : ℤ) → IsTrue (distinct (values_of ts)) → IsTrue (is_index (length ts) m) → IsTrue (is_index (length ts) n) → text_at ts m ≡ text_at ts n → m ≡ n
@@ -66,7 +66,7 @@ same-codes ts m n d p q = true_test _ _
     (λ e. subst (λ k. same_value (value.Text (text_at ts m)) (value.Text (text_at ts k)) ≡ true) ((Decides-int_eq m n).0 e) (same_itself (value.Text (text_at ts m))))
     (λ e. (Decides-int_eq m n).1 (codes ts m n d p q (text_one (text_at ts m) (text_at ts n) (same_equal _ _ e))))
 
-all-at : (p : CellKind → Bool) (ks : List CellKind) (i : ℕ) (d : CellKind) → i < length ks → IsTrue (list_all p ks) → IsTrue (p (get_or ks i d))
+pub all-at : (p : CellKind → Bool) (ks : List CellKind) (i : ℕ) (d : CellKind) → i < length ks → IsTrue (list_all p ks) → IsTrue (p (get_or ks i d))
 all-at p [] i d lt h = absurd (omega arith)
 all-at p (k ∷ ks) zero d lt h = first (p k) h
   where

@@ -2,7 +2,7 @@
 use Rattle.std.proofs.Common.{◌≡◌, ℕ, zero, suc, ◌+◌, ◌<◌, ◌≤◌, Bool, true, false, IsTrue, ◌&&◌, List, [], ◌∷◌, ◌++◌, map, length, take, get_or, All, refl, ap, ◌∙◌, sym, subst, arith, below_more}
 use Rattle.std.specs.Prelude.{if◌then◌else◌}
 use Rattle.std.specs.List.{zip, list_all}
-use Rattle.std.proofs.lemmas.List.{length-map, get_or-map, map_more, take_more, length-take-le, get_or_append_left, get_or_push, length_push, take_all}
+use Rattle.std.proofs.lemmas.List.{get_or_default, length-map, get_or-map, map_more, take_more, length-take-le, get_or_append_left, get_or_push, length_push, take_all}
 use Rattle.std.proofs.lemmas.List.Elements.{All-nil}
 use Rattle.std.proofs.lemmas.List.Folds.{list_all-append}
 use Rattle.std.proofs.lemmas.Slice.Zip.{firsts-zip, seconds-zip}
@@ -25,26 +25,27 @@ use Rattle.cell_arena.specs.Decode.{decode, kind_value, field_pairs}
 use Rattle.cell_arena.specs.Growth.{Grows}
 use Rattle.cell_arena.proofs.Decoding.{decode-kind}
 use Rattle.cell_arena.proofs.Growing.{kind-before, decode-before, Satisfies-before}
-use Rattle.cell_merge.specs.Sorts.{Sort, truth, number, name, set_of as set_sort, record_of, tuple_of, OfSort, IsRecord, IsTuple, ArePlaced, OneType}
+use Rattle.cell_merge.specs.Sorts.{Sort, truth, number, name, set_of as set_sort, function_of as function_sort, sequence_of as sequence_sort, record_of, tuple_of, OfSort, IsRecord, IsTuple, ArePlaced, OneType}
 use Rattle.cell_merge.specs.Choices.{Chooses}
 use Rattle.cell_merge.specs.Composites.{parts_of, IsComposite, with_parts_of, FitsParts, IsWithParts}
-use Rattle.cell_merge.specs.inner.Composites.{CompositesOfOneType, each_same, TestsParts, ChoosesAt, ChoosesParts}
+use Rattle.cell_merge.specs.inner.Composites.{CompositesOfOneType, PartsOfOneType, each_same, TestsParts, ChoosesAt, ChoosesParts}
 use Rattle.cell_merge.proofs.FunctionValues.{record_one, tuple_one, same_made, each_push}
-use Rattle.cell_merge.proofs.Edges.{is-bit, is-word, is-text, is-set, is-record, is-tuple, sort-there}
+use Rattle.cell_merge.proofs.Edges.{is-bit, is-word, is-text, is-set, is-function, is-sequence, is-record, is-tuple, sort-there}
 use Rattle.cell_merge.proofs.SortLaws.{OfSort-later, added-kind, added-there}
 use Rattle.cell_merge.proofs.Layering.{Chooses-later}
-use Rattle.cell_merge.proofs.Pairs.{named-push}
+use Rattle.cell_merge.proofs.Tested.{named-push}
 
 -- the cases of parts
-pub no-parts : (k : CellKind) → ((fs : List (List ℕ × CellId)) → k ≡ Rec fs → ⊥) → ((ps : List CellId) → k ≡ Tup ps → ⊥) → parts_of k ≡ []
-no-parts (Bit l) r t = refl
-no-parts (Word w) r t = refl
-no-parts (Text w) r t = refl
-no-parts (Set es) r t = refl
-no-parts (Fun es) r t = refl
-no-parts (Rec fs) r t = absurd (r fs refl)
-no-parts (Tup ps) r t = absurd (t ps refl)
-no-parts (Seq w ps) r t = refl
+pub no-parts : (k : CellKind) → ((fs : List (List ℕ × CellId)) → k ≡ Rec fs → ⊥) → ((ps : List CellId) → k ≡ Tup ps → ⊥)
+    → ((w : List Lit) (ps : List CellId) → k ≡ Seq w ps → ⊥) → parts_of k ≡ []
+no-parts (Bit l) r t q = refl
+no-parts (Word w) r t q = refl
+no-parts (Text w) r t q = refl
+no-parts (Set es) r t q = refl
+no-parts (Fun es) r t q = refl
+no-parts (Rec fs) r t q = absurd (r fs refl)
+no-parts (Tup ps) r t q = absurd (t ps refl)
+no-parts (Seq w ps) r t q = absurd (q w ps refl)
 
 -- ---- a composite of a sort is a record of its names, or a tuple of so many parts
 
@@ -56,6 +57,8 @@ by-sort ks truth id M r t h c = let b = is-bit (kind_at ks id) h.1 in absurd (le
 by-sort ks number id M r t h c = let b = is-word (kind_at ks id) h.1 in absurd (let P : CellKind → Type 0 = IsComposite in subst P b.1 c)
 by-sort ks name id M r t h c = let b = is-text (kind_at ks id) h.1 in absurd (let P : CellKind → Type 0 = IsComposite in subst P b.1 c)
 by-sort ks (set_sort s) id M r t h c = let b = is-set (OfSort ks s) (kind_at ks id) h.1 in absurd (let P : CellKind → Type 0 = IsComposite in subst P b.1 c)
+by-sort ks (function_sort s u) id M r t h c = let b = is-function (OfSort ks s) (OfSort ks u) (kind_at ks id) h.1 in absurd (let P : CellKind → Type 0 = IsComposite in subst P b.1 c)
+by-sort ks (sequence_sort s) id M r t h c = let b = is-sequence (OfSort ks s) (kind_at ks id) h.1 in absurd (let P : CellKind → Type 0 = IsComposite in subst P b.2 c)
 by-sort ks (record_of names s) id M r t h c =
     let b = is-record names (λ i. OfSort ks (s i)) (kind_at ks id) h.1 in
     let P : CellKind → Type 0 = IsRecord names (λ i. OfSort ks (s i)) in
@@ -95,6 +98,8 @@ has-composite ks truth y p h = absurd p
 has-composite ks number y p h = absurd p
 has-composite ks name y p h = absurd p
 has-composite ks (set_sort s) y p h = absurd p
+has-composite ks (function_sort s t) y p h = absurd p
+has-composite ks (sequence_sort s) y p h = absurd p
 has-composite ks (record_of names s) y p h =
     let b = is-record names (λ i. OfSort ks (s i)) (kind_at ks y) h.1 in let P : CellKind → Type 0 = IsComposite in subst P (sym b.1) tt
 has-composite ks (tuple_of n s) y p h =
@@ -233,7 +238,7 @@ tests-parts-all c f a x y ls built t s h =
 
 -- ---- one chosen part more
 
-Chooses-from : (old mid new : Build) (l : Lit) (x y id : CellId) → x.index < length old.arena.kinds → y.index < length old.arena.kinds → Grows old mid → Chooses mid new l x y id → Chooses old new l x y id
+pub Chooses-from : (old mid new : Build) (l : Lit) (x y id : CellId) → x.index < length old.arena.kinds → y.index < length old.arena.kinds → Grows old mid → Chooses mid new l x y id → Chooses old new l x y id
 Chooses-from old mid new l x y id p q grows h = record {
   value = record {
     there = h.value.there;
@@ -246,16 +251,16 @@ Chooses-from old mid new l x y id p q grows h = record {
 pub parts-chosen-none : (b : Build) (l : Lit) (ps qs : List CellId) (out : List CellId) → out ≡ [] → ChoosesParts b b l ps qs 0 out
 parts-chosen-none b l ps qs out is = rw is (record { count = refl; each = λ i d lt. absurd (omega arith) })
 
-pub parts-chosen-more : (old mid new : Build) (l : Lit) (x y : CellId) (i : ℕ) (part : CellId) (out after : List CellId) → CompositesOfOneType old.arena.kinds x y → i < length (parts_of (kind_at old.arena.kinds x))
+pub parts-chosen-more : (old mid new : Build) (l : Lit) (x y : CellId) (n i : ℕ) (part : CellId) (out after : List CellId) → PartsOfOneType old.arena.kinds x y n → i < n
     → ChoosesParts old mid l (parts_of (kind_at old.arena.kinds x)) (parts_of (kind_at old.arena.kinds y)) i out → Grows old mid → Grows mid new
     → ChoosesAt mid new l (parts_of (kind_at mid.arena.kinds x)) (parts_of (kind_at mid.arena.kinds y)) i part → after ≡ out ++ part ∷ []
     → ChoosesParts old new l (parts_of (kind_at old.arena.kinds x)) (parts_of (kind_at old.arena.kinds y)) (i + 1) after
-parts-chosen-more old mid new l x y i part out after t lt chosen before grows one pushed =
+parts-chosen-more old mid new l x y n i part out after t lt chosen before grows one pushed =
     let ks : List CellKind = old.arena.kinds in
     let ps : List CellId = parts_of (kind_at ks x) in
     let qs : List CellId = parts_of (kind_at ks y) in
-    let left : parts_of (kind_at mid.arena.kinds x) ≡ ps = ap parts_of (kind-before old mid x before (sort-there ks t.types.sort x t.types.left)) in
-    let right : parts_of (kind_at mid.arena.kinds y) ≡ qs = ap parts_of (kind-before old mid y before (sort-there ks t.types.sort y t.types.right)) in
+    let left : parts_of (kind_at mid.arena.kinds x) ≡ ps = ap parts_of (kind-before old mid x before t.x_there) in
+    let right : parts_of (kind_at mid.arena.kinds y) ≡ qs = ap parts_of (kind-before old mid y before t.y_there) in
     record {
       count = ap length pushed ∙ length_push out part ∙ ap (λ (n : ℕ). n + 1) chosen.count;
       each = λ j d.
@@ -264,23 +269,51 @@ parts-chosen-more old mid new l x y i part out after t lt chosen before grows on
           (λ k le.
           let n : k < length out = let m = chosen.count in omega arith in
           subst (λ (c : CellId). Chooses old new l (get_or ps k d) (get_or qs k d) c) (sym (get_or_append_left out (part ∷ []) d k n)) (Chooses-later old mid new l _ _ _ (chosen.each k d le) grows))
-          (let w = part-types ks x y t i d d lt in
+          (let w = t.each i d lt in
           let h : Chooses mid new l (get_or ps i d) (get_or qs i d) part = subst (λ (us : List CellId). Chooses mid new l (get_or ps i d) (get_or us i d) part) right
           (subst (λ (us : List CellId). Chooses mid new l (get_or us i d) (get_or (parts_of (kind_at mid.arena.kinds y)) i d) part) left (one d)) in
           subst (λ (c : CellId). Chooses old new l (get_or ps i d) (get_or qs i d) c) (sym (get_or_push out part d i chosen.count))
           (Chooses-from old mid new l _ _ part (sort-there ks w.sort _ w.left) (sort-there ks w.sort _ w.right) before h)) j);
     }
 
--- the types of two cells stay
-pub types-later : (b c : Build) (x y : CellId) → CompositesOfOneType b.arena.kinds x y → Grows b c → CompositesOfOneType c.arena.kinds x y
-types-later b c x y t g = record {
-  types = record { sort = t.types.sort; left = OfSort-later b c t.types.sort x t.types.left g; right = OfSort-later b c t.types.sort y t.types.right g };
-  composite = let P : CellKind → Type 0 = IsComposite in subst P (sym (kind-before b c x g (sort-there b.arena.kinds t.types.sort x t.types.left))) t.composite;
+-- fewer parts, and the types of parts stay
+pub parts-fewer : (b c : Build) (x y : CellId) (n m : ℕ) → PartsOfOneType b.arena.kinds x y n → m ≤ n → Grows b c → PartsOfOneType c.arena.kinds x y m
+parts-fewer b c x y n m t le g =
+    let left = kind-before b c x g t.x_there in
+    let right = kind-before b c y g t.y_there in
+    let long = g.longer in
+    record {
+      x_there = let p = t.x_there in omega arith;
+      y_there = let p = t.y_there in omega arith;
+      left = let p = t.left in let e = ap (λ (k : CellKind). length (parts_of k)) left in omega arith;
+      right = let p = t.right in let e = ap (λ (k : CellKind). length (parts_of k)) right in omega arith;
+      each = λ i d lt.
+          let w = t.each i d (omega arith) in
+          subst (λ (k : CellKind). OneType c.arena.kinds (get_or (parts_of k) i d) (get_or (parts_of (kind_at c.arena.kinds y)) i d)) (sym left)
+          (subst (λ (k : CellKind). OneType c.arena.kinds (get_or (parts_of (kind_at b.arena.kinds x)) i d) (get_or (parts_of k) i d)) (sym right)
+          (record { sort = w.sort; left = OfSort-later b c w.sort _ w.left g; right = OfSort-later b c w.sort _ w.right g }));
+    }
+
+-- the types of the parts at a place
+pub part-types-of : (ks : List CellKind) (x y : CellId) (i : ℕ) (left right : CellId) → PartsOfOneType ks x y (i + 1) → left ≡ get_or (parts_of (kind_at ks x)) i left → right ≡ get_or (parts_of (kind_at ks y)) i right → OneType ks left right
+part-types-of ks x y i left right t p q =
+    let lt : i < length (parts_of (kind_at ks x)) = let m = t.left in omega arith in
+    let e : right ≡ get_or (parts_of (kind_at ks y)) i left = q ∙ get_or_default (parts_of (kind_at ks y)) i right left (let m = t.right in omega arith) in
+    rw (p, e) (t.each i left (omega arith))
+
+-- the parts of two records or tuples of one sort
+pub composite-parts : (ks : List CellKind) (x y : CellId) → CompositesOfOneType ks x y → PartsOfOneType ks x y (length (parts_of (kind_at ks x)))
+composite-parts ks x y t = record {
+  x_there = sort-there ks t.types.sort x t.types.left;
+  y_there = sort-there ks t.types.sort y t.types.right;
+  left = omega arith;
+  right = let n = parts-count ks x y t in omega arith;
+  each = λ i d lt. part-types ks x y t i d d lt;
 }
 
 -- ---- a composite of chosen parts
 
-maps-one : (f g : CellId → Value) (xs ys : List CellId) → length xs ≡ length ys → ((i : ℕ) (d : CellId) → i < length xs → f (get_or xs i d) ≡ g (get_or ys i d)) → map f xs ≡ map g ys
+pub maps-one : (f g : CellId → Value) (xs ys : List CellId) → length xs ≡ length ys → ((i : ℕ) (d : CellId) → i < length xs → f (get_or xs i d) ≡ g (get_or ys i d)) → map f xs ≡ map g ys
 maps-one f g [] [] n h = refl
 maps-one f g [] (y ∷ ys) n h = absurd (omega arith)
 maps-one f g (x ∷ xs) [] n h = absurd (omega arith)

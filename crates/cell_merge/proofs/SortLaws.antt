@@ -10,7 +10,7 @@ use Rattle.cell_arena.specs.declared.kinds.CellKind.TheVariants.{Bit, Word, Text
 use Rattle.cell_arena.specs.Cells.{kind_at}
 use Rattle.cell_arena.specs.Growth.{Grows, Adds}
 use Rattle.cell_arena.proofs.Growing.{kind-before}
-use Rattle.cell_merge.specs.Sorts.{Sort, truth, number, name, set_of, record_of, tuple_of, OfSort, IsBit, IsWord, IsText, IsSet, ArePlaced, IsRecord, IsTuple}
+use Rattle.cell_merge.specs.Sorts.{Sort, truth, number, name, set_of, function_of, sequence_of, record_of, tuple_of, OfSort, IsBit, IsWord, IsText, IsSet, IsFunction, IsSequence, ArePlaced, IsRecord, IsTuple}
 
 IsSet-weaker : (P Q : CellId → Type 0) → ((id : CellId) → P id → Q id) → (k : CellKind) → IsSet P k → IsSet Q k
 IsSet-weaker P Q f (Bit l) h = h
@@ -21,6 +21,26 @@ IsSet-weaker P Q f (Fun es) h = h
 IsSet-weaker P Q f (Rec fs) h = h
 IsSet-weaker P Q f (Tup ps) h = h
 IsSet-weaker P Q f (Seq w ps) h = h
+
+IsFunction-weaker : (P Q R S : CellId → Type 0) → ((id : CellId) → P id → Q id) → ((id : CellId) → R id → S id) → (k : CellKind) → IsFunction P R k → IsFunction Q S k
+IsFunction-weaker P Q R S f g (Bit l) h = h
+IsFunction-weaker P Q R S f g (Word w) h = h
+IsFunction-weaker P Q R S f g (Text w) h = h
+IsFunction-weaker P Q R S f g (Set es) h = h
+IsFunction-weaker P Q R S f g (Fun es) h = All-weaker (λ e. P e.1 × R e.2) (λ e. Q e.1 × S e.2) (λ e p. (f e.1 p.0, g e.2 p.1)) es h
+IsFunction-weaker P Q R S f g (Rec fs) h = h
+IsFunction-weaker P Q R S f g (Tup ps) h = h
+IsFunction-weaker P Q R S f g (Seq w ps) h = h
+
+IsSequence-weaker : (P Q : CellId → Type 0) → ((id : CellId) → P id → Q id) → (k : CellKind) → IsSequence P k → IsSequence Q k
+IsSequence-weaker P Q f (Bit l) h = h
+IsSequence-weaker P Q f (Word w) h = h
+IsSequence-weaker P Q f (Text w) h = h
+IsSequence-weaker P Q f (Set es) h = h
+IsSequence-weaker P Q f (Fun es) h = h
+IsSequence-weaker P Q f (Rec fs) h = h
+IsSequence-weaker P Q f (Tup ps) h = h
+IsSequence-weaker P Q f (Seq w ps) h = All-weaker P Q f ps h
 
 ArePlaced-weaker : (P Q : ℕ → CellId → Type 0) → ((i : ℕ) (id : CellId) → P i id → Q i id) → (n : ℕ) (ps : List CellId) → ArePlaced n P ps → ArePlaced n Q ps
 ArePlaced-weaker P Q f n ps h = (h.0, λ i d lt. f i (get_or ps i d) (h.1 i d lt))
@@ -55,6 +75,17 @@ OfSort-later b c (set_of s) id h g = (
   subst (λ k. IsSet (OfSort c.arena.kinds s) k) (sym (kind-before b c id g h.0))
       (IsSet-weaker (OfSort b.arena.kinds s) (OfSort c.arena.kinds s) (λ e p. OfSort-later b c s e p g) (kind_at b.arena.kinds id) h.1),
 )
+OfSort-later b c (function_of s t) id h g = (
+  let p = h.0 in let q = g.longer in omega arith,
+  subst (λ k. IsFunction (OfSort c.arena.kinds s) (OfSort c.arena.kinds t) k) (sym (kind-before b c id g h.0))
+      (IsFunction-weaker (OfSort b.arena.kinds s) (OfSort c.arena.kinds s) (OfSort b.arena.kinds t) (OfSort c.arena.kinds t)
+      (λ e p. OfSort-later b c s e p g) (λ e p. OfSort-later b c t e p g) (kind_at b.arena.kinds id) h.1),
+)
+OfSort-later b c (sequence_of s) id h g = (
+  let p = h.0 in let q = g.longer in omega arith,
+  subst (λ k. IsSequence (OfSort c.arena.kinds s) k) (sym (kind-before b c id g h.0))
+      (IsSequence-weaker (OfSort b.arena.kinds s) (OfSort c.arena.kinds s) (λ e p. OfSort-later b c s e p g) (kind_at b.arena.kinds id) h.1),
+)
 OfSort-later b c (record_of names s) id h g = (
   let p = h.0 in let q = g.longer in omega arith,
   subst (λ k. IsRecord names (λ i. OfSort c.arena.kinds (s i)) k) (sym (kind-before b c id g h.0))
@@ -87,6 +118,22 @@ sort-set b c es s id h g all = (
   added-there b c (Set es) id h,
   subst (λ k. IsSet (OfSort c.arena.kinds s) k) (sym (added-kind b c (Set es) id h))
       (All-weaker (λ e. OfSort b.arena.kinds s e.1) (λ e. OfSort c.arena.kinds s e.1) (λ e p. OfSort-later b c s e.1 p g) es all),
+)
+
+pub sort-function : (b c : Build) (es : List (Lit × CellId × CellId)) (s t : Sort) (id : CellId) → Adds b c (Fun es) id → Grows b c → All (λ e. OfSort b.arena.kinds s e.1 × OfSort b.arena.kinds t e.2) es
+    → OfSort c.arena.kinds (function_of s t) id
+sort-function b c es s t id h g all = (
+  added-there b c (Fun es) id h,
+  subst (λ k. IsFunction (OfSort c.arena.kinds s) (OfSort c.arena.kinds t) k) (sym (added-kind b c (Fun es) id h))
+      (All-weaker (λ e. OfSort b.arena.kinds s e.1 × OfSort b.arena.kinds t e.2) (λ e. OfSort c.arena.kinds s e.1 × OfSort c.arena.kinds t e.2)
+      (λ e p. (OfSort-later b c s e.1 p.0 g, OfSort-later b c t e.2 p.1 g)) es all),
+)
+
+pub sort-sequence : (b c : Build) (w : List Lit) (ps : List CellId) (s : Sort) (id : CellId) → Adds b c (Seq w ps) id → Grows b c → All (OfSort b.arena.kinds s) ps → OfSort c.arena.kinds (sequence_of s) id
+sort-sequence b c w ps s id h g all = (
+  added-there b c (Seq w ps) id h,
+  subst (λ k. IsSequence (OfSort c.arena.kinds s) k) (sym (added-kind b c (Seq w ps) id h))
+      (All-weaker (OfSort b.arena.kinds s) (OfSort c.arena.kinds s) (λ e p. OfSort-later b c s e p g) ps all),
 )
 
 pub sort-record : (b c : Build) (fs : List (List ℕ × CellId)) (names : List (List ℕ)) (s : ℕ → Sort) (id : CellId) → Adds b c (Rec fs) id → Grows b c → map (λ (f : List ℕ × CellId). f.0) fs ≡ names

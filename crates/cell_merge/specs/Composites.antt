@@ -1,18 +1,20 @@
--- Records and tuples by their parts.
+-- Records, tuples and sequences by their parts.
 use Rattle.std.specs.Prelude.{◌≡◌, ◌<◌, List, [], All, map, length}
 use Rattle.std.specs.List.{zip}
 use Rattle.cell_arena.specs.declared.build.Build.{Build}
 use Rattle.cell_arena.specs.declared.kinds.CellId.{CellId}
 use Rattle.cell_arena.specs.declared.kinds.CellKind.{CellKind}
-use Rattle.cell_arena.specs.declared.kinds.CellKind.TheVariants.{Rec, Tup}
+use Rattle.cell_arena.specs.declared.kinds.CellKind.TheVariants.{Rec, Tup, Seq}
 use Rattle.cell_arena.specs.Cells.{kind_at}
 use Rattle.cell_arena.specs.Decode.{decode, kind_value}
 use Rattle.cell_arena.specs.Growth.{Adds, Decodes}
 
--- the parts of a record or a tuple in their order; of any other kind none
+-- the parts of a record or a tuple in their order, and the places of a sequence, those past its length
+-- too; of any other kind none
 abbrev pub parts_of : CellKind → List CellId
 parts_of (Rec fs) = map (λ f. f.1) fs
 parts_of (Tup ps) = ps
+parts_of (Seq w ps) = ps
 parts_of k = []
 
 -- a record or a tuple

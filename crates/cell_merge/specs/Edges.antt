@@ -75,3 +75,14 @@ pub record TestsEach (c : Cells) (f : Cnf) (es : List (Lit × CellId)) (n : ℕ)
   pub count : length ls ≡ n
   pub values : (a : List Bool) → Satisfies a f → (i : ℕ) → i < n → (e : Lit × CellId) (l : Lit) → lit_value (slice_index_or es i e).0 a ≡ true →
       lit_value (slice_index_or ls i l) a ≡ test a (decode c a (slice_index_or es i e).1)
+
+-- cells of one sort, as many as there are edges
+pub record AreImages (ks : List CellKind) (es : List (Lit × CellId)) (images : List CellId) : Type 0 where
+  pub count : length images ≡ length es
+  pub sort : Sort
+  pub cells : All (OfSort ks sort) images
+
+-- at each edge that is there the other cell is the image of the value
+unfoldable pub MapsBy : List Bool → (CellId → Value) → List (Lit × CellId) → List CellId → (Value → Value) → Type 0
+MapsBy a of es xs g =
+    (i : ℕ) (e : Lit × CellId) (x : CellId) → i < length es → lit_value (slice_index_or es i e).0 a ≡ true → of (slice_index_or xs i x) ≡ g (of (slice_index_or es i e).1)

@@ -1,3 +1,5 @@
+pub mod Arrows
+pub mod Partial
 pub mod Sorts
 pub mod Composites
 pub mod Edges

@@ -1,9 +1,10 @@
-//! Records and tuples by their parts.
+//! Records, tuples and sequences by their parts.
 
 ghost use Rattle.cell_arena.specs.Cells.{kind_at};
 ghost use Rattle.cell_arena.specs.Growth.{Grows};
 ghost use Rattle.cell_arena.specs.declared.kinds.CellId.{CellId as AnyCell};
 ghost use Rattle.cell_merge.specs.Composites.{FitsParts, IsWithParts, parts_of};
+ghost use Rattle.cell_merge.specs.inner.Composites.{IsCommon};
 ghost use Rattle.std.specs.List.{zip};
 ghost use Rattle.std.specs.Prelude.{◌<◌, ◌≡◌, IfOk, length, map, slice_index_or};
 
@@ -11,7 +12,7 @@ use cell_arena::{Arena, Build, CellId, CellKind};
 use std::alloc::{AllocError, Global};
 use tla_values::{List, Text, copy_text};
 
-/// How many parts the record or tuple has. It takes no memory.
+/// How many parts the record or tuple has, or how many places the sequence. It takes no memory.
 pub fn part_count(arena: &Arena, id: CellId) -> usize
     requires { id.index < length arena.now.kinds }
     ensures { result ≡ length (parts_of (kind_at arena.now.kinds id)) }
@@ -19,11 +20,12 @@ pub fn part_count(arena: &Arena, id: CellId) -> usize
     match arena.kind(id) {
         CellKind::Rec(fields) => fields.as_slice().len(),
         CellKind::Tup(parts) => parts.as_slice().len(),
+        CellKind::Seq(_, places) => places.as_slice().len(),
         _ => 0,
     }
 }
 
-/// The part of the record or tuple at a place, from 0. It takes no memory.
+/// The part of the record, tuple or sequence at a place, from 0. It takes no memory.
 pub fn part_at(arena: &Arena, id: CellId, place: usize) -> CellId
     requires there { id.index < length arena.now.kinds }
     requires within { place < length (parts_of (kind_at arena.now.kinds id)) }
@@ -33,8 +35,23 @@ pub fn part_at(arena: &Arena, id: CellId, place: usize) -> CellId
     match arena.kind(id) {
         CellKind::Rec(fields) => fields.as_slice()[place].1,
         CellKind::Tup(parts) => parts.as_slice()[place],
+        CellKind::Seq(_, places) => places.as_slice()[place],
         _ => id,
     }
+}
+
+/// How many places both cells have.
+pub(crate) fn common_count(arena: &Arena, x: CellId, y: CellId) -> usize
+    requires x_there { x.index < length arena.now.kinds }
+    requires y_there { y.index < length arena.now.kinds }
+    ensures { IsCommon arena.now.kinds x y result }
+{
+    let left = part_count(arena, x);
+    let right = part_count(arena, y);
+    if left < right {
+        return left;
+    }
+    right
 }
 
 // The names of the fields, each with its part.

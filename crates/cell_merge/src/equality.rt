@@ -3,22 +3,28 @@
 ghost use Rattle.cell_arena.specs.Cells.{kind_at};
 ghost use Rattle.cell_arena.specs.Decode.{decode};
 ghost use Rattle.cell_arena.specs.Growth.{Grows as BuildGrows};
+ghost use Rattle.cell_merge.specs.Arrows.{length_word};
 ghost use Rattle.cell_merge.specs.Composites.{parts_of};
 ghost use Rattle.cell_merge.specs.Edges.{TestsEach, edges_of};
-ghost use Rattle.cell_merge.specs.Sorts.{IsOver, MemberType, OneType, SetsOfOneType};
+ghost use Rattle.cell_merge.specs.Sorts.{IsOver, MemberType, OneType, SequencesOfOneType, SetsOfOneType};
 ghost use Rattle.cell_merge.specs.inner.Composites.{CompositesOfOneType, TestsParts};
-ghost use Rattle.cell_merge.specs.inner.Pairs.{AreTests, Compares, EdgeAndSet, IsPair, Meets, Pairs, each_there};
+ghost use Rattle.cell_merge.specs.inner.Items.{AreFor, AreSides, ComparesItems, IsRow, ItemAndCell, ItemsAlike, ItemsOfOneType, TellStanding, heads_of, item_at, stands_at};
+ghost use Rattle.cell_merge.specs.inner.Places.{reaches};
 ghost use Rattle.sat_formula.specs.Formula.{Grows, HasValue};
+ghost use Rattle.std.specs.Ordering.{int_eq};
 ghost use Rattle.std.specs.Prelude.{IfOk, length, map, ◌<◌, ◌≡◌};
 ghost use Rattle.tla_values.specs.Order.{same_value};
 ghost use Rattle.tla_values.specs.Sets.{elements, member, subset};
+ghost use Rattle.word_blaster.specs.Word.{word_value};
 
-use crate::composites::{part_at, part_count};
+use crate::composites::{common_count, part_at, part_count};
+use crate::crosses::{Sides, cover, implied, meets, mutual};
+use crate::items::{Item, head_at, item_count, tail_at};
 use crate::likeness::{alike, known};
 use cell_arena::{Arena, Build, CellId, CellKind};
 use sat_formula::{Formula, Lit};
-use std::alloc::AllocError;
-use word_blaster::equal;
+use std::alloc::{AllocError, Global};
+use word_blaster::{equal, is_above, low_bits};
 
 /// A literal that is true exactly where the two cells have one value. It is `top` where they are
 /// alike.
@@ -58,11 +64,88 @@ pub fn same_in(
                 return Ok(codes);
             }
         }
-        CellKind::Set(_) => return same_sets(arena, formula, x, y),
+        CellKind::Set(_) | CellKind::Fun(_) => return same_items(arena, formula, x, y),
+        CellKind::Seq(_, _) => return same_sequences(arena, formula, x, y),
         CellKind::Rec(_) | CellKind::Tup(_) => return same_parts(arena, formula, x, y),
-        _ => {}
     }
     Ok(formula.top())
+}
+
+// A literal that is true exactly where the lengths of two sequences are equal.
+#[tactic(auto, using(sat_formula::proofs::Extension::gates))]
+fn same_lengths(
+    arena: &Arena,
+    formula: &mut Formula,
+    x: CellId,
+    y: CellId,
+) -> Result<Lit, AllocError>
+    requires over { IsOver arena.now formula.old }
+    requires types { SequencesOfOneType arena.now.kinds x y }
+    ensures value { IfOk result (λ l. HasValue formula.new l (λ a.
+        int_eq (word_value (length_word (kind_at arena.now.kinds x)) a) (word_value (length_word (kind_at arena.now.kinds y)) a))) }
+    ensures grows { Grows formula.old formula.new }
+{
+    let CellKind::Seq(v, _) = arena.kind(x) else {
+        return Ok(formula.top());
+    };
+    let CellKind::Seq(w, _) = arena.kind(y) else {
+        return Ok(formula.top());
+    };
+    let lengths = equal(arena.alloc(), formula, v, w)?;
+    Ok(lengths)
+}
+
+// A literal that is true exactly where the sequence has the place.
+#[tactic(auto, using(sat_formula::proofs::Extension::gates))]
+fn has_place(
+    arena: &Arena,
+    formula: &mut Formula,
+    x: CellId,
+    place: usize,
+) -> Result<Lit, AllocError>
+    requires over { IsOver arena.now formula.old }
+    requires sequence { SequencesOfOneType arena.now.kinds x x }
+    ensures value { IfOk result (λ l. HasValue formula.new l (λ a. reaches (word_value (length_word (kind_at arena.now.kinds x)) a) place)) }
+    ensures grows { Grows formula.old formula.new }
+{
+    let CellKind::Seq(w, places) = arena.kind(x) else {
+        return Ok(formula.top());
+    };
+    let bits = low_bits(arena.alloc(), w, places.as_slice().len())?;
+    let above = is_above(formula, bits.as_slice(), place)?;
+    Ok(above)
+}
+
+// A literal that is true exactly where two sequences have one value: one length, and the same at each
+// place within it.
+#[cycle(same)]
+#[tactic(auto, using(sat_formula::proofs::Extension::gates, crate::proofs::Names::over))]
+fn same_sequences(
+    arena: &Arena,
+    formula: &mut Formula,
+    x: CellId,
+    y: CellId,
+) -> Result<Lit, AllocError>
+    requires over { IsOver arena.now formula.old }
+    requires types { SequencesOfOneType arena.now.kinds x y }
+    ensures value { IfOk result (λ l. HasValue formula.new l (λ a. same_value (decode arena.now a x) (decode arena.now a y))) }
+    ensures grows { Grows formula.old formula.new }
+{
+    let lengths = same_lengths(arena, formula, x, y)?;
+    let mut tests = Vec::new(arena.alloc());
+    tests.push(lengths)?;
+    let common = common_count(arena, x, y);
+    for i in 0..common {
+        let here = has_place(arena, formula, x, i)?;
+        if let Some(false) = known(formula, here) {
+            continue;
+        }
+        let one = same_in(arena, formula, part_at(arena, x, i), part_at(arena, y, i))?;
+        let holds = formula.or(here.negated(), one)?;
+        tests.push(holds)?;
+    }
+    let all = formula.and_all(arena.alloc(), tests.as_slice())?;
+    Ok(all)
 }
 
 // A literal that is true exactly where two records, or two tuples, have one value.
@@ -105,25 +188,26 @@ fn part_tests(
     Ok(tests)
 }
 
-// A literal that is true exactly where the two sets have one value. Each member of the one is
-// compared once with each of the other.
+// A literal that is true exactly where two sets, or two functions, have one value. Each item of the one
+// is compared once with each of the other.
 #[cycle(same)]
 #[tactic(auto, using(sat_formula::proofs::Extension::gates, crate::proofs::Names::over))]
-fn same_sets(arena: &Arena, formula: &mut Formula, x: CellId, y: CellId) -> Result<Lit, AllocError>
+fn same_items(arena: &Arena, formula: &mut Formula, x: CellId, y: CellId) -> Result<Lit, AllocError>
     requires over { IsOver arena.now formula.old }
-    requires types { SetsOfOneType arena.now.kinds x y }
+    requires types { ItemsOfOneType arena.now.kinds x y }
     ensures value { IfOk result (λ l. HasValue formula.new l (λ a. same_value (decode arena.now a x) (decode arena.now a y))) }
     ensures grows { Grows formula.old formula.new }
 {
-    let (found, covered) = compare(arena, formula, x, y)?;
-    let there = all_there(arena, formula, x, found.as_slice())?;
-    let back = all_there(arena, formula, y, covered.as_slice())?;
-    let both = formula.and(there, back)?;
-    Ok(both)
+    let left = standing(arena, formula, x)?;
+    let right = standing(arena, formula, y)?;
+    let items = Sides { left, right };
+    let tests = compare(arena, formula, x, y, &items)?;
+    let all = mutual(arena.alloc(), formula, &items, &tests)?;
+    Ok(all)
 }
 
-// For each edge of the first set whether it is among the second's, and for each edge of the second
-// whether it is among the first's. Edges that are never there are not compared.
+// For each item of the first whether it is among the second's, and for each of the second whether it is
+// among the first's. Items that never stand are not compared.
 #[cycle(same)]
 #[tactic(auto, using(sat_formula::proofs::Extension::gates, crate::proofs::Names::over))]
 fn compare(
@@ -131,128 +215,154 @@ fn compare(
     formula: &mut Formula,
     x: CellId,
     y: CellId,
-) -> Result<(Vec<Lit>, Vec<Lit>), AllocError>
+    items: &Sides,
+) -> Result<Sides, AllocError>
     requires over { IsOver arena.now formula.old }
-    requires types { SetsOfOneType arena.now.kinds x y }
-    ensures compares { IfOk result (λ r. let es = edges_of (kind_at arena.now.kinds x) in
-        Compares arena.now formula.new es (edges_of (kind_at arena.now.kinds y)) (length es) (r.0.items, r.1.items)) }
+    requires types { ItemsOfOneType arena.now.kinds x y }
+    requires items { AreSides arena.now formula.old x y items.now.left.items items.now.right.items }
+    ensures compares { IfOk result (λ r. let k = kind_at arena.now.kinds x in
+        ComparesItems arena.now formula.new k (kind_at arena.now.kinds y) items.now.left.items items.now.right.items (length (heads_of k)) r.left.items r.right.items) }
     ensures grows { Grows formula.old formula.new }
 {
     let none = formula.top().negated();
+    let ours = items.left.as_slice();
+    let theirs = items.right.as_slice();
     let mut found = Vec::new(arena.alloc());
-    let mut covered = never(arena, y, none)?;
-    if let CellKind::Set(edges) = arena.kind(x) {
-        for edge in edges.as_slice() {
-            if let Some(false) = known(formula, edge.0) {
-                found.push(none)?;
-                continue;
-            }
-            let (here, more) = meet(arena, formula, *edge, y, covered.as_slice())?;
-            found.push(here)?;
-            covered = more;
+    let mut covered = never(arena.alloc(), theirs, none)?;
+    for i in 0..ours.len() {
+        if let Some(false) = known(formula, ours[i]) {
+            found.push(none)?;
+            continue;
         }
+        let row = row(arena, formula, Item { of: x, place: i }, y, theirs)?;
+        let one = meets(formula, theirs, row.as_slice())?;
+        found.push(one)?;
+        covered = cover(
+            arena.alloc(),
+            formula,
+            ours[i],
+            row.as_slice(),
+            covered.as_slice(),
+        )?;
     }
-    Ok((found, covered))
+    Ok(Sides {
+        left: found,
+        right: covered,
+    })
 }
 
-// The literal for each edge of the set.
-fn never(arena: &Arena, set: CellId, none: Lit) -> Result<Vec<Lit>, AllocError>
-    requires { set.index < length arena.now.kinds }
-    ensures { IfOk result (λ v. v.items ≡ map (λ e. none) (edges_of (kind_at arena.now.kinds set))) }
+// The literal for each of the others.
+fn never(alloc: Global, others: &[Lit], none: Lit) -> Result<Vec<Lit>, AllocError>
+    ensures { IfOk result (λ v. v.items ≡ map (λ e. none) others.now) }
 {
-    let CellKind::Set(edges) = arena.kind(set) else {
-        return Ok(Vec::new(arena.alloc()));
-    };
-    edges
-        .as_slice()
-        .iter()
-        .map(|_e| none)
-        .collect(arena.alloc())
+    others.iter().map(|_l| none).collect(alloc)
 }
 
-// Whether the edge is among the set's, and for each edge of the set whether it is covered so far or
-// with this one.
+// For each item of the other cell that may stand, whether it has the value of this one.
 #[cycle(same)]
 #[tactic(auto, using(sat_formula::proofs::Extension::gates, crate::proofs::Names::over))]
-fn meet(
+fn row(
     arena: &Arena,
     formula: &mut Formula,
-    edge: (Lit, CellId),
-    set: CellId,
-    covered: &[Lit],
-) -> Result<(Lit, Vec<Lit>), AllocError>
+    x: Item,
+    y: CellId,
+    theirs: &[Lit],
+) -> Result<Vec<Lit>, AllocError>
     requires over { IsOver arena.now formula.old }
-    requires types { EdgeAndSet arena.now.kinds formula.old.vars edge set }
-    requires tests { AreTests arena.now.kinds formula.old.vars set covered.now }
-    ensures meets { IfOk result (λ r. let es = edges_of (kind_at arena.now.kinds set) in
-        Meets arena.now formula.new edge es (length es) covered.now (r.0, r.1.items)) }
+    requires types { ItemAndCell arena.now.kinds x.of x.place y }
+    requires theirs { AreFor formula.old (kind_at arena.now.kinds y) theirs.now }
+    ensures row { IfOk result (λ r. IsRow arena.now formula.new (λ a. item_at (decode arena.now a) (kind_at arena.now.kinds x.of) x.place)
+        (kind_at arena.now.kinds y) theirs.now (length theirs.now) r.items) }
     ensures grows { Grows formula.old formula.new }
 {
-    let mut found = formula.top().negated();
-    let mut more = Vec::new(arena.alloc());
-    if let CellKind::Set(edges) = arena.kind(set) {
-        let es = edges.as_slice();
-        for i in 0..es.len() {
-            let (here, there) = pair(arena, formula, edge, es[i], (found, covered[i]))?;
-            found = here;
-            more.push(there)?;
+    let none = formula.top().negated();
+    let mut row = Vec::new(arena.alloc());
+    for j in 0..theirs.len() {
+        if let Some(false) = known(formula, theirs[j]) {
+            row.push(none)?;
+            continue;
         }
+        let one = same_item(arena, formula, x, Item { of: y, place: j })?;
+        row.push(one)?;
     }
-    Ok((found, more))
+    Ok(row)
 }
 
-// The two literals with one pair more: the first edge is found with the second, and the second is
-// covered with the first. Nothing is added where the second is never there.
+// A literal that is true exactly where the two items have one value. Results are compared only where
+// the arguments may be equal.
 #[cycle(same)]
 #[tactic(auto, using(sat_formula::proofs::Extension::gates, crate::proofs::Names::over))]
-fn pair(
-    arena: &Arena,
-    formula: &mut Formula,
-    x: (Lit, CellId),
-    y: (Lit, CellId),
-    so_far: (Lit, Lit),
-) -> Result<(Lit, Lit), AllocError>
+fn same_item(arena: &Arena, formula: &mut Formula, x: Item, y: Item) -> Result<Lit, AllocError>
     requires over { IsOver arena.now formula.old }
-    requires pair { IsPair arena.now.kinds formula.old.vars x y so_far }
-    ensures pairs { IfOk result (Pairs arena.now formula.new x y so_far) }
+    requires types { ItemsAlike arena.now.kinds x.of y.of x.place y.place }
+    ensures value { IfOk result (λ l. HasValue formula.new l (λ a. same_value
+        (item_at (decode arena.now a) (kind_at arena.now.kinds x.of) x.place) (item_at (decode arena.now a) (kind_at arena.now.kinds y.of) y.place))) }
     ensures grows { Grows formula.old formula.new }
 {
-    if let Some(false) = known(formula, y.0) {
-        return Ok(so_far);
+    let left = head_at(arena, x);
+    let right = head_at(arena, y);
+    let heads = same_in(arena, formula, left.1, right.1)?;
+    let Some(result) = tail_at(arena, x) else {
+        return Ok(heads);
+    };
+    let Some(other) = tail_at(arena, y) else {
+        return Ok(heads);
+    };
+    if let Some(false) = known(formula, heads) {
+        return Ok(heads);
     }
-    let one = same_in(arena, formula, x.1, y.1)?;
-    let here = formula.and(y.0, one)?;
-    let found = formula.or(so_far.0, here)?;
-    let there = formula.and(x.0, one)?;
-    let covered = formula.or(so_far.1, there)?;
-    Ok((found, covered))
+    let tails = same_in(arena, formula, result, other)?;
+    let both = formula.and(heads, tails)?;
+    Ok(both)
 }
 
-// A literal that is true exactly where each edge of the set that is there has a true literal.
-#[tactic(auto, using(sat_formula::proofs::Extension::gates))]
-fn all_there(
-    arena: &Arena,
-    formula: &mut Formula,
-    set: CellId,
-    tests: &[Lit],
-) -> Result<Lit, AllocError>
+// A literal for each item that is true exactly where it stands.
+#[cycle(same)]
+#[tactic(auto, using(sat_formula::proofs::Extension::gates, crate::proofs::Names::over))]
+fn standing(arena: &Arena, formula: &mut Formula, x: CellId) -> Result<Vec<Lit>, AllocError>
     requires over { IsOver arena.now formula.old }
-    requires tests { AreTests arena.now.kinds formula.old.vars set tests.now }
-    ensures value { IfOk result (λ l. HasValue formula.new l (λ a. each_there a (edges_of (kind_at arena.now.kinds set)) tests.now)) }
+    requires types { ItemsOfOneType arena.now.kinds x x }
+    ensures tells { IfOk result (λ ls. let k = kind_at arena.now.kinds x in TellStanding arena.now formula.new k (length (heads_of k)) ls.items) }
     ensures grows { Grows formula.old formula.new }
 {
-    let CellKind::Set(edges) = arena.kind(set) else {
-        return Ok(formula.top());
-    };
-    let es = edges.as_slice();
+    let total = item_count(arena, x);
     let mut all = Vec::new(arena.alloc());
-    for i in 0..es.len() {
-        let (l, _) = es[i];
-        let holds = formula.or(l.negated(), tests[i])?;
-        all.push(holds)?;
+    for i in 0..total {
+        let one = stands(arena, formula, Item { of: x, place: i })?;
+        all.push(one)?;
     }
-    let each = formula.and_all(arena.alloc(), all.as_slice())?;
-    Ok(each)
+    Ok(all)
+}
+
+// A literal that is true exactly where the item stands: a member that is there, or an arrow that is there
+// and no earlier one that is there has its argument.
+#[cycle(same)]
+#[tactic(auto, using(sat_formula::proofs::Extension::gates, crate::proofs::Names::over))]
+fn stands(arena: &Arena, formula: &mut Formula, x: Item) -> Result<Lit, AllocError>
+    requires over { IsOver arena.now formula.old }
+    requires item { ItemsAlike arena.now.kinds x.of x.of x.place x.place }
+    ensures value { IfOk result (λ l. HasValue formula.new l (λ a. stands_at a (decode arena.now a) (kind_at arena.now.kinds x.of) x.place)) }
+    ensures grows { Grows formula.old formula.new }
+{
+    let (l, argument) = head_at(arena, x);
+    if let Some(false) = known(formula, l) {
+        return Ok(l);
+    }
+    let CellKind::Fun(_) = arena.kind(x.of) else {
+        return Ok(l);
+    };
+    let mut hidden = formula.top().negated();
+    for i in 0..x.place {
+        let (m, earlier) = head_at(arena, Item { of: x.of, place: i });
+        if let Some(false) = known(formula, m) {
+            continue;
+        }
+        let one = same_in(arena, formula, argument, earlier)?;
+        let here = formula.and(m, one)?;
+        hidden = formula.or(hidden, here)?;
+    }
+    let first = formula.and(l, hidden.negated())?;
+    Ok(first)
 }
 
 /// A literal that is true exactly where the value of the cell is a member of the set. Edges that
@@ -313,6 +423,17 @@ pub fn members_in(
     Ok(tests)
 }
 
+// The literals of the set's edges.
+fn literals(arena: &Arena, set: CellId) -> Result<Vec<Lit>, AllocError>
+    requires { set.index < length arena.now.kinds }
+    ensures { IfOk result (λ v. v.items ≡ map (λ e. e.0) (edges_of (kind_at arena.now.kinds set))) }
+{
+    let CellKind::Set(edges) = arena.kind(set) else {
+        return Ok(Vec::new(arena.alloc()));
+    };
+    edges.as_slice().iter().map(|e| e.0).collect(arena.alloc())
+}
+
 /// A literal that is true exactly where each member of the first set is one of the second.
 #[tactic(auto, using(sat_formula::proofs::Extension::gates, crate::proofs::Names::over))]
 pub fn subset_in(
@@ -327,7 +448,9 @@ pub fn subset_in(
     ensures grows { Grows formula.old formula.new }
 {
     let tests = members_in(arena, formula, x, y)?;
-    let all = all_there(arena, formula, x, tests.as_slice())?;
+    let edges = literals(arena, x)?;
+    let holds = implied(arena.alloc(), formula, edges.as_slice(), tests.as_slice())?;
+    let all = formula.and_all(arena.alloc(), holds.as_slice())?;
     Ok(all)
 }
 

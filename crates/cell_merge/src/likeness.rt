@@ -37,8 +37,7 @@ fn same_literals(v: &[Lit], w: &[Lit]) -> bool
 }
 
 // Whether the two are one cell or are made in one way, as equal constants are: then they have one
-// value under every assignment. It adds nothing to a formula. Functions and sequences are alike
-// only where they are one cell.
+// value under every assignment. It adds nothing to a formula.
 #[cycle(alike)]
 pub(crate) fn alike(arena: &Arena, x: CellId, y: CellId) -> bool
     requires x_there { x.index < length arena.now.kinds }
@@ -66,8 +65,9 @@ pub(crate) fn alike(arena: &Arena, x: CellId, y: CellId) -> bool
         }
         CellKind::Set(_) => return alike_sets(arena, x, y),
         CellKind::Rec(_) => return alike_records(arena, x, y),
+        CellKind::Fun(_) => return alike_functions(arena, x, y),
         CellKind::Tup(_) => return alike_tuples(arena, x, y),
-        _ => {}
+        CellKind::Seq(_, _) => return alike_sequences(arena, x, y),
     }
     false
 }
@@ -147,6 +147,71 @@ fn alike_tuples(arena: &Arena, x: CellId, y: CellId) -> bool
     let CellKind::Tup(right) = arena.kind(y) else {
         return false;
     };
+    let ps = left.as_slice();
+    let qs = right.as_slice();
+    if ps.len() != qs.len() {
+        return false;
+    }
+    for i in 0..ps.len() {
+        if !alike(arena, ps[i], qs[i]) {
+            return false;
+        }
+    }
+    true
+}
+
+// Whether the two functions have the same literals to arguments and results that are alike, in one
+// order.
+#[cycle(alike)]
+fn alike_functions(arena: &Arena, x: CellId, y: CellId) -> bool
+    requires x_there { x.index < length arena.now.kinds }
+    requires y_there { y.index < length arena.now.kinds }
+    ensures { IsTrue result → (a : List Bool) → decode arena.now a x ≡ decode arena.now a y }
+{
+    let CellKind::Fun(left) = arena.kind(x) else {
+        return false;
+    };
+    let CellKind::Fun(right) = arena.kind(y) else {
+        return false;
+    };
+    let es = left.as_slice();
+    let fs = right.as_slice();
+    if es.len() != fs.len() {
+        return false;
+    }
+    for i in 0..es.len() {
+        let (here, e, v) = es[i];
+        let (there, f, w) = fs[i];
+        if here != there {
+            return false;
+        }
+        if !alike(arena, e, f) {
+            return false;
+        }
+        if !alike(arena, v, w) {
+            return false;
+        }
+    }
+    true
+}
+
+// Whether the two sequences have one length by the same literals, and places that are alike, in one
+// order.
+#[cycle(alike)]
+fn alike_sequences(arena: &Arena, x: CellId, y: CellId) -> bool
+    requires x_there { x.index < length arena.now.kinds }
+    requires y_there { y.index < length arena.now.kinds }
+    ensures { IsTrue result → (a : List Bool) → decode arena.now a x ≡ decode arena.now a y }
+{
+    let CellKind::Seq(v, left) = arena.kind(x) else {
+        return false;
+    };
+    let CellKind::Seq(w, right) = arena.kind(y) else {
+        return false;
+    };
+    if !same_literals(v.lits(), w.lits()) {
+        return false;
+    }
     let ps = left.as_slice();
     let qs = right.as_slice();
     if ps.len() != qs.len() {

@@ -72,7 +72,7 @@ parts-older n (Rec fs) h = λ i d lt.
     let P : CellId → Type 0 = λ p. p.index < n in
     subst P (sym (get_or-map (λ (f : List ℕ × CellId). f.1) fs i ([], d) d le)) (h i ([], d) le)
 parts-older n (Tup ps) h = h
-parts-older n (Seq w ps) h = All-nil (λ (p : CellId). p.index < n)
+parts-older n (Seq w ps) h = h
 
 -- other parts that fit
 pub fits-set : (c : Cells) (id : CellId) (place : ℕ) (v : CellId) (ps : List CellId) → WellBuilt c → HasPlace c.kinds id place → v.index < length c.kinds → ps ≡ set (parts_of (kind_at c.kinds id)) place v → FitsParts c.kinds id ps

@@ -1,2 +1,13 @@
 pub mod Overrides
+pub mod PairLists
+pub mod Graphs
 pub mod Composites
+pub mod ArrowPairs
+pub mod Makes
+pub mod Joins
+pub mod Applies
+pub mod Updates
+pub mod DomainSets
+pub mod KnownValues
+pub mod FunctionPicks
+pub mod FunctionListings

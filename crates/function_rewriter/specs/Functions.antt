@@ -1,27 +1,15 @@
 -- Records and tuples as functions (Specifying Systems, sections 16.1.8 and 16.1.9).
 use Rattle.std.specs.Prelude.{◌≡◌, ℕ, ◌-◌, ◌<◌, ◌≤◌, Bool, List, [], length, slice_index_or, Some, pos}
-use Rattle.tla_values.specs.Order.{Layer}
 use Rattle.tla_values.specs.Sets.{apply, override_at}
-use Rattle.tla_values.specs.declared.value.Value.{Value, out-Value}
 use Rattle.tla_values.specs.declared.value.Value.TheVariants as value
-use Rattle.tla_values.specs.declared.value.Value.TheOpen as layer
 use Rattle.cell_arena.specs.declared.build.Build.{Build}
 use Rattle.cell_arena.specs.declared.kinds.CellId.{CellId}
 use Rattle.cell_arena.specs.declared.kinds.CellKind.{CellKind}
 use Rattle.cell_arena.specs.Decode.{decode}
 use Rattle.cell_arena.specs.Growth.{Decodes}
 use Rattle.cell_merge.specs.Sorts.{Sort, OfSort, record_of, tuple_of}
-
-abbrev pub pairs_here : Layer Value → List (Value × Value)
-pairs_here (layer.Bool b) = []
-pairs_here (layer.Int n) = []
-pairs_here (layer.Text t) = []
-pairs_here (layer.Set xs) = []
-pairs_here (layer.Fun ps) = ps
-
--- the pairs of a function; of any other value none
-unfoldable pub pairs_of : Value → List (Value × Value)
-pairs_of v = pairs_here (out-Value v)
+unfoldable pub use Rattle.cell_merge.specs.Arrows.{pairs_of}
+pub use Rattle.cell_merge.specs.Arrows.{pairs_here}
 
 -- a record with a field of the name
 pub record HasField (ks : List CellKind) (r : CellId) (name : List ℕ) : Type 0 where

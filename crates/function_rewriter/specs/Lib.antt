@@ -1,2 +1,4 @@
 pub mod Functions
+pub mod Arrows
+pub mod FunctionSets
 pub mod inner

@@ -11,7 +11,8 @@ use Rattle.tla_values.proofs.Members.{list_any-set_of}
 use Rattle.cell_arena.specs.declared.kinds.CellId.{CellId}
 use Rattle.cell_arena.specs.Decode.{present}
 use Rattle.cell_merge.proofs.Chosen.{set_of-same}
-use Rattle.set_rewriter.specs.Edges.{image_edges, MapsBy}
+use Rattle.set_rewriter.specs.Edges.{image_edges}
+use Rattle.cell_merge.specs.Edges.{MapsBy}
 
 abbrev Edge : Type 0
 Edge = Lit × CellId

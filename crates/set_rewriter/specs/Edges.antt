@@ -8,7 +8,6 @@ use Rattle.cell_arena.specs.declared.build.Build.{Build}
 use Rattle.cell_arena.specs.Growth.{Decodes}
 use Rattle.cell_merge.specs.Sorts.{Sort, OfSort, set_of as set_sort}
 use Rattle.cell_arena.specs.declared.kinds.CellId.{CellId}
-use Rattle.cell_arena.specs.declared.kinds.CellKind.{CellKind}
 
 -- the cell is the set of these members, and has each sort of sets that both have
 pub record MakesSet (old new : Build) (x y id : CellId) (members : List Bool → List Value) : Type 0 where
@@ -33,12 +32,6 @@ image_edges [] xs = []
 image_edges (e ∷ es) [] = []
 image_edges (e ∷ es) (x ∷ xs) = (e.0, x) ∷ image_edges es xs
 
--- cells of one sort, as many as there are edges
-pub record AreImages (ks : List CellKind) (es : List (Lit × CellId)) (images : List CellId) : Type 0 where
-  pub count : length images ≡ length es
-  pub sort : Sort
-  pub cells : All (OfSort ks sort) images
-
 -- the cell is the set of these members, and has the sort of sets of each sort that the images have
 pub record MapsSet (old new : Build) (images : List CellId) (id : CellId) (members : List Bool → List Value) : Type 0 where
   pub value : Decodes new id (λ a. value.Set (members a))
@@ -54,8 +47,3 @@ pub record MakesOf (old new : Build) (x id : CellId) (given made : Sort → Sort
 pub record IsSetOfSets (b : Build) (id : CellId) : Type 0 where
   pub sort : Sort
   pub is : OfSort b.arena.kinds (set_sort (set_sort sort)) id
-
--- at each edge that is there the other cell is the image of the value
-unfoldable pub MapsBy : List Bool → (CellId → Value) → List (Lit × CellId) → List CellId → (Value → Value) → Type 0
-MapsBy a of es xs g =
-    (i : ℕ) (e : Lit × CellId) (x : CellId) → i < length es → lit_value (slice_index_or es i e).0 a ≡ true → of (slice_index_or xs i x) ≡ g (of (slice_index_or es i e).1)

@@ -3,8 +3,9 @@
 
 ghost use Rattle.cell_arena.specs.Decode.{present};
 ghost use Rattle.cell_arena.specs.declared.kinds.CellId.{CellId as AnyCell};
+ghost use Rattle.cell_merge.specs.Edges.{MapsBy};
 ghost use Rattle.sat_formula.specs.declared.lit.Lit.{Lit as AnyLit};
-ghost use Rattle.set_rewriter.specs.Edges.{KeepsBy, MapsBy, image_edges, kept};
+ghost use Rattle.set_rewriter.specs.Edges.{KeepsBy, image_edges, kept};
 ghost use Rattle.std.specs.Prelude.{◌≡◌, Bool, List, filter, length, map};
 ghost use Rattle.tla_values.specs.Sets.{set_of};
 ghost use Rattle.tla_values.specs.declared.value.Value.{Value as AnyValue};

@@ -3,11 +3,11 @@
 ghost use Rattle.cell_arena.specs.Cells.{kind_at};
 ghost use Rattle.cell_arena.specs.Decode.{decode, present};
 ghost use Rattle.cell_arena.specs.Growth.{Grows as BuildGrows};
-ghost use Rattle.cell_merge.specs.Edges.{AreNamed, edges_of};
+ghost use Rattle.cell_merge.specs.Edges.{AreImages, AreNamed, edges_of};
 ghost use Rattle.cell_merge.specs.Picks.{IsSetCell};
 ghost use Rattle.cell_merge.specs.Sorts.{SetsOfOneType, set_of as set_sort};
 ghost use Rattle.sat_formula.specs.Formula.{Grows};
-ghost use Rattle.set_rewriter.specs.Edges.{AreImages, IsSetOfSets, MakesOf, MakesSet, MapsSet, image_edges};
+ghost use Rattle.set_rewriter.specs.Edges.{IsSetOfSets, MakesOf, MakesSet, MapsSet, image_edges};
 ghost use Rattle.set_rewriter.specs.inner.Steps.{AreSets, Guards, GuardsSet, Inside, IsSetIn};
 ghost use Rattle.std.specs.List.{flat_map};
 ghost use Rattle.std.specs.Prelude.{◌<◌, ◌≤◌, ◌≡◌, IfOk, OnOk, length};

@@ -1,5 +1,5 @@
 -- Two records or tuples, part by part.
-use Rattle.std.specs.Prelude.{◌≡◌, ℕ, ◌<◌, Bool, true, false, ◌&&◌, List, [], ◌∷◌, All, map, take, length, slice_index_or}
+use Rattle.std.specs.Prelude.{◌≡◌, ℕ, ◌<◌, ◌≤◌, ◌⊎◌, Bool, true, false, ◌&&◌, List, [], ◌∷◌, All, map, take, length, slice_index_or}
 use Rattle.std.specs.List.{list_all}
 use Rattle.sat_formula.specs.declared.lit.Lit.{Lit}
 use Rattle.sat_formula.specs.declared.cnf.Cnf.{Cnf}
@@ -21,10 +21,19 @@ pub record CompositesOfOneType (ks : List CellKind) (x y : CellId) : Type 0 wher
   pub types : OneType ks x y
   pub composite : IsComposite (kind_at ks x)
 
--- and a place of their parts, from 0
-pub record PartsOfOneType (ks : List CellKind) (x y : CellId) (place : ℕ) : Type 0 where
-  pub types : CompositesOfOneType ks x y
-  pub within : place < length (parts_of (kind_at ks x))
+-- two cells of which each of the first n parts of the one has a sort that the other's has
+pub record PartsOfOneType (ks : List CellKind) (x y : CellId) (n : ℕ) : Type 0 where
+  pub x_there : x.index < length ks
+  pub y_there : y.index < length ks
+  pub left : n ≤ length (parts_of (kind_at ks x))
+  pub right : n ≤ length (parts_of (kind_at ks y))
+  pub each : (i : ℕ) (d : CellId) → i < n → OneType ks (slice_index_or (parts_of (kind_at ks x)) i d) (slice_index_or (parts_of (kind_at ks y)) i d)
+
+-- so many parts both have, and one of the two has no more
+pub record IsCommon (ks : List CellKind) (x y : CellId) (n : ℕ) : Type 0 where
+  pub left : n ≤ length (parts_of (kind_at ks x))
+  pub right : n ≤ length (parts_of (kind_at ks y))
+  pub all : (length (parts_of (kind_at ks x)) ≤ n) ⊎ (length (parts_of (kind_at ks y)) ≤ n)
 
 -- whether the items of two lists are the same ones in one order
 abbrev pub each_same : List Value → List Value → Bool

@@ -1,12 +1,11 @@
-use Rattle.std.proofs.Common.{◌<◌, length, ap, refl, ◌∙◌, sym, arith}
-use Rattle.cell_merge.proofs.Edges.{left-there, right-there, one-bit, one-word, one-text, one-set, one-other}
+use Rattle.std.proofs.Common.{◌+◌, refl, ◌∙◌, sym, arith}
+use Rattle.cell_merge.proofs.Edges.{left-there, right-there, one-bit, one-word, one-text, one-set, one-function, one-sequence}
 use Rattle.cell_merge.proofs.Chosen.{chosen-first, chosen-second, chosen-alike, chosen-bit, chosen-word, chosen-text, code-chosen}
-use Rattle.cell_arena.proofs.Growing.{Grows-trans, Grows-formula, kind-before}
+use Rattle.cell_arena.proofs.Growing.{Grows-trans, Grows-formula}
 use Rattle.cell_merge.proofs.Names.{words-alike, texts-alike}
-use Rattle.cell_merge.proofs.Shapes.{parts-count, parts-typed, parts-chosen-more, types-later, chosen-fits, chosen-composite}
-use Rattle.cell_arena.specs.declared.kinds.CellKind.{CellKind}
-use Rattle.cell_arena.specs.Cells.{kind_at}
-use Rattle.cell_merge.specs.Composites.{parts_of}
+use Rattle.cell_merge.proofs.Ends.{sequence-parts, begins-places, chosen-sequence}
+use Rattle.cell_merge.proofs.Fronts.{result-types, arrow-chosen, front-fewer, arrows-chosen-more, begins-both, chosen-function}
+use Rattle.cell_merge.proofs.Shapes.{part-types-of, composite-parts, parts-fewer, parts-chosen-more, chosen-fits, chosen-composite}
 use Rattle.cell_merge.proofs.choice.+choose.Goals as goal
 
 pub choose_cell-alike-requires-clause-x_there : goal.choose_cell-alike-requires-clause-x_there
@@ -79,57 +78,110 @@ choose_part-returns-in-Text-kind-clause-chosen t c =
     chosen-text c.args.b.now _ _ _ _ _ _ _ _ _ _ refl c.kind.ensures.decodes c.kind-in-Text.ensures.decodes c.kind.ensures.same c.kind-in-Text.ensures.same r.cell r.value r.grows
     _ _ _ c.in-Text.is c.in-Text-kind.is refl refl c.in_ok-code-in-Text.ensures.value
 
+pub choose_part-returns-in_default : goal.choose_part-returns-in_default
+choose_part-returns-in_default t c = absurd (one-bit _ _ _ c.requires.types _ (sym c.kind.ensures.same ∙ c.in-Bit.is) (λ m f. c.in_default.not-Bit m (c.kind-in-Bit.ensures.same ∙ f)))
+
 pub choose_part-returns-in_default-kind : goal.choose_part-returns-in_default-kind
-choose_part-returns-in_default-kind t c = absurd (one-bit _ _ _ c.requires.types _ (sym c.kind.ensures.same ∙ c.in-Bit.is) (λ m f. c.in_default-kind.not-Bit m (c.kind-in-Bit.ensures.same ∙ f)))
+choose_part-returns-in_default-kind t c = absurd (one-word _ _ _ c.requires.types _ (sym c.kind.ensures.same ∙ c.in-Word.is) (λ m f. c.in_default-kind.not-Word m (c.kind-in-Word.ensures.same ∙ f)))
 
 pub choose_part-returns-in_default-kind-2 : goal.choose_part-returns-in_default-kind-2
-choose_part-returns-in_default-kind-2 t c = absurd (one-word _ _ _ c.requires.types _ (sym c.kind.ensures.same ∙ c.in-Word.is) (λ m f. c.in_default-kind-2.not-Word m (c.kind-in-Word.ensures.same ∙ f)))
-
-pub choose_part-returns-in_default-kind-3 : goal.choose_part-returns-in_default-kind-3
-choose_part-returns-in_default-kind-3 t c = absurd (one-text _ _ _ c.requires.types _ (sym c.kind.ensures.same ∙ c.in-Text.is) (λ m f. c.in_default-kind-3.not-Text m (c.kind-in-Text.ensures.same ∙ f)))
-
-pub choose_part-returns-in_default-clause-chosen : goal.choose_part-returns-in_default-clause-chosen
-choose_part-returns-in_default-clause-chosen t c = absurd (one-other _ _ _ c.requires.types (λ l f. c.in_default.not-Bit l (c.kind.ensures.same ∙ f)) (λ v f. c.in_default.not-Word v (c.kind.ensures.same ∙ f))
-    (λ v f. c.in_default.not-Text v (c.kind.ensures.same ∙ f)) (λ es f. c.in_default.not-Set es (c.kind.ensures.same ∙ f)) (λ fs f. c.in_default.not-Rec fs (c.kind.ensures.same ∙ f)) (λ ps f. c.in_default.not-Tup ps (c.kind.ensures.same ∙ f)))
+choose_part-returns-in_default-kind-2 t c = absurd (one-text _ _ _ c.requires.types _ (sym c.kind.ensures.same ∙ c.in-Text.is) (λ m f. c.in_default-kind-2.not-Text m (c.kind-in-Text.ensures.same ∙ f)))
 
 pub choose_part-choose_set-requires-clause-types : goal.choose_part-choose_set-requires-clause-types
 choose_part-choose_set-requires-clause-types t c = one-set _ _ _ c.requires.types _ (sym c.kind.ensures.same ∙ c.in-Set.is)
 
-pub choose_at-part_at-right-requires-clause-there : goal.choose_at-part_at-right-requires-clause-there
-choose_at-part_at-right-requires-clause-there t c = right-there _ _ _ c.requires.types.types.types
+pub choose_part-choose_function-requires : goal.choose_part-choose_function-requires
+choose_part-choose_function-requires t c = (omega arith, (c.requires.below, one-function _ _ _ c.requires.types _ (sym c.kind.ensures.same ∙ c.in-Fun.is)))
 
-pub choose_at-part_at-right-requires-clause-within : goal.choose_at-part_at-right-requires-clause-within
-choose_at-part_at-right-requires-clause-within t c = let n = parts-count _ _ _ c.requires.types.types in let m = c.requires.types.within in omega arith
+pub choose_part-choose_sequence-requires : goal.choose_part-choose_sequence-requires
+choose_part-choose_sequence-requires t c = (omega arith, (c.requires.below, one-sequence _ _ _ c.requires.types _ _ (sym c.kind.ensures.same ∙ c.in-Seq.is)))
 
 pub choose_at-choose_cell-requires : goal.choose_at-choose_cell-requires
 choose_at-choose_cell-requires t c =
     let p = c.part_at-left.ensures.older in
     let q = c.part_at-right.ensures.older in
-    let types = parts-typed _ _ _ c.requires.types.types c.args.place _ _ c.requires.types.within (c.part_at-left.ensures.part c.part_at-left.result) (c.part_at-right.ensures.part c.part_at-right.result) in
+    let u = c.requires.types in
+    let types = part-types-of _ _ _ c.args.place _ _ u (c.part_at-left.ensures.part c.part_at-left.result) (c.part_at-right.ensures.part c.part_at-right.result) in
     (omega arith, (c.requires.below, types))
 
+pub choose_composite-choose_parts-requires : goal.choose_composite-choose_parts-requires
+choose_composite-choose_parts-requires t c = (omega arith, (c.requires.below, rw c.part_count-count.ensures (composite-parts _ _ _ c.requires.types)))
+
 pub choose_composite-with_parts-requires : goal.choose_composite-with_parts-requires
-choose_composite-with_parts-requires t c = chosen-fits _ _ _ _ _ _ c.requires.types c.in_ok-parts.ensures.chosen c.in_ok-parts.ensures.grows
+choose_composite-with_parts-requires t c = chosen-fits _ _ _ _ _ _ c.requires.types (rw c.part_count-count.ensures at c.in_ok-parts.ensures.chosen) c.in_ok-parts.ensures.grows
 
 pub choose_composite-returns-clause-chosen : goal.choose_composite-returns-clause-chosen
 choose_composite-returns-clause-chosen t c =
-    chosen-composite _ _ _ _ _ _ c.requires.types c.in_ok-parts.ensures.chosen c.in_ok-parts.ensures.grows _ _ c.in_ok-id.ensures.grows c.in_ok-id.ensures.made
+    chosen-composite _ _ _ _ _ _ c.requires.types (rw c.part_count-count.ensures at c.in_ok-parts.ensures.chosen) c.in_ok-parts.ensures.grows _ _ c.in_ok-id.ensures.grows c.in_ok-id.ensures.made
 
 pub choose_parts-choose_at-requires : goal.choose_parts-choose_at-requires
 choose_parts-choose_at-requires t c =
     let i = c.loop-i.invariant in
     let b = c.requires.below in
     let g = i.grows.formula.vars in
-    let same = ap (λ (k : CellKind). length (parts_of k)) (kind-before _ _ c.args.x i.grows (left-there _ _ _ c.requires.types.types)) in
-    let n = c.part_count-count.ensures in
-    (omega arith, (omega arith, record { types = types-later _ _ _ _ c.requires.types i.grows; within = omega arith }))
+    (omega arith, (omega arith, parts-fewer _ _ _ _ _ (c.loop-i.i + 1) c.requires.types (omega arith) i.grows))
 
 pub choose_parts-loop-i-preserved : goal.choose_parts-loop-i-preserved
 choose_parts-loop-i-preserved t c =
     let i = c.loop-i.invariant in
-    let n = c.part_count-count.ensures in
-    let lt : c.loop-i.i < length (parts_of (kind_at c.args.b.now.arena.kinds c.args.x)) = omega arith in
     record {
       grows = Grows-trans _ _ _ i.grows c.in_ok-part.ensures.grows;
-      chosen = parts-chosen-more _ _ _ _ _ _ c.loop-i.i _ _ _ c.requires.types lt i.chosen i.grows c.in_ok-part.ensures.grows c.in_ok-part.ensures.chosen c.in_ok-push.ensures.items;
+      chosen = parts-chosen-more _ _ _ _ _ _ _ c.loop-i.i _ _ _ c.requires.types (omega arith) i.chosen i.grows c.in_ok-part.ensures.grows c.in_ok-part.ensures.chosen c.in_ok-push.ensures.items;
     }
+
+pub choose_arrow-choose_cell-requires : goal.choose_arrow-choose_cell-requires
+choose_arrow-choose_cell-requires t c =
+    let p = c.arrow_at-left.ensures.older in
+    let q = c.arrow_at-right.ensures.older in
+    let types = result-types _ _ _ c.args.place _ _ c.requires.front (c.arrow_at-left.ensures.arrow c.arrow_at-left.result) (c.arrow_at-right.ensures.arrow c.arrow_at-right.result) in
+    (omega arith, (c.requires.below, types))
+
+pub choose_arrow-returns-in_err-there-clause-grows : goal.choose_arrow-returns-in_err-there-clause-grows
+choose_arrow-returns-in_err-there-clause-grows t c = Grows-trans _ _ _ c.in_ok-value.ensures.grows (Grows-formula _ _ c.in_err-there.ensures.grows refl)
+
+pub choose_arrow-returns-clause-chosen : goal.choose_arrow-returns-clause-chosen
+choose_arrow-returns-clause-chosen t c =
+    arrow-chosen _ _ _ _ _ _ c.args.place _ _ _ _ c.requires.front (c.arrow_at-left.ensures.arrow c.arrow_at-left.result) (c.arrow_at-right.ensures.arrow c.arrow_at-right.result)
+    c.in_ok-value.ensures.grows (Grows-formula _ _ c.in_ok-there.ensures.grows refl) c.in_ok-value.ensures.chosen c.in_ok-there.ensures.value
+
+pub choose_arrow-returns-clause-grows : goal.choose_arrow-returns-clause-grows
+choose_arrow-returns-clause-grows t c = Grows-trans _ _ _ c.in_ok-value.ensures.grows (Grows-formula _ _ c.in_ok-there.ensures.grows refl)
+
+pub choose_arrows-choose_arrow-requires : goal.choose_arrows-choose_arrow-requires
+choose_arrows-choose_arrow-requires t c =
+    let i = c.loop-i.invariant in
+    let b = c.requires.below in
+    let g = i.grows.formula.vars in
+    (omega arith, (omega arith, front-fewer _ _ _ _ _ (c.loop-i.i + 1) c.requires.front (omega arith) i.grows))
+
+pub choose_arrows-loop-i-preserved : goal.choose_arrows-loop-i-preserved
+choose_arrows-loop-i-preserved t c =
+    let i = c.loop-i.invariant in
+    record {
+      grows = Grows-trans _ _ _ i.grows c.in_ok-arrow.ensures.grows;
+      chosen = arrows-chosen-more _ _ _ _ _ _ _ c.loop-i.i _ _ _ c.requires.front (omega arith) i.chosen i.grows c.in_ok-arrow.ensures.grows c.in_ok-arrow.ensures.chosen c.in_ok-push.ensures.items;
+    }
+
+pub choose_function-choose_arrows-requires : goal.choose_function-choose_arrows-requires
+choose_function-choose_arrows-requires t c = (omega arith, (c.requires.below, record { types = c.requires.types; front = c.common_front-count.ensures }))
+
+pub choose_function-end_function-requires-clause-begins : goal.choose_function-end_function-requires-clause-begins
+choose_function-end_function-requires-clause-begins t c =
+    begins-both _ _ _ _ _ _ _ (record { types = c.requires.types; front = c.common_front-count.ensures }) c.in_ok-front.ensures.grows c.in_ok-front.ensures.chosen
+
+pub choose_function-returns-clause-chosen : goal.choose_function-returns-clause-chosen
+choose_function-returns-clause-chosen t c =
+    chosen-function _ _ _ _ _ _ _ _ _ (record { types = c.requires.types; front = c.common_front-count.ensures }) c.in_ok-front.ensures.grows c.in_ok-id.ensures.grows c.in_ok-front.ensures.chosen c.in_ok-id.ensures.ends
+
+pub choose_sequence-choose_parts-requires : goal.choose_sequence-choose_parts-requires
+choose_sequence-choose_parts-requires t c = let n = c.common_count-count.ensures in (omega arith, (c.requires.below, sequence-parts _ _ _ _ c.requires.types n.left n.right))
+
+pub choose_sequence-end_sequence-requires-clause-begins : goal.choose_sequence-end_sequence-requires-clause-begins
+choose_sequence-end_sequence-requires-clause-begins t c =
+    let n = c.common_count-count.ensures in
+    begins-places c.args.b.now _ _ _ _ _ _ c.requires.types n.left n.right n.all c.in_ok-front.ensures.grows c.in_ok-front.ensures.chosen
+
+pub choose_sequence-returns-clause-chosen : goal.choose_sequence-returns-clause-chosen
+choose_sequence-returns-clause-chosen t c =
+    let n = c.common_count-count.ensures in
+    chosen-sequence c.args.b.now _ _ _ _ _ _ c.requires.types n.left n.right n.all c.in_ok-front.ensures.grows c.in_ok-front.ensures.chosen _ _ c.in_ok-id.ensures.grows c.in_ok-id.ensures.ends

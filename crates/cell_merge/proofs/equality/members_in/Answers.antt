@@ -1,7 +1,7 @@
 use Rattle.std.proofs.Common.{◌∙◌, ap, arith}
 use Rattle.sat_formula.specs.declared.lit.Lit.{Lit}
 use Rattle.sat_formula.proofs.Extension.{Grows-trans}
-use Rattle.cell_merge.proofs.Pairs.{tests-off, tests-more}
+use Rattle.cell_merge.proofs.Tested.{tests-off, tests-more}
 use Rattle.cell_merge.proofs.equality.members_in.Goals as goal
 
 pub loop-l-preserved-in-Some-false : goal.loop-l-preserved-in-Some-false

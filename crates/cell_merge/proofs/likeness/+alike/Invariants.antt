@@ -1,5 +1,5 @@
 use Rattle.std.proofs.Common.{◌≡◌, ◌*◌, ◌+◌, Bool, List, map, take}
-use Rattle.cell_arena.specs.Decode.{decode, field_pairs, present}
+use Rattle.cell_arena.specs.Decode.{decode, field_pairs, present, present_pairs}
 use Rattle.cell_merge.proofs.likeness.+alike.Given as goal
 
 abbrev pub decreases-alike : goal.decreases-alike
@@ -22,3 +22,15 @@ invariant-alike_records-loop-i l = (a : List Bool) → field_pairs (decode l.are
 
 abbrev pub invariant-alike_tuples-loop-i : goal.invariant-alike_tuples-loop-i
 invariant-alike_tuples-loop-i l = (a : List Bool) → map (decode l.arena a) (take l.i l.ps) ≡ map (decode l.arena a) (take l.i l.qs)
+
+abbrev pub decreases-alike_functions : goal.decreases-alike_functions
+decreases-alike_functions l = 2 * l.x.index
+
+abbrev pub decreases-alike_sequences : goal.decreases-alike_sequences
+decreases-alike_sequences l = 2 * l.x.index
+
+abbrev pub invariant-alike_functions-loop-i : goal.invariant-alike_functions-loop-i
+invariant-alike_functions-loop-i l = (a : List Bool) → present_pairs a (decode l.arena a) (take l.i l.es) ≡ present_pairs a (decode l.arena a) (take l.i l.fs)
+
+abbrev pub invariant-alike_sequences-loop-i : goal.invariant-alike_sequences-loop-i
+invariant-alike_sequences-loop-i l = (a : List Bool) → map (decode l.arena a) (take l.i l.ps) ≡ map (decode l.arena a) (take l.i l.qs)
