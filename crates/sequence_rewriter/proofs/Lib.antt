@@ -1,0 +1,9 @@
+pub mod Lists
+pub mod Bits
+pub mod Numbers
+pub mod Moves
+pub mod Fronts
+pub mod Cuts
+pub mod Cutting
+pub mod Slices
+pub mod Counted
