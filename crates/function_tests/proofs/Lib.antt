@@ -1,1 +1,3 @@
+pub mod Arrowed
+pub mod Counted
 pub mod Shaped

@@ -26,19 +26,28 @@ fn free(b: &mut Build) -> Result<Lit, AllocError>
     Ok(l)
 }
 
+/// `top` and so many free bits.
+#[tactic(auto, using(cell_arena::proofs::Growing::growing))]
+pub fn some_bits(alloc: Global, b: &mut Build, count: usize) -> Result<Vec<Lit>, AllocError>
+    ensures bits { IfOk result (λ v. All (IsBelow b.new.formula.vars) v.items) }
+    ensures grows { Grows b.old b.new }
+{
+    let mut bits = Vec::new(alloc);
+    bits.push(b.formula.top())?;
+    for _i in 0..count {
+        let bit = free(b)?;
+        bits.push(bit)?;
+    }
+    Ok(bits)
+}
+
 /// `top` and 4 free bits.
 #[tactic(auto, using(cell_arena::proofs::Growing::growing))]
 pub fn free_bits(alloc: Global, b: &mut Build) -> Result<Vec<Lit>, AllocError>
     ensures bits { IfOk result (λ v. All (IsBelow b.new.formula.vars) v.items) }
     ensures grows { Grows b.old b.new }
 {
-    let mut bits = Vec::new(alloc);
-    bits.push(b.formula.top())?;
-    for _i in 0..4 {
-        let bit = free(b)?;
-        bits.push(bit)?;
-    }
-    Ok(bits)
+    some_bits(alloc, b, 4)
 }
 
 /// The literal with this letter.
@@ -49,7 +58,7 @@ pub fn literal_of(b: &Build, bits: &[Lit], code: u8) -> Lit
     let top = b.formula.top();
     match code {
         b'F' => top.negated(),
-        b'a'..=b'd' => match bits.get((code - b'a') as usize + 1) {
+        b'a'..=b'z' => match bits.get((code - b'a') as usize + 1) {
             Some(l) => *l,
             None => top,
         },
@@ -85,9 +94,9 @@ fn one_of(alloc: Global, b: &mut Build, l: Lit, m: i128, n: i128) -> Result<Cell
     Ok(cell)
 }
 
-// The number with this letter.
+/// The number with this letter.
 #[tactic(auto, using(cell_arena::proofs::Growing::growing))]
-fn number(alloc: Global, b: &mut Build, bits: &[Lit], code: u8) -> Result<CellId, AllocError>
+pub fn number(alloc: Global, b: &mut Build, bits: &[Lit], code: u8) -> Result<CellId, AllocError>
     requires { All (IsBelow b.old.formula.vars) bits.now }
     ensures sort { IfOk result (OfSort b.new.arena.kinds number) }
     ensures grows { Grows b.old b.new }
@@ -101,9 +110,9 @@ fn number(alloc: Global, b: &mut Build, bits: &[Lit], code: u8) -> Result<CellId
     Ok(cell)
 }
 
-// The truth value of the literal with this letter.
+/// The truth value of the literal with this letter.
 #[tactic(auto, using(cell_arena::proofs::Growing::growing, cell_merge::proofs::SortLaws::sorts))]
-fn truth(b: &mut Build, bits: &[Lit], code: u8) -> Result<CellId, AllocError>
+pub fn truth(b: &mut Build, bits: &[Lit], code: u8) -> Result<CellId, AllocError>
     requires { All (IsBelow b.old.formula.vars) bits.now }
     ensures sort { IfOk result (OfSort b.new.arena.kinds truth) }
     ensures grows { Grows b.old b.new }

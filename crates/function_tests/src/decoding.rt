@@ -3,7 +3,7 @@
 use cell_arena::{Build, CellId, CellKind};
 use sat_formula::{Formula, Lit, Word};
 use std::alloc::{AllocError, Global};
-use tla_values::{List, Text, Value, copy_text, copy_value, fun_of, set_of, show};
+use tla_values::{List, Text, Value, copy_text, copy_value, fun_of, same_value, set_of, show};
 
 // The value of a literal, which is false past the end.
 fn is_true(l: Lit, a: &[bool]) -> bool {
@@ -13,8 +13,8 @@ fn is_true(l: Lit, a: &[bool]) -> bool {
     }
 }
 
-// Whether the clause has a true literal, or one of a later variable.
-fn is_met(lits: &[Lit], a: &[bool]) -> bool {
+/// Whether the clause has a true literal, or one of a later variable.
+pub fn is_met(lits: &[Lit], a: &[bool]) -> bool {
     for l in lits {
         if l.var >= a.len() || is_true(*l, a) {
             return true;
@@ -40,6 +40,37 @@ pub fn extended(alloc: Global, f: &Formula, a: &[bool]) -> Result<Vec<bool>, All
         if !are_met(f, values.as_slice()) {
             let _ = values.pop();
             values.push(false)?;
+        }
+    }
+    Ok(values)
+}
+
+// Whether no clause is false with one value more.
+fn is_free_for(f: &Formula, values: &mut Vec<bool>, value: bool) -> Result<bool, AllocError> {
+    values.push(value)?;
+    let met = are_met(f, values.as_slice());
+    let _ = values.pop();
+    Ok(met)
+}
+
+/// The assignment with values of the further variables. Those that the clauses leave free are the
+/// bits of the mask, the lowest first.
+pub fn preferring(
+    alloc: Global,
+    f: &Formula,
+    a: &[bool],
+    mask: u8,
+) -> Result<Vec<bool>, AllocError> {
+    let mut values = Vec::from_slice(alloc, a)?;
+    let mut rest = mask;
+    for _i in a.len()..f.vars() {
+        let on = is_free_for(f, &mut values, true)?;
+        let off = is_free_for(f, &mut values, false)?;
+        if on && off {
+            values.push(rest % 2 == 1)?;
+            rest /= 2;
+        } else {
+            values.push(on)?;
         }
     }
     Ok(values)
@@ -90,6 +121,33 @@ fn members(
     Ok(set)
 }
 
+// Whether the value is an argument of the pairs.
+fn has_argument(pairs: &[(Value, Value)], argument: &Value) -> bool {
+    for (a, _) in pairs {
+        if same_value(a, argument) {
+            return true;
+        }
+    }
+    false
+}
+
+// The function of the arrows that are there; of two with one argument the first counts.
+fn results(
+    alloc: Global,
+    arrows: &[(Lit, CellId, CellId)],
+    values: &[Value],
+    a: &[bool],
+) -> Result<Value, AllocError> {
+    let mut pairs = Vec::new(alloc);
+    for (l, from, to) in arrows {
+        let argument = value_at(alloc, values, *from)?;
+        if is_true(*l, a) && !has_argument(pairs.as_slice(), &argument) {
+            pairs.push((argument, value_at(alloc, values, *to)?))?;
+        }
+    }
+    function(alloc, pairs)
+}
+
 fn fields(alloc: Global, fields: &[(Text, CellId)], values: &[Value]) -> Result<Value, AllocError> {
     let mut pairs = Vec::new(alloc);
     for (name, part) in fields {
@@ -114,6 +172,22 @@ fn items(alloc: Global, parts: &[CellId], values: &[Value]) -> Result<Value, All
     function(alloc, pairs)
 }
 
+// As many of the places as the length says.
+fn first_items(
+    alloc: Global,
+    length: i128,
+    places: &[CellId],
+    values: &[Value],
+) -> Result<Value, AllocError> {
+    let mut first = Vec::new(alloc);
+    for i in 0..places.len() {
+        if (i as i128) < length {
+            first.push(places[i])?;
+        }
+    }
+    items(alloc, first.as_slice(), values)
+}
+
 // The value of a kind, by the values of the older cells.
 fn kind_value(
     alloc: Global,
@@ -125,8 +199,10 @@ fn kind_value(
         CellKind::Bit(l) => Ok(Value::Bool(is_true(*l, a))),
         CellKind::Word(w) => Ok(Value::Int(number(w, a))),
         CellKind::Set(edges) => members(alloc, edges.as_slice(), values, a),
+        CellKind::Fun(arrows) => results(alloc, arrows.as_slice(), values, a),
         CellKind::Rec(parts) => fields(alloc, parts.as_slice(), values),
         CellKind::Tup(parts) => items(alloc, parts.as_slice(), values),
+        CellKind::Seq(w, places) => first_items(alloc, number(w, a), places.as_slice(), values),
         _ => Ok(Value::Bool(false)),
     }
 }

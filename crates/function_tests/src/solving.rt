@@ -108,13 +108,14 @@ pub fn solved(
     Ok((id, differences(counts(b), before)))
 }
 
-// The numbers of variables, clauses and cells.
-fn counts(b: &Build) -> [usize; 3] {
+/// The numbers of variables, clauses and cells.
+pub fn counts(b: &Build) -> [usize; 3] {
     let clauses = b.formula.clauses().clauses().len();
     [b.formula.vars(), clauses, b.arena.len()]
 }
 
-fn differences(after: [usize; 3], before: [usize; 3]) -> [usize; 3] {
+/// What the later numbers are above the earlier ones.
+pub fn differences(after: [usize; 3], before: [usize; 3]) -> [usize; 3] {
     let [vars, clauses, cells] = before;
     let [v, c, n] = after;
     [

@@ -1,10 +1,12 @@
 use Rattle.std.proofs.Common.{All}
 use Rattle.sat_formula.specs.Lit.{IsBelow}
 use Rattle.cell_arena.specs.Growth.{Grows}
-use Rattle.function_tests.proofs.building.free_bits.Given as goal
+use Rattle.cell_merge.specs.Sorts.{OfSort, truth}
+use Rattle.function_tests.proofs.sequences.truths.Given as goal
 
 abbrev pub invariant-loop-i : goal.invariant-loop-i
 invariant-loop-i l = record {
   grows : Grows l.fn.b l.b;
-  bits : All (IsBelow l.b.formula.vars) l.bits.items;
+  bits : All (IsBelow l.b.formula.vars) l.bits;
+  cells : All (OfSort l.b.arena.kinds truth) l.places.items;
 }
