@@ -5,7 +5,8 @@ use Rattle.snowcat_rows.specs.declared.types.Ty.{Ty}
 use Rattle.snowcat_rows.specs.Types.{Term, Slot, var, con, app, fields, none, some, row, mean, Beside, here, first, second, field}
 use Rattle.snowcat_rows.specs.Substitutions.{Sub, apply, apply_slot, or_else, tail_row}
 use Rattle.snowcat_rows.specs.Chains.{Variable, Occurs}
-use Rattle.snowcat_rows.specs.inner.Rounds.{Unlike, Differ, Common, Is, SameNames}
+use Rattle.snowcat_rows.specs.FirstDifferences.{Common}
+use Rattle.snowcat_rows.specs.inner.Rounds.{Unlike, Differ, Is, SameNames}
 use Rattle.snowcat_rows.proofs.Rounding.{same_names}
 
 differ_left : (a b c d x y : Term) → Differ a b x y → Differ (app a c) (app b d) x y
@@ -131,6 +132,9 @@ through_field a b f g k j n t u x y ea eb ef eg d = moved a b (fields f k) (fiel
   unlike = d.unlike;
 })
 
+no_form : (f : List ℕ → Slot) (k : Option ℕ) (h x : Term) → fields f k ≡ app h x → ⊥
+no_form f k h x e = cc
+
 not_record : (f : List ℕ → Slot) (k : Option ℕ) (v : ℕ) → fields f k ≡ var v → ⊥
 not_record f k v e = cc
 
@@ -138,9 +142,12 @@ not_record f k v e = cc
 pub differ_records : (a b : Term) (f g : List ℕ → Slot) (k j : Option ℕ) → a ≡ fields f k → b ≡ fields g j → Common f g → (SameNames f g × (k ≡ j) → ⊥) → Differ a b a b
 unfolding at_name
 differ_records a b f g k j ea eb c n = differ_here a b (record {
-  unequal = λ e. n (names (sym ea ∙ e ∙ eb), tails (sym ea ∙ e ∙ eb));
+  at_once = record {
+    unequal = λ e. n (names (sym ea ∙ e ∙ eb), tails (sym ea ∙ e ∙ eb));
+    forms = λ h x y p q o. absurd (no_form f k (con h) x (sym ea ∙ p));
+    records = λ p q i l e h. common_at p q i l (sym e ∙ ea) (sym h ∙ eb);
+  };
   apart = λ p q h. absurd (h (f, k, ea) (g, j, eb));
-  common = λ p q i l e h. common_at p q i l (sym e ∙ ea) (sym h ∙ eb);
 })
   where
     is_of : (x y : Slot) → x ≡ y → Is x → Is y

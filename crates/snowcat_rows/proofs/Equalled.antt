@@ -6,7 +6,8 @@ use Rattle.snowcat_rows.specs.inner.Parts.{PartSlot, IsPart}
 use Rattle.snowcat_rows.specs.Substitutions.{Row, Sub, apply, apply_slot, or_else, tail_row, same_sub, Fronts, Sorted}
 use Rattle.snowcat_rows.specs.Sorting.{Within}
 use Rattle.snowcat_rows.specs.Chains.{type_var, row_var, Binding, to_type, to_row, key, single, solved, Occurs, OccursSlot, OccursRow}
-use Rattle.snowcat_rows.specs.inner.Rounds.{only, others, extra, extra_after, Is, Common, Covers, Advances, left_type, right_type, left_row, right_row, both_rows}
+use Rattle.snowcat_rows.specs.FirstDifferences.{Common}
+use Rattle.snowcat_rows.specs.inner.Rounds.{only, others, extra, extra_after, Is, Covers, Advances, left_type, right_type, left_row, right_row, both_rows}
 use Rattle.snowcat_rows.specs.inner.Measures.{TypesBelow}
 use Rattle.snowcat_rows.specs.Unifying.{IsBound, IsNeeded, Made}
 use Rattle.snowcat_rows.proofs.RowTheory.{single_free, single_at_type, single_at_row, tail_off}

@@ -10,7 +10,8 @@ use Rattle.snowcat_rows.specs.declared.types.Ty.TheVariants.{Int}
 use Rattle.snowcat_rows.specs.Types.{Term, Slot, none, some, lookup, mean}
 use Rattle.snowcat_rows.specs.Substitutions.{or_else}
 use Rattle.snowcat_rows.specs.Chains.{Variable, OccursSlot}
-use Rattle.snowcat_rows.specs.inner.Rounds.{only, Is, Covers, Lacks, Common}
+use Rattle.snowcat_rows.specs.FirstDifferences.{Common}
+use Rattle.snowcat_rows.specs.inner.Rounds.{only, Is, Covers, Lacks}
 use Rattle.snowcat_rows.specs.Codes.{named, has}
 use Rattle.snowcat_rows.proofs.Means.{lookup-append, or_none}
 

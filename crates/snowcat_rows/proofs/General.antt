@@ -280,7 +280,7 @@ binding_agree m k j (to_row r y) e w h = record {
     moved none a b c d p q h = q ∙ h ∙ sym p
     moved (some t) a b c d p q h = (λ i. h.0 (sym p ∙ i), q ∙ h.1)
 
-all_agree : (m : ℕ) (k j : Fronts) (bs : List Binding) → ((v : ℕ) → v < m → (x : List ℕ) → j v x ≡ k v x) → AllWithin m bs → AllSorted k bs → AllSorted j bs
+pub all_agree : (m : ℕ) (k j : Fronts) (bs : List Binding) → ((v : ℕ) → v < m → (x : List ℕ) → j v x ≡ k v x) → AllWithin m bs → AllSorted k bs → AllSorted j bs
 all_agree m k j [] e w h = tt
 all_agree m k j (b ∷ bs) e w h = (binding_agree m k j b e w.0 h.0, all_agree m k j bs e w.1 h.1)
 

@@ -10,6 +10,7 @@ use Rattle.snowcat_rows.specs.Types.{var, mean}
 use Rattle.snowcat_rows.specs.Substitutions.{same_sub}
 use Rattle.snowcat_rows.specs.Chains.{Variable, type_var, row_var, key, Absent, Chain}
 use Rattle.snowcat_rows.specs.Codes.{binding, bindings_of, has}
+use Rattle.snowcat_rows.specs.Views.{type_bound, type_bound_at}
 use Rattle.snowcat_rows.specs.inner.Rounds.{row_of}
 use Rattle.snowcat_rows.specs.inner.Places.{IndexedFrom}
 use Rattle.snowcat_rows.specs.inner.Lookups.{type_at, row_at}
@@ -172,3 +173,9 @@ module _ (e : Variable → ℕ) (n v : ℕ) (bs : List Bound) (h : IndexedFrom e
     where
       apart : (gs : List (List ℕ × Ty)) (i : Option ℕ) → None ≡ Some (bound.Row v gs i) → ⊥
       apart gs i f = absurd (cc)
+
+-- what the i-th binding binds
+pub bound_at : (bs : List Bound) (i : ℕ) (b : Bound) → i < length bs → b ≡ get_or bs i b → type_bound_at (bindings_of bs) i ≡ type_bound (binding b)
+bound_at [] i b lt e = absurd (omega (arith, lt))
+bound_at (x ∷ xs) zero b lt e = ap (λ z. type_bound (binding z)) (sym e)
+bound_at (x ∷ xs) (suc i) b lt e = bound_at xs i b (omega (arith, lt)) e

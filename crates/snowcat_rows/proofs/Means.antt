@@ -1,12 +1,11 @@
 -- What each form of type means.
-use Rattle.std.proofs.Common.{◌≡◌, ℕ, List, [], ◌∷◌, ◌++◌, map, refl, ap, ◌∙◌, sym, Option, Some}
+use Rattle.std.proofs.Common.{◌≡◌, ℕ, List, [], ◌∷◌, ◌++◌, map, refl, ap, ◌∙◌, sym, Option, Some, None}
 use Rattle.std.proofs.lemmas.Bool.{cases_Bool}
 use Rattle.std.proofs.Common.{inl, inr}
 use Rattle.std.specs.Prelude.{bytes_eq}
-use Rattle.std.specs.declared.alloc.Global.{Global}
-use Rattle.std.specs.declared.boxed.Box.{Box}
 use Rattle.snowcat_rows.specs.Types.{Term, Slot, var, con, app, fields, none, some, lookup, row, mean_layer, mean, BoolHead, IntHead, StrHead, NamedHead, SetHead, SeqHead, FunHead, TupHead, OperHead}
 use Rattle.snowcat_rows.specs.Substitutions.{Sub, Row, apply, apply_slot, or_else, tail_row}
+use Rattle.snowcat_rows.specs.Closing.{closing}
 use Rattle.snowcat_rows.specs.Codes.{named, changed, followed}
 use Rattle.snowcat_rows.specs.declared.types.Ty.{Ty, out-Ty, Bool, Int, Str, Named, Var, Set, Seq, Fun, Tup, Rec, Oper}
 use Rattle.snowcat_rows.specs.declared.types.Ty.TheVariants.{outs-Bool, outs-Int, outs-Str, outs-Named, outs-Var, outs-Set, outs-Seq, outs-Fun, outs-Tup, outs-Rec, outs-Oper}
@@ -35,19 +34,19 @@ mean-Named t = mean_out (Named t) ∙ ap Opened (outs-Named t)
 pub mean-Var : (n : ℕ) → mean (Var n) ≡ var n
 mean-Var n = mean_out (Var n) ∙ ap Opened (outs-Var n)
 
-pub mean-Set : (a : Box Ty Global) → mean (Set a) ≡ app (con SetHead) (mean a.value)
+pub mean-Set : (a : Ty) → mean (Set a) ≡ app (con SetHead) (mean a)
 mean-Set a = mean_out (Set a) ∙ ap Opened (outs-Set a)
 
-pub mean-Fun : (a b : Box Ty Global) → mean (Fun a b) ≡ app (con FunHead) (app (mean a.value) (mean b.value))
+pub mean-Fun : (a b : Ty) → mean (Fun a b) ≡ app (con FunHead) (app (mean a) (mean b))
 mean-Fun a b = mean_out (Fun a b) ∙ ap Opened (outs-Fun a b)
 
-pub mean-Seq : (a : Box Ty Global) → mean (Seq a) ≡ app (con SeqHead) (mean a.value)
+pub mean-Seq : (a : Ty) → mean (Seq a) ≡ app (con SeqHead) (mean a)
 mean-Seq a = mean_out (Seq a) ∙ ap Opened (outs-Seq a)
 
 pub mean-Tup : (ts : List Ty) → mean (Tup ts) ≡ app (con TupHead) (row (map mean ts))
 mean-Tup ts = mean_out (Tup ts) ∙ ap Opened (outs-Tup ts)
 
-pub mean-Oper : (ts : List Ty) (b : Box Ty Global) → mean (Oper ts b) ≡ app (con OperHead) (app (row (map mean ts)) (mean b.value))
+pub mean-Oper : (ts : List Ty) (b : Ty) → mean (Oper ts b) ≡ app (con OperHead) (app (row (map mean ts)) (mean b))
 mean-Oper ts b = mean_out (Oper ts b) ∙ ap Opened (outs-Oper ts b)
 
 pub mean-Rec : (fs : List (List ℕ × Ty)) (k : Option ℕ) → mean (Rec fs k) ≡ fields (lookup (named fs)) k
@@ -68,15 +67,26 @@ rec_after s fs k xs t e h =
     ∙ (λ i. fields (λ n. or_else (lookup-changed s fs n i) ((tail_row s k).at n)) (tail_row s k).tail)
     ∙ sym (ap (apply s) (ap mean e ∙ mean-Rec fs k))
 
+pub or_none : (x : Slot) → or_else x none ≡ x
+or_none none = refl
+or_none (some t) = refl
+
+-- a record whose fields are closed, and which has no others
+pub rec_closed : (fs gs : List (List ℕ × Ty)) (k : Option ℕ) (t : Ty) → t ≡ Rec fs k → named gs ≡ changed closing fs →
+    mean (Rec gs None) ≡ apply closing (mean t)
+rec_closed fs gs k t e h =
+    mean-Rec gs None ∙ sym (λ i. fields (λ n. or_none (lookup (named gs) n) i) None)
+    ∙ ap (λ l. fields (λ n. or_else (lookup l n) none) None) h ∙ ends k ∙ rec_after closing fs k (changed closing fs) t e refl
+  where
+    ends : (k : Option ℕ) → fields (λ n. or_else (lookup (changed closing fs) n) none) None ≡ followed (changed closing fs) closing k
+    ends None = refl
+    ends (Some r) = refl
+
 -- fields one list after the other: the first that has the name
 pub lookup-append : (xs ys : List (List ℕ × Term)) (n : List ℕ) → lookup (xs ++ ys) n ≡ or_else (lookup xs n) (lookup ys n)
 lookup-append [] ys n = refl
 lookup-append (x ∷ xs) ys n =
     elim (cases_Bool (bytes_eq x.0 n)) [ inl h ↦ rw h refl | inr h ↦ rw h (lookup-append xs ys n) ]
-
-pub or_none : (x : Slot) → or_else x none ≡ x
-or_none none = refl
-or_none (some t) = refl
 
 abbrev pub empty : Option ℕ → Row
 empty k = record { at = λ n. none; tail = k }

@@ -3,8 +3,6 @@ use Rattle.std.proofs.Common.{◌≡◌, ℕ, zero, suc, ◌<◌, length, get_or
 use Rattle.std.specs.List.{list_all}
 use Rattle.std.specs.Prelude.{bytes_eq, not, ◌||◌}
 use Rattle.std.proofs.lemmas.List.Folds.{list_all-append, list_all-map}
-use Rattle.std.specs.declared.alloc.Global.{Global}
-use Rattle.std.specs.declared.boxed.Box.{Box}
 use Rattle.snowcat_rows.specs.declared.types.Ty.{Ty, out-Ty, Bool as Truth, Int, Str, Named, Var, Set, Seq, Fun, Tup, Rec, Oper}
 use Rattle.snowcat_rows.specs.declared.types.Ty.TheVariants.{outs-Bool, outs-Int, outs-Str, outs-Named, outs-Var, outs-Set, outs-Seq, outs-Fun, outs-Tup, outs-Rec, outs-Oper}
 use Rattle.snowcat_rows.specs.declared.types.Ty.TheOpen as layer
@@ -59,13 +57,13 @@ differ-Named x = differ_is (Named x) _ (outs-Named x)
 pub differ-Var : (n : ℕ) → names_differ (Var n) ≡ true
 differ-Var n = differ_is (Var n) _ (outs-Var n)
 
-pub differ-Set : (a : Box Ty Global) → names_differ (Set a) ≡ names_differ a.value
+pub differ-Set : (a : Ty) → names_differ (Set a) ≡ names_differ a
 differ-Set a = differ_is (Set a) _ (outs-Set a)
 
-pub differ-Seq : (a : Box Ty Global) → names_differ (Seq a) ≡ names_differ a.value
+pub differ-Seq : (a : Ty) → names_differ (Seq a) ≡ names_differ a
 differ-Seq a = differ_is (Seq a) _ (outs-Seq a)
 
-pub differ-Fun : (a b : Box Ty Global) → names_differ (Fun a b) ≡ (names_differ a.value && names_differ b.value)
+pub differ-Fun : (a b : Ty) → names_differ (Fun a b) ≡ (names_differ a && names_differ b)
 differ-Fun a b = differ_is (Fun a b) _ (outs-Fun a b)
 
 pub differ-Tup : (ts : List Ty) → names_differ (Tup ts) ≡ list_all names_differ ts
@@ -74,8 +72,8 @@ differ-Tup ts = differ_is (Tup ts) _ (outs-Tup ts) ∙ each ts
 pub differ-Rec : (fs : List (List ℕ × Ty)) (k : Option ℕ) → names_differ (Rec fs k) ≡ (are_distinct (names fs) && fields_named fs)
 differ-Rec fs k = differ_is (Rec fs k) _ (outs-Rec fs k) ∙ ap (λ l. are_distinct l && list_all (λ f. f.1) (map told fs)) (each_name fs) ∙ ap (λ b. are_distinct (names fs) && b) (each_field fs)
 
-pub differ-Oper : (ts : List Ty) (b : Box Ty Global) → names_differ (Oper ts b) ≡ (list_all names_differ ts && names_differ b.value)
-differ-Oper ts b = differ_is (Oper ts b) _ (outs-Oper ts b) ∙ ap (λ z. z && names_differ b.value) (each ts)
+pub differ-Oper : (ts : List Ty) (b : Ty) → names_differ (Oper ts b) ≡ (list_all names_differ ts && names_differ b)
+differ-Oper ts b = differ_is (Oper ts b) _ (outs-Oper ts b) ∙ ap (λ z. z && names_differ b) (each ts)
 
 pub ruleset differs = (differ-Bool, differ-Int, differ-Str, differ-Named, differ-Var, differ-Set, differ-Seq, differ-Fun, differ-Tup, differ-Rec, differ-Oper)
 

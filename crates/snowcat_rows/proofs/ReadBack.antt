@@ -220,14 +220,14 @@ terms_at (layer.Var n) s e =
     terms_are (variable (codes "a" ++ decimal n)) s (mean_at (layer.Var n)) (some_is (variable (codes "a" ++ decimal n)) s e)
     (λ k ns N b. ap (λ z. var z) (number_is (shown_type n) (itself (codes "a" ++ decimal n)) ns N b))
 terms_at (layer.Set a) s e =
-    let g = got_one set (spelling a.value.0) s e in
-    terms_are (set g.0) s (mean_at (layer.Set a)) g.2 (λ k ns N b. ap (λ z. app (con SetHead) z) (a.value.1.terms g.0 g.1 k ns N b))
+    let g = got_one set (spelling a.0) s e in
+    terms_are (set g.0) s (mean_at (layer.Set a)) g.2 (λ k ns N b. ap (λ z. app (con SetHead) z) (a.1.terms g.0 g.1 k ns N b))
 terms_at (layer.Seq a) s e =
-    let g = got_one seq (spelling a.value.0) s e in
-    terms_are (seq g.0) s (mean_at (layer.Seq a)) g.2 (λ k ns N b. ap (λ z. app (con SeqHead) z) (a.value.1.terms g.0 g.1 k ns N b))
+    let g = got_one seq (spelling a.0) s e in
+    terms_are (seq g.0) s (mean_at (layer.Seq a)) g.2 (λ k ns N b. ap (λ z. app (con SeqHead) z) (a.1.terms g.0 g.1 k ns N b))
 terms_at (layer.Fun a c) s e =
-    let x = a.value.0 in
-    let y = c.value.0 in
+    let x = a.0 in
+    let y = c.0 in
     let p = (spelt x).form in
     let q = (spelt y).form in
     let g = got (λ u v. function (left_of_arrow p u) (right_of_arrow q v)) (spelling x) (spelling y) s e in
@@ -235,8 +235,8 @@ terms_at (layer.Fun a c) s e =
     let l = read k (left_of_arrow p g.0) ns in
     let P : Term × List Seen → Type 0 = λ z. Begins z.1 N in
     let bl = further l.1 (read k (right_of_arrow q g.1) l.1).1 N (grows k (right_of_arrow q g.1) l.1) b in
-    ap (λ z. app (con FunHead) (app z (read k (right_of_arrow q g.1) l.1).0)) (ap (λ z. z.0) (read_left p g.0 k ns) ∙ a.value.1.terms g.0 g.2 k ns N (subst P (read_left p g.0 k ns) bl))
-    ∙ ap (λ z. app (con FunHead) (app (by_numbers N (mean x)) z)) (ap (λ z. z.0) (read_right q g.1 k l.1) ∙ c.value.1.terms g.1 g.3 k l.1 N (subst P (read_right q g.1 k l.1) b)))
+    ap (λ z. app (con FunHead) (app z (read k (right_of_arrow q g.1) l.1).0)) (ap (λ z. z.0) (read_left p g.0 k ns) ∙ a.1.terms g.0 g.2 k ns N (subst P (read_left p g.0 k ns) bl))
+    ∙ ap (λ z. app (con FunHead) (app (by_numbers N (mean x)) z)) (ap (λ z. z.0) (read_right q g.1 k l.1) ∙ c.1.terms g.1 g.3 k l.1 N (subst P (read_right q g.1 k l.1) b)))
 terms_at (layer.Tup []) s e = absurd (cc)
 terms_at (layer.Tup (t ∷ ts)) s e =
     let g = got tuple (spelling t.0) (others (spelt_of ts)) s e in
@@ -258,10 +258,10 @@ terms_at (layer.Rec (f ∷ fs) j) s e =
     ∙ ap (λ z. fields (lookup (renamed_fields N all)) z) (row_term j q N b)
     ∙ (λ d. fields (λ x. lookup_renamed N all x d) (option_map (λ n. number (shown_row n) N) j)))
 terms_at (layer.Oper [] c) s e =
-    let g = got_one constant (spelling c.value.0) s e in
-    terms_are (constant g.0) s (mean_at (layer.Oper [] c)) g.2 (λ k ns N b. ap (λ z. app (con OperHead) (app (row []) z)) (c.value.1.terms g.0 g.1 k ns N b))
+    let g = got_one constant (spelling c.0) s e in
+    terms_are (constant g.0) s (mean_at (layer.Oper [] c)) g.2 (λ k ns N b. ap (λ z. app (con OperHead) (app (row []) z)) (c.1.terms g.0 g.1 k ns N b))
 terms_at (layer.Oper (t ∷ ts) c) s e =
-    let g = got_operator (spelling t.0) (others (spelt_of ts)) (spelling c.value.0) s e in
+    let g = got_operator (spelling t.0) (others (spelt_of ts)) (spelling c.0) s e in
     terms_are (operator g.0 g.1 g.2) s (mean_at (layer.Oper (t ∷ ts) c)) g.6 (λ k ns N b.
     let r = (read k g.0 ns).1 in
     let q = (read_all k g.1 r).1 in
@@ -269,7 +269,7 @@ terms_at (layer.Oper (t ∷ ts) c) s e =
     let br = further r q N (all_grow k g.1 r) bq in
     ap (λ z. app (con OperHead) (app (app z (row (read_all k g.1 r).0)) (read k g.2 q).0)) (t.1.terms g.0 g.3 k ns N br)
     ∙ ap (λ z. app (con OperHead) (app (app (by_numbers N (mean t.0)) z) (read k g.2 q).0)) (ap row (all_terms ts g.1 g.4 k r N bq) ∙ rows_renamed N (means_of ts))
-    ∙ ap (λ z. app (con OperHead) (app (by_numbers N (row (means_of (t ∷ ts)))) z)) (c.value.1.terms g.2 g.5 k q N b))
+    ∙ ap (λ z. app (con OperHead) (app (by_numbers N (row (means_of (t ∷ ts)))) z)) (c.1.terms g.2 g.5 k q N b))
 
 plainly_are : (s v : Syntax) → s ≡ v → ((k : Known) → unknown k s ≡ None) → (k : Known) → unknown k v ≡ None
 plainly_are s v e h k = ap (λ z. unknown k z) (sym e) ∙ h k
@@ -280,16 +280,16 @@ plainly_at layer.Int s e = plainly_are int s (some_is int s e) (λ k. refl)
 plainly_at layer.Str s e = plainly_are str s (some_is str s e) (λ k. refl)
 plainly_at (layer.Named x) s e = plainly_are (named x) s (some_is (named x) s e) (λ k. refl)
 plainly_at (layer.Var n) s e = plainly_are (variable (codes "a" ++ decimal n)) s (some_is (variable (codes "a" ++ decimal n)) s e) (λ k. refl)
-plainly_at (layer.Set a) s e = let g = got_one set (spelling a.value.0) s e in plainly_are (set g.0) s g.2 (a.value.1.plainly g.0 g.1)
-plainly_at (layer.Seq a) s e = let g = got_one seq (spelling a.value.0) s e in plainly_are (seq g.0) s g.2 (a.value.1.plainly g.0 g.1)
+plainly_at (layer.Set a) s e = let g = got_one set (spelling a.0) s e in plainly_are (set g.0) s g.2 (a.1.plainly g.0 g.1)
+plainly_at (layer.Seq a) s e = let g = got_one seq (spelling a.0) s e in plainly_are (seq g.0) s g.2 (a.1.plainly g.0 g.1)
 plainly_at (layer.Fun a c) s e =
-    let x = a.value.0 in
-    let y = c.value.0 in
+    let x = a.0 in
+    let y = c.0 in
     let p = (spelt x).form in
     let q = (spelt y).form in
     let g = got (λ u v. function (left_of_arrow p u) (right_of_arrow q v)) (spelling x) (spelling y) s e in
     plainly_are (function (left_of_arrow p g.0) (right_of_arrow q g.1)) s g.4 (λ k.
-    no_unknown (unknown k (left_of_arrow p g.0)) (unknown k (right_of_arrow q g.1)) (unknown_left p g.0 k ∙ a.value.1.plainly g.0 g.2 k) (unknown_right q g.1 k ∙ c.value.1.plainly g.1 g.3 k))
+    no_unknown (unknown k (left_of_arrow p g.0)) (unknown k (right_of_arrow q g.1)) (unknown_left p g.0 k ∙ a.1.plainly g.0 g.2 k) (unknown_right q g.1 k ∙ c.1.plainly g.1 g.3 k))
 plainly_at (layer.Tup []) s e = absurd (cc)
 plainly_at (layer.Tup (t ∷ ts)) s e =
     let g = got tuple (spelling t.0) (others (spelt_of ts)) s e in
@@ -298,11 +298,11 @@ plainly_at (layer.Rec [] j) s e = absurd (cc)
 plainly_at (layer.Rec (f ∷ fs) j) s e =
     let g = got (λ u us. record_of f.0 u us (row_name j)) (spelling f.1.0) (other_fields (spelt_fields fs)) s e in
     plainly_are (record_of f.0 g.0 g.1 (row_name j)) s g.4 (λ k. no_unknown (unknown k g.0) (unknown_fields k g.1) (f.1.1.plainly g.0 g.2 k) (fields_plainly fs g.1 g.3 k))
-plainly_at (layer.Oper [] c) s e = let g = got_one constant (spelling c.value.0) s e in plainly_are (constant g.0) s g.2 (c.value.1.plainly g.0 g.1)
+plainly_at (layer.Oper [] c) s e = let g = got_one constant (spelling c.0) s e in plainly_are (constant g.0) s g.2 (c.1.plainly g.0 g.1)
 plainly_at (layer.Oper (t ∷ ts) c) s e =
-    let g = got_operator (spelling t.0) (others (spelt_of ts)) (spelling c.value.0) s e in
+    let g = got_operator (spelling t.0) (others (spelt_of ts)) (spelling c.0) s e in
     plainly_are (operator g.0 g.1 g.2) s g.6 (λ k.
-    no_unknown (or_first (unknown k g.0) (unknown_all k g.1)) (unknown k g.2) (no_unknown (unknown k g.0) (unknown_all k g.1) (t.1.plainly g.0 g.3 k) (all_plainly ts g.1 g.4 k)) (c.value.1.plainly g.2 g.5 k))
+    no_unknown (or_first (unknown k g.0) (unknown_all k g.1)) (unknown k g.2) (no_unknown (unknown k g.0) (unknown_all k g.1) (t.1.plainly g.0 g.3 k) (all_plainly ts g.1 g.4 k)) (c.1.plainly g.2 g.5 k))
 
 all_claims : (t : Ty) → Claim t
 all_claims = ind-Ty Claim (λ x y is.

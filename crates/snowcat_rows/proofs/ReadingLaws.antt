@@ -6,11 +6,11 @@ use Rattle.snowcat_rows.specs.declared.faults.TypeTextFault.{TypeTextFault}
 use Rattle.snowcat_rows.specs.declared.faults.TypeTextFault.TheVariants as fault
 use Rattle.snowcat_rows.specs.Types.{Term, con, BoolHead}
 use Rattle.snowcat_rows.specs.TypeTexts.{Syntax, IsTypeText, IsBadAt}
-use Rattle.snowcat_rows.specs.Readings.{Known, read, unknown, or_first, Counts, Knows, IsReadAs, IsFaultOf, IsTextFault, WantsMemory}
+use Rattle.snowcat_rows.specs.Readings.{Known, read, unknown, or_first, Counts, Knows, IsReadAs, IsFaultOf, IsTextFault, WantsMemory, IsReadBy}
 use Rattle.snowcat_rows.specs.inner.Building.{Item, one, several, Site, site, push, built, built_all, unknown_mark, unknown_in}
 use Rattle.snowcat_rows.specs.inner.Machine.{Scan, finished}
 use Rattle.snowcat_rows.specs.inner.Marks.{marked}
-use Rattle.snowcat_rows.specs.inner.Readers.{AreBuilt, AreMarks, IsBuilt, Tells, Leaves, IsWhole}
+use Rattle.snowcat_rows.specs.inner.Readers.{AreBuilt, AreMarks, IsBuilt, Tells, Leaves}
 use Rattle.snowcat_rows.proofs.Builds.{builds, built_more, unknowns, unknown_more}
 use Rattle.snowcat_rows.proofs.Scans.{complete}
 
@@ -87,7 +87,7 @@ same_seen_all k text s t h i = ap (λ z. length z.seen) (same_site k text s t h 
 
 -- ---- what was built is what the text says
 
-pub is_whole : (k : Known) (text : List ℕ) (ms : List Mark) (s : Site) (t : Term) (n : ℕ) → AreMarks text ms → AreBuilt k ms s → Leaves s t n → IsWhole k text t n
+pub is_whole : (k : Known) (text : List ℕ) (ms : List Mark) (s : Site) (t : Term) (n : ℕ) → AreMarks text ms → AreBuilt k ms s → Leaves s t n → IsReadBy k text t n
 unfolding first_term term_of
 is_whole k text ms s t n (x, i, e) (b, u) ((is, g), h) =
     let q : s ≡ push (read k x []) [] = b ∙ ap (λ z. built_all k z (site [] [])) e ∙ read_marks k x in
@@ -116,13 +116,13 @@ same_counts k a i j (inl (s, h, u, e)) (inr (n, f)) = absurd (n s h u)
 same_counts k a i j (inr (n, e)) (inl (t, g, v, f)) = absurd (n t g v)
 same_counts k a i j (inr (n, e)) (inr (m, f)) = e ∙ sym f
 
-same_known : (as_ : List (List ℕ × List ℕ)) (k i j : Known) → Knows k as_ i → Knows k as_ j → i ≡ j
+pub same_known : (as_ : List (List ℕ × List ℕ)) (k i j : Known) → Knows k as_ i → Knows k as_ j → i ≡ j
 same_known [] k i j e f = e ∙ sym f
 same_known (a ∷ as_) k i j (m, c, r) (n, d, s) =
     let P : Known → Type 0 = λ z. Knows z as_ j in same_known as_ m i j r (subst P (same_counts k a n m d c) s)
 
 -- an alias that counts, and one that does not
-pub counts_whole : (k : Known) (a : List ℕ × List ℕ) (t : Term) (n : ℕ) → IsWhole k a.1 t n → Counts k a (k ++ (a.0, t, n) ∷ [])
+pub counts_whole : (k : Known) (a : List ℕ × List ℕ) (t : Term) (n : ℕ) → IsReadBy k a.1 t n → Counts k a (k ++ (a.0, t, n) ∷ [])
 counts_whole k a t n (s, i, u, e, f) = inl (s, i, u, ap (λ z. k ++ (a.0, z, n) ∷ []) e ∙ ap (λ z. k ++ (a.0, (read k s []).0, z) ∷ []) f)
 
 pub counts_fault : (k : Known) (a : List ℕ × List ℕ) (e : TypeTextFault) → IsFaultOf k a.1 e → (WantsMemory e → ⊥) → Counts k a k
@@ -137,9 +137,20 @@ knows_next as_ i d k j lt h c =
     let P : List (List ℕ × List ℕ) → Type 0 = λ z. Knows [] z j in
     subst P (sym (ap (λ z. take z as_) (sym one_more) ∙ take-suc as_ i d lt)) (knows_more [] (take i as_) (get_or as_ i d) k j h c)
 
+-- ---- one reading by known aliases
+
+pub read_once : (k : Known) (text : List ℕ) (t u : Term) (n m : ℕ) → IsReadBy k text t n → IsReadBy k text u m → (t ≡ u) × (n ≡ m)
+read_once k text t u n m (r, i, v, e, f) (s, j, w, g, h) = (e ∙ same_term k text r s i j ∙ sym g, f ∙ same_seen_all k text r s i j ∙ sym h)
+
+pub fault_of_none : (k : Known) (text : List ℕ) (f : TypeTextFault) (t : Term) (n : ℕ) → IsFaultOf k text f → IsReadBy k text t n → WantsMemory f
+fault_of_none k text (fault.BadType n) t m (b, w) (s, i, u, e, l) = absurd (bad_is_none text n b s i)
+fault_of_none k text (fault.UnknownAlias x) t m (inl (r, j, v)) (s, i, u, e, l) = absurd (let d : Some x ≡ None = sym v ∙ same_unknown k text r s j i ∙ u in cc)
+fault_of_none k text (fault.UnknownAlias x) t m (inr (n, b, w)) (s, i, u, e, l) = absurd (bad_is_none text n b s i)
+fault_of_none k text (fault.Memory a) t m f r = tt
+
 -- ---- the answer
 
-pub reads_as : (aliases : List (List ℕ × List ℕ)) (text : List ℕ) (k : Known) (t : Term) (n : ℕ) → Knows [] aliases k → IsWhole k text t n → IsReadAs aliases text t
+pub reads_as : (aliases : List (List ℕ × List ℕ)) (text : List ℕ) (k : Known) (t : Term) (n : ℕ) → Knows [] aliases k → IsReadBy k text t n → IsReadAs aliases text t
 reads_as aliases text k t n h (s, i, u, e, f) = record { known = k; syntax_of = s; knows = h; is_text = i; all_known = u; says = e }
 
 pub one_reading : (aliases : List (List ℕ × List ℕ)) (text : List ℕ) (a b : Term) → IsReadAs aliases text a → IsReadAs aliases text b → a ≡ b

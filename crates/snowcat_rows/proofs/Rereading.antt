@@ -5,7 +5,7 @@ use Rattle.snowcat_rows.specs.declared.marks.Seen.{Seen}
 use Rattle.snowcat_rows.specs.declared.marks.Seen.TheVariants as seen
 use Rattle.snowcat_rows.specs.declared.types.Ty.{Ty}
 use Rattle.snowcat_rows.specs.Types.{Term, Slot, var, con, app, fields, none, some, mean}
-use Rattle.snowcat_rows.specs.Readings.{Known, Knows, number, same_seen, read, IsReadAs}
+use Rattle.snowcat_rows.specs.Readings.{Known, Knows, number, same_seen, read, IsReadAs, IsReadBy}
 use Rattle.snowcat_rows.specs.Renamings.{renamed, renamed_slot, Variants}
 use Rattle.snowcat_rows.specs.inner.Shown.{shown_type, shown_row, by_numbers}
 use Rattle.snowcat_rows.specs.Said.{IsRegular, IsSaid, IsSpelled, IsReadBack}
@@ -14,7 +14,6 @@ use Rattle.snowcat_rows.specs.Spellable.{Spellable}
 use Rattle.snowcat_rows.specs.Texts.{type_text}
 use Rattle.snowcat_rows.specs.inner.Below.{Below, BelowSlot}
 use Rattle.snowcat_rows.specs.inner.Fronted.{Front, Fronted, FrontedSlot}
-use Rattle.snowcat_rows.specs.inner.Readers.{IsWhole}
 use Rattle.snowcat_rows.proofs.Belows.{below_within, within_below}
 use Rattle.snowcat_rows.proofs.SpellingLaw.{spelled}
 use Rattle.snowcat_rows.proofs.ReadBack.{read_back, read_terms, same_is}
@@ -149,7 +148,7 @@ mutual
   slot_below ps (some t) h = fronted_below ps t h
 
 -- as many variables as the text has, at most
-pub whole_within : (aliases : List (List ℕ × List ℕ)) (text : List ℕ) (k : Known) (t : Term) (n : ℕ) → Knows [] aliases k → IsWhole k text t n → n < 2 ^ 32 → Within (2 ^ 32) t
+pub whole_within : (aliases : List (List ℕ × List ℕ)) (text : List ℕ) (k : Known) (t : Term) (n : ℕ) → Knows [] aliases k → IsReadBy k text t n → n < 2 ^ 32 → Within (2 ^ 32) t
 whole_within aliases text k t n h w small =
     let g = known_said aliases k h text w.0 w.1 in
     let P : Term → Type 0 = λ z. Within (2 ^ 32) z in

@@ -6,7 +6,8 @@ use Rattle.snowcat_rows.specs.inner.Parts.{Part, PartSlot, IsPart}
 use Rattle.snowcat_rows.specs.Substitutions.{Sub, apply, apply_slot, apply_row, or_else, tail_row, then_sub, same_sub, Fits, Fronts, Sorted, SortedSlot, Present}
 use Rattle.snowcat_rows.specs.Sorting.{Within, RowSorted, Follows, BindingSorted}
 use Rattle.snowcat_rows.specs.Chains.{Variable, type_var, row_var, Binding, to_type, to_row, single, solved, Occurs, OccursSlot, OccursIn, key, Keeps}
-use Rattle.snowcat_rows.specs.inner.Rounds.{only, others, Is, Common, SameNames, extra, extra_after, Covers, Advances, left_type, right_type, left_row, right_row, both_rows, Stuck, never, row_left, row_right, row_after, same_tail}
+use Rattle.snowcat_rows.specs.FirstDifferences.{Common}
+use Rattle.snowcat_rows.specs.inner.Rounds.{only, others, Is, SameNames, extra, extra_after, Covers, Advances, left_type, right_type, left_row, right_row, both_rows, Stuck, never, row_left, row_right, row_after, same_tail}
 use Rattle.snowcat_rows.specs.inner.Measures.{TypesBelow}
 use Rattle.snowcat_rows.proofs.RowTheory.{apply_apply, kept_sub, or_none, row_off, single_at_row, renewed, renewed_same, rest_row, row_apart}
 use Rattle.snowcat_rows.proofs.Sorts.{Sorted-single, SortedSlot-single, more_fronts, is_some, keeps_left}

@@ -111,7 +111,7 @@ module _ (n m : ℕ) (bs cs : List Binding) (a b : Term) (h : Searching n m bs c
               let i : z.fronts ≡ fronts_after r.0 m p x y cs ds k = next_fronts n m l r.0 bs cs a b x y r.1.0 wa wb h.plain wx wy tx ty cx cy sx sy d.within p ds k in
               let o = alone x y m p cs ds k in
               let t : Follow n l bs a b p (fronts_after r.0 m p x y cs ds k) ds =
-              followed l r.0 p ds x y r.1.1 d.beside o (fronts_after r.0 m p x y cs ds k) (made_alone m p r.0 x y cs ds k wx wy sx sy d.unlike.common) in
+              followed l r.0 p ds x y r.1.1 d.beside o (fronts_after r.0 m p x y cs ds k) (made_alone m p r.0 x y cs ds k wx wy sx sy d.unlike.at_once.records) in
               let P : Fronts → Type 0 = λ v. Follow n l bs a b p v ds in
               (z.fronts, (z.reached, subst P (sym i) t));
         },
@@ -143,6 +143,7 @@ module _ (n m : ℕ) (bs cs : List Binding) (a b : Term) (h : Searching n m bs c
         reached = cs;
         follow = r.1.1;
         beside = d.beside;
+        at_once = d.unlike.at_once;
         never = no_one;
       }
 

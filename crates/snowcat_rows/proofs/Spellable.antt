@@ -309,8 +309,8 @@ operand_at layer.Int s e = operand_is int s (some_is int s e) refl
 operand_at layer.Str s e = operand_is str s (some_is str s e) refl
 operand_at (layer.Named x) s e = operand_is (named x) s (some_is (named x) s e) refl
 operand_at (layer.Var n) s e = let v = variable (codes "a" ++ decimal n) in operand_is v s (some_is v s e) refl
-operand_at (layer.Set a) s e = let g = got_one set (spelling a.value.0) s e in operand_is (set g.0) s g.2 refl
-operand_at (layer.Seq a) s e = let g = got_one seq (spelling a.value.0) s e in operand_is (seq g.0) s g.2 refl
+operand_at (layer.Set a) s e = let g = got_one set (spelling a.0) s e in operand_is (set g.0) s g.2 refl
+operand_at (layer.Seq a) s e = let g = got_one seq (spelling a.0) s e in operand_is (seq g.0) s g.2 refl
 operand_at (layer.Fun a c) s e = refl
 operand_at (layer.Tup []) s e = absurd (cc)
 operand_at (layer.Tup (t ∷ ts)) s e = let g = got tuple (spelling t.0) (others (spelt_of ts)) s e in operand_is (tuple g.0 g.1) s g.4 refl
@@ -329,22 +329,22 @@ spells_at layer.Str h b d = record { syntax_of = str; is = refl; formed = refl; 
 spells_at (layer.Named x) h b d = record { syntax_of = named x; is = refl; formed = h; keeps = λ l k. tt }
 spells_at (layer.Var n) h b d = record { syntax_of = variable (codes "a" ++ decimal n); is = refl; formed = decimal_only n b; keeps = λ l k. tt }
 spells_at (layer.Set a) h b d =
-    let r = a.value.1.spells h b.1 d in
+    let r = a.1.spells h b.1 d in
     record { syntax_of = set r.syntax_of; is = ap (λ z. option_map set z) r.is; formed = r.formed; keeps = λ l k. r.keeps l k.1 }
 spells_at (layer.Seq a) h b d =
-    let r = a.value.1.spells h b.1 d in
+    let r = a.1.spells h b.1 d in
     record { syntax_of = seq r.syntax_of; is = ap (λ z. option_map seq z) r.is; formed = r.formed; keeps = λ l k. r.keeps l k.1 }
 spells_at (layer.Fun a c) h b d =
-    let x = a.value.0 in
-    let y = c.value.0 in
+    let x = a.0 in
+    let y = c.0 in
     let e = pair (names_differ x) (names_differ y) d in
-    let r = a.value.1.spells h.0 b.1.0 e.0 in
-    let q = c.value.1.spells h.1 b.1.1 e.1 in
+    let r = a.1.spells h.0 b.1.0 e.0 in
+    let q = c.1.spells h.1 b.1.1 e.1 in
     let p = (spelt x).form in
     let o = (spelt y).form in
     let s = left_of_arrow p r.syntax_of in
     let t = right_of_arrow o q.syntax_of in
-    let operand : IsTrue (is_operand s) = a.value.1.operand r.syntax_of r.is in
+    let operand : IsTrue (is_operand s) = a.1.operand r.syntax_of r.is in
     record {
       syntax_of = function s t;
       is = both_are (λ u v. function (left_of_arrow p u) (right_of_arrow o v)) (spelling x) (spelling y) r.syntax_of q.syntax_of r.is q.is;
@@ -385,17 +385,17 @@ spells_at (layer.Rec (f ∷ fs) j) h b d =
       keeps = λ l k. (let g = r.keeps l k.0 in (g.0, g.1, row_kept l ms xs j called small k.1));
     }
 spells_at (layer.Oper [] c) h b d =
-    let r = c.value.1.spells h.1 b.1.1 d in
+    let r = c.1.spells h.1 b.1.1 d in
     record { syntax_of = constant r.syntax_of; is = ap (λ z. option_map constant z) r.is; formed = r.formed; keeps = λ l k. r.keeps l k.1.1 }
 spells_at (layer.Oper (t ∷ ts) c) h b d =
-    let e = pair (list_all (λ z. z) (differ_of (t ∷ ts))) (names_differ c.value.0) d in
+    let e = pair (list_all (λ z. z) (differ_of (t ∷ ts))) (names_differ c.0) d in
     let i = pair (names_differ t.0) (list_all (λ z. z) (differ_of ts)) e.0 in
     let r = t.1.spells h.0.0 b.1.0.0 i.0 in
     let q = all_spell ts h.0.1 b.1.0.1 i.1 in
-    let u = c.value.1.spells h.1 b.1.1 e.1 in
+    let u = c.1.spells h.1 b.1.1 e.1 in
     record {
       syntax_of = operator r.syntax_of q.syntaxes u.syntax_of;
-      is = operator_are (spelling t.0) (others (spelt_of ts)) (spelling c.value.0) r.syntax_of q.syntaxes u.syntax_of r.is q.is u.is;
+      is = operator_are (spelling t.0) (others (spelt_of ts)) (spelling c.0) r.syntax_of q.syntaxes u.syntax_of r.is q.is u.is;
       formed = join (is_formed r.syntax_of && are_formed q.syntaxes) (is_formed u.syntax_of) (join (is_formed r.syntax_of) (are_formed q.syntaxes) r.formed q.formed) u.formed;
       keeps = λ l k. (r.keeps l k.1.0.0, q.keeps l k.1.0.1, u.keeps l k.1.1);
     }

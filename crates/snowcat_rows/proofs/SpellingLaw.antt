@@ -159,17 +159,17 @@ texts_at layer.Str s e = ap layout (some_is str s e)
 texts_at (layer.Named x) s e = ap layout (some_is (named x) s e)
 texts_at (layer.Var n) s e = ap layout (some_is (variable (codes "a" ++ decimal n)) s e)
 texts_at (layer.Set a) s e =
-    let g = got_one set (spelling a.value.0) s e in
-    ap (λ x. codes "Set(" ++ x ++ codes ")") (a.value.1.texts g.0 g.1) ∙ ap layout g.2
+    let g = got_one set (spelling a.0) s e in
+    ap (λ x. codes "Set(" ++ x ++ codes ")") (a.1.texts g.0 g.1) ∙ ap layout g.2
 texts_at (layer.Seq a) s e =
-    let g = got_one seq (spelling a.value.0) s e in
-    ap (λ x. codes "Seq(" ++ x ++ codes ")") (a.value.1.texts g.0 g.1) ∙ ap layout g.2
+    let g = got_one seq (spelling a.0) s e in
+    ap (λ x. codes "Seq(" ++ x ++ codes ")") (a.1.texts g.0 g.1) ∙ ap layout g.2
 texts_at (layer.Fun a b) s e =
-    let x = a.value.0 in
-    let y = b.value.0 in
+    let x = a.0 in
+    let y = b.0 in
     let g = got (λ u v. function (left_of_arrow (spelt x).form u) (right_of_arrow (spelt y).form v)) (spelling x) (spelling y) s e in
-    ap (λ z. z ++ codes " -> " ++ result_text (form_of y) (type_text y)) (left_is (spelt x).form (form_of x) (type_text x) g.0 a.value.1.forms (a.value.1.texts g.0 g.2))
-    ∙ ap (λ z. layout (left_of_arrow (spelt x).form g.0) ++ codes " -> " ++ z) (right_is (spelt y).form (form_of y) (type_text y) g.1 b.value.1.forms (b.value.1.texts g.1 g.3))
+    ap (λ z. z ++ codes " -> " ++ result_text (form_of y) (type_text y)) (left_is (spelt x).form (form_of x) (type_text x) g.0 a.1.forms (a.1.texts g.0 g.2))
+    ∙ ap (λ z. layout (left_of_arrow (spelt x).form g.0) ++ codes " -> " ++ z) (right_is (spelt y).form (form_of y) (type_text y) g.1 b.1.forms (b.1.texts g.1 g.3))
     ∙ ap layout g.4
 texts_at (layer.Tup []) s e = absurd (cc)
 texts_at (layer.Tup (t ∷ ts)) s e =
@@ -189,14 +189,14 @@ texts_at (layer.Rec (f ∷ fs) k) s e =
     ∙ record_is f.0 (layout g.0) (fields_layout g.1) (row_layout (row_name k))
     ∙ ap layout g.4
 texts_at (layer.Oper [] b) s e =
-    let g = got_one constant (spelling b.value.0) s e in
-    ap (λ x. codes "() => " ++ x) (b.value.1.texts g.0 g.1) ∙ ap layout g.2
+    let g = got_one constant (spelling b.0) s e in
+    ap (λ x. codes "() => " ++ x) (b.1.texts g.0 g.1) ∙ ap layout g.2
 texts_at (layer.Oper (t ∷ ts) b) s e =
-    let g = got_operator (spelling t.0) (others (spelt_of ts)) (spelling b.value.0) s e in
-    ap (λ x. codes "(" ++ (x ++ then_items (texts_of ts)) ++ codes ") => " ++ type_text b.value.0) (t.1.texts g.0 g.3)
-    ∙ ap (λ x. codes "(" ++ (layout g.0 ++ x) ++ codes ") => " ++ type_text b.value.0) (others_are ts g.1 g.4)
-    ∙ ap (λ x. x ++ codes ") => " ++ type_text b.value.0) (sym (append_assoc (codes "(") (layout g.0) (more_layout g.1)))
-    ∙ ap (λ x. codes "(" ++ layout g.0 ++ more_layout g.1 ++ codes ") => " ++ x) (b.value.1.texts g.2 g.5)
+    let g = got_operator (spelling t.0) (others (spelt_of ts)) (spelling b.0) s e in
+    ap (λ x. codes "(" ++ (x ++ then_items (texts_of ts)) ++ codes ") => " ++ type_text b.0) (t.1.texts g.0 g.3)
+    ∙ ap (λ x. codes "(" ++ (layout g.0 ++ x) ++ codes ") => " ++ type_text b.0) (others_are ts g.1 g.4)
+    ∙ ap (λ x. x ++ codes ") => " ++ type_text b.0) (sym (append_assoc (codes "(") (layout g.0) (more_layout g.1)))
+    ∙ ap (λ x. codes "(" ++ layout g.0 ++ more_layout g.1 ++ codes ") => " ++ x) (b.1.texts g.2 g.5)
     ∙ ap layout g.6
 
 all_claims : (t : Ty) → Claim t

@@ -2,8 +2,6 @@
 use Rattle.std.proofs.Common.{◌≡◌, ℕ, List, [], ◌∷◌, ◌++◌, map, length, Option, refl, ap, sym, append_assoc, ◌∙◌, codes}
 use Rattle.std.specs.Prelude.{decimal}
 use Rattle.std.proofs.lemmas.List.{length-map}
-use Rattle.std.specs.declared.alloc.Global.{Global}
-use Rattle.std.specs.declared.boxed.Box.{Box}
 use Rattle.snowcat_rows.specs.Texts.{Shown, shown, text_layer, form_layer, text_field, typed_field, type_text, form_of, operand_text, result_text, items_text, fields_text, tail_text}
 use Rattle.snowcat_rows.specs.declared.showing.Form.TheVariants as form
 use Rattle.snowcat_rows.specs.declared.types.Ty.{Ty, out-Ty, Bool, Int, Str, Named, Var, Set, Seq, Fun, Tup, Rec, Oper}
@@ -50,13 +48,13 @@ text-Named x = text_is (Named x) _ (outs-Named x)
 pub text-Var : (n : ℕ) → type_text (Var n) ≡ codes "a" ++ decimal n
 text-Var n = text_is (Var n) _ (outs-Var n)
 
-pub text-Set : (a : Box Ty Global) → type_text (Set a) ≡ codes "Set(" ++ type_text a.value ++ codes ")"
+pub text-Set : (a : Ty) → type_text (Set a) ≡ codes "Set(" ++ type_text a ++ codes ")"
 text-Set a = text_is (Set a) _ (outs-Set a)
 
-pub text-Seq : (a : Box Ty Global) → type_text (Seq a) ≡ codes "Seq(" ++ type_text a.value ++ codes ")"
+pub text-Seq : (a : Ty) → type_text (Seq a) ≡ codes "Seq(" ++ type_text a ++ codes ")"
 text-Seq a = text_is (Seq a) _ (outs-Seq a)
 
-pub text-Fun : (a b : Box Ty Global) → type_text (Fun a b) ≡ operand_text (form_of a.value) (type_text a.value) ++ codes " -> " ++ result_text (form_of b.value) (type_text b.value)
+pub text-Fun : (a b : Ty) → type_text (Fun a b) ≡ operand_text (form_of a) (type_text a) ++ codes " -> " ++ result_text (form_of b) (type_text b)
 text-Fun a b = text_is (Fun a b) _ (outs-Fun a b)
 
 pub text-Tup : (ts : List Ty) → type_text (Tup ts) ≡ codes "<<" ++ items_text (map type_text ts) ++ codes ">>"
@@ -68,8 +66,8 @@ text-Rec fs k =
     text_is (Rec fs k) _ (outs-Rec fs k) ∙ ap (λ l. codes "{" ++ fields_text l ++ tail_text (length (map shown_field fs)) k ++ codes "}") (fields_of fs)
     ∙ ap (λ n. codes "{" ++ fields_text (map typed_field fs) ++ tail_text n k ++ codes "}") (length-map fs shown_field)
 
-pub text-Oper : (ts : List Ty) (b : Box Ty Global) → type_text (Oper ts b) ≡ codes "(" ++ items_text (map type_text ts) ++ codes ") => " ++ type_text b.value
-text-Oper ts b = text_is (Oper ts b) _ (outs-Oper ts b) ∙ ap (λ l. codes "(" ++ items_text l ++ codes ") => " ++ type_text b.value) (texts_of ts)
+pub text-Oper : (ts : List Ty) (b : Ty) → type_text (Oper ts b) ≡ codes "(" ++ items_text (map type_text ts) ++ codes ") => " ++ type_text b
+text-Oper ts b = text_is (Oper ts b) _ (outs-Oper ts b) ∙ ap (λ l. codes "(" ++ items_text l ++ codes ") => " ++ type_text b) (texts_of ts)
 
 pub form-Bool : form_of Bool ≡ form.Operand
 form-Bool = form_is Bool _ outs-Bool
@@ -86,13 +84,13 @@ form-Named x = form_is (Named x) _ (outs-Named x)
 pub form-Var : (n : ℕ) → form_of (Var n) ≡ form.Operand
 form-Var n = form_is (Var n) _ (outs-Var n)
 
-pub form-Set : (a : Box Ty Global) → form_of (Set a) ≡ form.Operand
+pub form-Set : (a : Ty) → form_of (Set a) ≡ form.Operand
 form-Set a = form_is (Set a) _ (outs-Set a)
 
-pub form-Seq : (a : Box Ty Global) → form_of (Seq a) ≡ form.Operand
+pub form-Seq : (a : Ty) → form_of (Seq a) ≡ form.Operand
 form-Seq a = form_is (Seq a) _ (outs-Seq a)
 
-pub form-Fun : (a b : Box Ty Global) → form_of (Fun a b) ≡ form.Function
+pub form-Fun : (a b : Ty) → form_of (Fun a b) ≡ form.Function
 form-Fun a b = form_is (Fun a b) _ (outs-Fun a b)
 
 pub form-Tup : (ts : List Ty) → form_of (Tup ts) ≡ form.Operand
@@ -101,7 +99,7 @@ form-Tup ts = form_is (Tup ts) _ (outs-Tup ts)
 pub form-Rec : (fs : List (List ℕ × Ty)) (k : Option ℕ) → form_of (Rec fs k) ≡ form.Operand
 form-Rec fs k = form_is (Rec fs k) _ (outs-Rec fs k)
 
-pub form-Oper : (ts : List Ty) (b : Box Ty Global) → form_of (Oper ts b) ≡ form.Operator
+pub form-Oper : (ts : List Ty) (b : Ty) → form_of (Oper ts b) ≡ form.Operator
 form-Oper ts b = form_is (Oper ts b) _ (outs-Oper ts b)
 
 pub ruleset texts = (text-Bool, text-Int, text-Str, text-Named, text-Var, text-Set, text-Seq, text-Fun, text-Tup, text-Rec, text-Oper, form-Bool, form-Int, form-Str, form-Named, form-Var, form-Set, form-Seq, form-Fun, form-Tup, form-Rec, form-Oper)

@@ -1,9 +1,13 @@
 pub mod Chains
+pub mod Closing
 pub mod Codes
 pub mod FieldNames
+pub mod FirstDifferences
 pub mod LiteralTypes
+pub mod Operators
 pub mod Readings
 pub mod Renamings
+pub mod Roots
 pub mod Said
 pub mod Sorting
 pub mod Spellable
@@ -11,6 +15,7 @@ pub mod Spellings
 pub mod Substitutions
 pub mod Types
 pub mod Texts
+pub mod Throughout
 pub mod TypeTexts
 pub mod Unifying
 pub mod Values

@@ -146,6 +146,11 @@ abbrev pub Knows : Known → List (List ℕ × List ℕ) → Known → Type 0
 Knows k [] j = j ≡ k
 Knows k (a ∷ rest) j = (i : Known) × Counts k a i × Knows i rest j
 
+-- by the aliases that are known the text says this type, with so many variables
+abbrev pub IsReadBy : Known → List ℕ → Term → ℕ → Type 0
+IsReadBy k text t n =
+    (s : Syntax) × IsTypeText text s × (unknown k s ≡ None) × (t ≡ (read k s []).0) × (n ≡ length (read k s []).1)
+
 -- the text is that of a type whose aliases are known, and this is what it says
 pub record IsReadAs (aliases : List (List ℕ × List ℕ)) (text : List ℕ) (t : Term) : Type 0 where
   pub known : Known

@@ -62,13 +62,13 @@ syntax_layer layer.Int = Some int
 syntax_layer layer.Str = Some str
 syntax_layer (layer.Named x) = Some (named x)
 syntax_layer (layer.Var n) = Some (variable (codes "a" ++ decimal n))
-syntax_layer (layer.Set a) = option_map set a.value.syntax_of
-syntax_layer (layer.Seq a) = option_map seq a.value.syntax_of
+syntax_layer (layer.Set a) = option_map set a.syntax_of
+syntax_layer (layer.Seq a) = option_map seq a.syntax_of
 syntax_layer (layer.Fun a b) =
-    both (λ s t. function (left_of_arrow a.value.form s) (right_of_arrow b.value.form t)) a.value.syntax_of b.value.syntax_of
+    both (λ s t. function (left_of_arrow a.form s) (right_of_arrow b.form t)) a.syntax_of b.syntax_of
 syntax_layer (layer.Tup ts) = tuple_syntax ts
 syntax_layer (layer.Rec fs k) = record_syntax fs k
-syntax_layer (layer.Oper ts b) = operator_syntax ts b.value.syntax_of
+syntax_layer (layer.Oper ts b) = operator_syntax ts b.syntax_of
 
 unfoldable pub spelt : Ty → Spelt
 spelt = fold-Ty Spelt (λ x. record { syntax_of = syntax_layer x; form = form_layer x })

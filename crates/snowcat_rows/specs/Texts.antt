@@ -50,12 +50,12 @@ text_layer layer.Int = codes "Int"
 text_layer layer.Str = codes "Str"
 text_layer (layer.Named x) = x
 text_layer (layer.Var n) = codes "a" ++ decimal n
-text_layer (layer.Set a) = codes "Set(" ++ a.value.text ++ codes ")"
-text_layer (layer.Seq a) = codes "Seq(" ++ a.value.text ++ codes ")"
-text_layer (layer.Fun a b) = operand_text a.value.form a.value.text ++ codes " -> " ++ result_text b.value.form b.value.text
+text_layer (layer.Set a) = codes "Set(" ++ a.text ++ codes ")"
+text_layer (layer.Seq a) = codes "Seq(" ++ a.text ++ codes ")"
+text_layer (layer.Fun a b) = operand_text a.form a.text ++ codes " -> " ++ result_text b.form b.text
 text_layer (layer.Tup ts) = codes "<<" ++ items_text (map (λ s. s.text) ts) ++ codes ">>"
 text_layer (layer.Rec fs k) = codes "{" ++ fields_text (map text_field fs) ++ tail_text (length fs) k ++ codes "}"
-text_layer (layer.Oper ts b) = codes "(" ++ items_text (map (λ s. s.text) ts) ++ codes ") => " ++ b.value.text
+text_layer (layer.Oper ts b) = codes "(" ++ items_text (map (λ s. s.text) ts) ++ codes ") => " ++ b.text
 
 abbrev pub form_layer : {X : Type 0} → layer.Ty-F X → Form
 form_layer (layer.Fun a b) = Function

@@ -45,12 +45,12 @@ mean_layer layer.Int = con IntHead
 mean_layer layer.Str = con StrHead
 mean_layer (layer.Named t) = con (NamedHead t)
 mean_layer (layer.Var n) = var n
-mean_layer (layer.Set a) = app (con SetHead) a.value
-mean_layer (layer.Seq a) = app (con SeqHead) a.value
-mean_layer (layer.Fun a b) = app (con FunHead) (app a.value b.value)
+mean_layer (layer.Set a) = app (con SetHead) a
+mean_layer (layer.Seq a) = app (con SeqHead) a
+mean_layer (layer.Fun a b) = app (con FunHead) (app a b)
 mean_layer (layer.Tup ts) = app (con TupHead) (row ts)
 mean_layer (layer.Rec fs r) = fields (lookup fs) r
-mean_layer (layer.Oper ts b) = app (con OperHead) (app (row ts) b.value)
+mean_layer (layer.Oper ts b) = app (con OperHead) (app (row ts) b)
 
 -- what a type means
 unfoldable pub mean : Ty → Term

@@ -3,6 +3,7 @@ use Rattle.std.specs.Prelude.{ℕ, ◌+◌, ◌≡◌, ◌<◌, ◌≤◌, ◌�
 use Rattle.snowcat_rows.specs.declared.substitution.UnifyFault.{UnifyFault}
 use Rattle.snowcat_rows.specs.declared.substitution.UnifyFault.TheVariants.{Clash, Memory}
 use Rattle.snowcat_rows.specs.Types.{Term, some, mean, Beside}
+use Rattle.snowcat_rows.specs.FirstDifferences.{AtOnce}
 use Rattle.snowcat_rows.specs.Substitutions.{Row, Sub, apply, Fronts, Fits, Sorted, Unified, Apart}
 use Rattle.snowcat_rows.specs.Chains.{Binding, to_type, to_row, solved, sub_of}
 use Rattle.snowcat_rows.specs.FieldNames.{names_differ}
@@ -52,8 +53,8 @@ pub data Follow (n : ℕ) (l : Fronts) (bs : List Binding) (a b : Term) : ℕ �
       → Beside x y (solved cs a) (solved cs b) → p ≤ m + 1 → (h : Made m p k [] ds x y)
       → Follow n l bs a b p h.fronts (cs ++ ds)
 
--- no extension makes a and b equal; x and y stand at one place of what a and b are under bindings that follow, and no
--- substitution makes x and y equal that gives no row variable a name which stands before it
+-- no extension makes a and b equal; x and y stand at one place of what a and b are under bindings that follow, differ at
+-- once, and no substitution makes x and y equal that gives no row variable a name which stands before it
 pub record Unmade (n : ℕ) (l : Fronts) (bs : List Binding) (a b x y : Term) : Type 0 where
   pub apart : Apart n l (sub_of bs) a b
   pub issued : ℕ
@@ -61,6 +62,7 @@ pub record Unmade (n : ℕ) (l : Fronts) (bs : List Binding) (a b x y : Term) : 
   pub reached : List Binding
   pub follow : Follow n l bs a b issued fronts reached
   pub beside : Beside x y (solved reached a) (solved reached b)
+  pub at_once : AtOnce x y
   pub never : (s : Sub) → Fits issued fronts s → apply s x ≡ apply s y → ⊥
 
 abbrev pub IsRefused : UnifyFault → ℕ → List Binding → Term → Term → Type 0

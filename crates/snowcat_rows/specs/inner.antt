@@ -8,6 +8,7 @@ pub mod Marks
 pub mod Measures
 pub mod Parts
 pub mod Places
+pub mod Plain
 pub mod Readers
 pub mod Rounds
 pub mod Stores

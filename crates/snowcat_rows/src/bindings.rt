@@ -6,7 +6,8 @@ ghost use Rattle.snowcat_rows.specs.Chains.{Occurs, OccursRow, key, row_var, to_
 ghost use Rattle.snowcat_rows.specs.Codes.{Begins, binding, bindings_of, has, variable};
 ghost use Rattle.snowcat_rows.specs.FieldNames.{names_differ};
 ghost use Rattle.snowcat_rows.specs.inner.Naming.{all_bound_named, record_named};
-ghost use Rattle.snowcat_rows.specs.inner.Rounds.{Advances, BothBound, Common, Lacks, NoneBound, Stuck, Unlike, row_of};
+ghost use Rattle.snowcat_rows.specs.FirstDifferences.{Common};
+ghost use Rattle.snowcat_rows.specs.inner.Rounds.{Advances, BothBound, Lacks, NoneBound, Stuck, Unlike, row_of};
 
 use crate::occurrences::{Unknown, is_end, occurs, occurs_fields};
 use crate::places::Places;

@@ -16,7 +16,7 @@ use crate::faults::TypeTextFault;
 use crate::marks::{Mark, Seen};
 use crate::types::Ty;
 use std::alloc::{AllocError, Global};
-use tla_values::{List, Text, copy_text};
+use tla_values::{Boxed, List, Text, copy_text};
 
 // How deep a type may be, and how many parts it may have.
 const MOST_DEPTH: usize = 1_000;
@@ -116,17 +116,17 @@ fn copy_moved(alloc: Global, t: &Ty, by: u32) -> Result<Ty, AllocError>
             Ok(Ty::Var(moved))
         }
         Ty::Set(a) => {
-            let item = copy_moved(alloc, a, by)?;
-            Ok(Ty::Set(Box::new(alloc, item)?))
+            let item = copy_moved(alloc, a.get(), by)?;
+            Ok(Ty::Set(Boxed::new(alloc, item)?))
         }
         Ty::Seq(a) => {
-            let item = copy_moved(alloc, a, by)?;
-            Ok(Ty::Seq(Box::new(alloc, item)?))
+            let item = copy_moved(alloc, a.get(), by)?;
+            Ok(Ty::Seq(Boxed::new(alloc, item)?))
         }
         Ty::Fun(x, y) => {
-            let argument = copy_moved(alloc, x, by)?;
-            let value = copy_moved(alloc, y, by)?;
-            Ok(Ty::Fun(Box::new(alloc, argument)?, Box::new(alloc, value)?))
+            let argument = copy_moved(alloc, x.get(), by)?;
+            let value = copy_moved(alloc, y.get(), by)?;
+            Ok(Ty::Fun(Boxed::new(alloc, argument)?, Boxed::new(alloc, value)?))
         }
         Ty::Tup(ts) => {
             let items = copy_all_moved(alloc, ts.as_slice(), by)?;
@@ -139,8 +139,8 @@ fn copy_moved(alloc: Global, t: &Ty, by: u32) -> Result<Ty, AllocError>
         }
         Ty::Oper(ts, y) => {
             let arguments = copy_all_moved(alloc, ts.as_slice(), by)?;
-            let value = copy_moved(alloc, y, by)?;
-            Ok(Ty::Oper(arguments, Box::new(alloc, value)?))
+            let value = copy_moved(alloc, y.get(), by)?;
+            Ok(Ty::Oper(arguments, Boxed::new(alloc, value)?))
         }
     }
 }
@@ -364,7 +364,7 @@ impl Builder {
     {
         let part = self.pop()?;
         let depth = deeper(part.1)?;
-        let item = Box::new(alloc, part.0)?;
+        let item = Boxed::new(alloc, part.0)?;
         self.push(Ty::Set(item), depth)?;
         Ok(())
     }
@@ -378,7 +378,7 @@ impl Builder {
     {
         let part = self.pop()?;
         let depth = deeper(part.1)?;
-        let item = Box::new(alloc, part.0)?;
+        let item = Boxed::new(alloc, part.0)?;
         self.push(Ty::Seq(item), depth)?;
         Ok(())
     }
@@ -393,8 +393,8 @@ impl Builder {
         let value = self.pop()?;
         let argument = self.pop()?;
         let depth = deeper(argument.1.max(value.1))?;
-        let from = Box::new(alloc, argument.0)?;
-        let to = Box::new(alloc, value.0)?;
+        let from = Boxed::new(alloc, argument.0)?;
+        let to = Boxed::new(alloc, value.0)?;
         self.push(Ty::Fun(from, to), depth)?;
         Ok(())
     }
@@ -484,7 +484,7 @@ impl Builder {
         let value = self.pop()?;
         let arguments = self.pop_all()?;
         let depth = deeper(arguments.1.max(value.1))?;
-        let to = Box::new(alloc, value.0)?;
+        let to = Boxed::new(alloc, value.0)?;
         self.push(Ty::Oper(arguments.0, to), depth)?;
         Ok(())
     }

@@ -5,7 +5,8 @@ ghost use Rattle.snowcat_rows.specs.Types.{mean, row};
 ghost use Rattle.snowcat_rows.specs.Codes.{has};
 ghost use Rattle.snowcat_rows.specs.FieldNames.{names_differ};
 ghost use Rattle.snowcat_rows.specs.inner.Naming.{are_named, fields_named};
-ghost use Rattle.snowcat_rows.specs.inner.Rounds.{Common, Differ, InField};
+ghost use Rattle.snowcat_rows.specs.FirstDifferences.{Common};
+ghost use Rattle.snowcat_rows.specs.inner.Rounds.{Differ, InField};
 
 use crate::records::{find, is_alike};
 use crate::types::Ty;
@@ -48,17 +49,17 @@ pub(crate) fn difference<'a>(a: &'a Ty, b: &'a Ty) -> Option<(&'a Ty, &'a Ty)>
             _ => Some((a, b)),
         },
         Ty::Set(x) => match b {
-            Ty::Set(y) => difference(x, y),
+            Ty::Set(y) => difference(x.get(), y.get()),
             _ => Some((a, b)),
         },
         Ty::Seq(x) => match b {
-            Ty::Seq(y) => difference(x, y),
+            Ty::Seq(y) => difference(x.get(), y.get()),
             _ => Some((a, b)),
         },
         Ty::Fun(x, z) => match b {
-            Ty::Fun(y, w) => match difference(x, y) {
+            Ty::Fun(y, w) => match difference(x.get(), y.get()) {
                 Some(p) => Some(p),
-                None => difference(z, w),
+                None => difference(z.get(), w.get()),
             },
             _ => Some((a, b)),
         },
@@ -77,7 +78,7 @@ pub(crate) fn difference<'a>(a: &'a Ty, b: &'a Ty) -> Option<(&'a Ty, &'a Ty)>
                 if xs.len() == ys.len() {
                     match difference_all(xs.as_slice(), ys.as_slice()) {
                         Some(p) => Some(p),
-                        None => difference(z, w),
+                        None => difference(z.get(), w.get()),
                     }
                 } else {
                     Some((a, b))

@@ -12,10 +12,14 @@
 
 mod bindings;
 mod building;
+mod closing;
 mod differences;
 mod faults;
+mod following;
+mod literals;
 mod marks;
 mod occurrences;
+mod operators;
 mod pieces;
 mod places;
 mod reader;
@@ -27,12 +31,15 @@ mod showing;
 mod substitution;
 mod types;
 
+pub use closing::closed;
 pub use faults::TypeTextFault;
+pub use literals::literal_type;
 pub use occurrences::is_within;
-pub use reading::read_type;
+pub use operators::has_no_operator;
+pub use reading::{Aliases, read_type, types_are_read_in_one_way};
 pub use records::has_distinct_names;
 pub use showing::{
     said_types_are_spellable, show_type, shown_types_are_read_back, shown_types_are_spelled,
 };
 pub use substitution::{Subst, UnifyFault};
-pub use types::{Ty, copy_type};
+pub use types::{Ty, Typed, copy_type};

@@ -30,12 +30,12 @@ pub(crate) fn occurs(x: Unknown, t: &Ty) -> bool
         Ty::Str => false,
         Ty::Named(_) => false,
         Ty::Var(w) => is_type(x, *w),
-        Ty::Set(a) => occurs(x, a),
-        Ty::Seq(a) => occurs(x, a),
-        Ty::Fun(a, b) => occurs(x, a) || occurs(x, b),
+        Ty::Set(a) => occurs(x, a.get()),
+        Ty::Seq(a) => occurs(x, a.get()),
+        Ty::Fun(a, b) => occurs(x, a.get()) || occurs(x, b.get()),
         Ty::Tup(ts) => occurs_all(x, ts.as_slice()),
         Ty::Rec(fs, tail) => occurs_fields(x, fs.as_slice()) || is_end(x, *tail),
-        Ty::Oper(ts, b) => occurs_all(x, ts.as_slice()) || occurs(x, b),
+        Ty::Oper(ts, b) => occurs_all(x, ts.as_slice()) || occurs(x, b.get()),
     }
 }
 
@@ -109,12 +109,12 @@ fn is_below(t: &Ty, limit: u32) -> bool
         Ty::Str => true,
         Ty::Named(_) => true,
         Ty::Var(w) => *w < limit,
-        Ty::Set(a) => is_below(a, limit),
-        Ty::Seq(a) => is_below(a, limit),
-        Ty::Fun(a, b) => is_below(a, limit) && is_below(b, limit),
+        Ty::Set(a) => is_below(a.get(), limit),
+        Ty::Seq(a) => is_below(a.get(), limit),
+        Ty::Fun(a, b) => is_below(a.get(), limit) && is_below(b.get(), limit),
         Ty::Tup(ts) => are_below(ts.as_slice(), limit),
         Ty::Rec(fs, tail) => fields_below(fs.as_slice(), limit) && is_end_below(*tail, limit),
-        Ty::Oper(ts, b) => are_below(ts.as_slice(), limit) && is_below(b, limit),
+        Ty::Oper(ts, b) => are_below(ts.as_slice(), limit) && is_below(b.get(), limit),
     }
 }
 

@@ -1,7 +1,7 @@
 // The pieces of a type's text by their bytes.
-ghost use Rattle.std.specs.Prelude.{◌≡◌, ◌||◌};
+ghost use Rattle.std.specs.Prelude.{◌≡◌, ◌||◌, drop};
 ghost use Rattle.std.specs.List.{list_all, list_any};
-ghost use Rattle.snowcat_rows.specs.LiteralTypes.{in_type_name, in_word, is_capital, is_digit, is_small, is_type_name};
+ghost use Rattle.snowcat_rows.specs.LiteralTypes.{in_type_name, in_word, is_capital, is_digit, is_small, is_type_name, is_word};
 ghost use Rattle.snowcat_rows.specs.TypeTexts.{has_letter, is_among, is_blank, is_name, is_variable};
 ghost use Rattle.snowcat_rows.specs.inner.Machine.{alias_front, covers, is_front, keywords, same_names, sign_of, symbol_of, word_front};
 
@@ -44,6 +44,13 @@ pub(crate) fn is_blank(byte: u8) -> bool
     byte == b' ' || byte == b'\t' || byte == b'\n' || byte == b'\x0c' || byte == b'\r'
 }
 
+// The bytes from this place on.
+pub(crate) fn after(bytes: &[u8], n: usize) -> &[u8]
+    ensures { result.now ≡ drop n bytes.now }
+{
+    if n < bytes.len() { &bytes[n..] } else { &[] }
+}
+
 pub(crate) fn are_word(bytes: &[u8]) -> bool
     ensures { result ≡ list_all in_word bytes.now }
 {
@@ -60,6 +67,15 @@ fn are_capitals(bytes: &[u8]) -> bool
     ensures { result ≡ list_all in_type_name bytes.now }
 {
     bytes.iter().all(|byte| in_type_name(*byte))
+}
+
+pub(crate) fn is_word(bytes: &[u8]) -> bool
+    ensures { result ≡ is_word bytes.now }
+{
+    match bytes {
+        [] => false,
+        [_, ..] => are_word(bytes),
+    }
 }
 
 // The name of an uninterpreted type.

@@ -1,26 +1,22 @@
 // The type that a text says.
-ghost use Rattle.std.specs.Prelude.{◌≡◌, ◌<◌, ◌^◌, [], IfErr, IfOk, MatchResult, drop, true};
-ghost use Rattle.snowcat_rows.specs.Types.{mean};
+ghost use Rattle.std.specs.Coded.{Coded-set, coded_bool};
+ghost use Rattle.std.specs.Prelude.{ℕ, List as Items, ◌≡◌, ◌<◌, ◌^◌, [], IfErr, IfOk, MatchResult, drop, true};
+ghost use Rattle.snowcat_rows.specs.Types.{Term, mean};
+ghost use Rattle.snowcat_rows.specs.declared.faults.TypeTextFault.{TypeTextFault as AnyFault};
 ghost use Rattle.snowcat_rows.specs.FieldNames.{names_differ};
 ghost use Rattle.snowcat_rows.specs.inner.Naming.{aliases_named};
 ghost use Rattle.snowcat_rows.specs.Said.{IsRegular};
-ghost use Rattle.snowcat_rows.specs.Readings.{Counts, IsFaultOf, IsOnly, IsReadAs, IsTextFault, Knows, WantsMemory, begins_unknown, first_word, is_unknown, unknown_within};
+ghost use Rattle.snowcat_rows.specs.Readings.{Counts, IsFaultOf, IsOnly, IsReadAs, IsTextFault, Knows, WantsMemory, IsReadBy, Known, begins_unknown, first_word, is_unknown, unknown_within};
 ghost use Rattle.snowcat_rows.specs.TypeTexts.{IsBadAt};
-ghost use Rattle.snowcat_rows.specs.inner.Readers.{IsWhole, known_of};
+ghost use Rattle.snowcat_rows.specs.inner.Readers.{known_of};
 
 use crate::building::{Alias, Whole, build, find};
 use crate::faults::TypeTextFault;
-use crate::pieces::{in_word, is_name};
+use crate::pieces::{after, in_word, is_name};
 use crate::scanning::scan;
 use crate::types::Ty;
 use std::alloc::{AllocError, Global};
 use tla_values::{List, Text, copy_text};
-
-fn after(bytes: &[u8], n: usize) -> &[u8]
-    ensures { result.now ≡ drop n bytes.now }
-{
-    if n < bytes.len() { &bytes[n..] } else { &[] }
-}
 
 // The letters, digits and `_` that the bytes begin with.
 fn first_word(bytes: &[u8]) -> &[u8]
@@ -79,7 +75,7 @@ fn fault_at(alloc: Global, known: &[Alias], text: &[u8], at: usize) -> TypeTextF
 fn read_by(alloc: Global, text: &[u8], known: &[Alias]) -> Result<Whole, TypeTextFault>
     requires { aliases_named known.now ≡ true }
     ensures read { MatchResult result
-        (λ w. IsWhole (known_of known.now) text.now (mean w.of) w.count)
+        (λ w. IsReadBy (known_of known.now) text.now (mean w.of) w.count)
         (IsFaultOf (known_of known.now) text.now) }
     ensures named { IfOk result (λ w. names_differ w.of ≡ true) }
 {
@@ -120,11 +116,12 @@ fn alias_of(name: Text, whole: Whole) -> Alias
     }
 }
 
-fn type_of(whole: Whole) -> Ty
-    ensures of { result ≡ whole.of }
-    ensures small { whole.count < 2 ^ 32 }
+fn type_and_count(whole: Whole) -> (Ty, u32)
+    ensures of { result.0 ≡ whole.of }
+    ensures count { result.1 ≡ whole.count }
+    ensures small { result.1 < 2 ^ 32 }
 {
-    whole.of
+    (whole.of, whole.count)
 }
 
 // The alias joins those that are known, where it counts.
@@ -159,6 +156,50 @@ fn known_aliases(alloc: Global, aliases: &[(Text, Text)]) -> Result<Vec<Alias>, 
     Ok(known)
 }
 
+/// The aliases of a module that count, each read once.
+#[derive(Drop)]
+pub struct Aliases {
+    known: Vec<Alias>,
+    pub ghost named: { aliases_named known.items ≡ true } by { Coded-set coded_bool (aliases_named known.items) true },
+}
+
+impl Aliases {
+    ghost use Rattle.snowcat_rows.specs.Views.{known_by};
+
+    /// Those of names with the texts of their types: one counts where its text is a type's whose aliases stand before it
+    /// and count, and of several of one name that count the first is taken.
+    pub fn of(alloc: Global, aliases: &List<(Text, Text)>) -> Result<Aliases, AllocError>
+        ensures { IfOk result (λ r. Knows [] aliases.now (known_by r)) }
+    {
+        let known = known_aliases(alloc, aliases.as_slice())?;
+        Ok(Aliases { known })
+    }
+
+    /// The type that the text says, as [`read_type`] reads it, and how many variables it has.
+    pub fn read(&self, alloc: Global, text: &[u8]) -> Result<(Ty, u32), TypeTextFault>
+        ensures read { MatchResult result
+            (λ r. IsReadBy (known_by self.now) text.now (mean r.0) r.1)
+            (IsFaultOf (known_by self.now) text.now) }
+        ensures regular { (aliases : Items (Items ℕ × Items ℕ)) → Knows [] aliases (known_by self.now)
+            → IfOk result (λ r. IsRegular r.0) }
+    {
+        match read_by(alloc, text, self.known.as_slice()) {
+            Ok(whole) => Ok(type_and_count(whole)),
+            Err(fault) => Err(fault),
+        }
+    }
+}
+
+/// Aliases are known in one way, a text says one type by them with one number of variables, and where it says one, only
+/// want of memory is a fault. It does nothing.
+pub fn types_are_read_in_one_way()
+    ensures known { (aliases : Items (Items ℕ × Items ℕ)) (j k : Known) → Knows [] aliases j → Knows [] aliases k → j ≡ k }
+    ensures once { (k : Known) (text : Items ℕ) (t u : Term) (n m : ℕ)
+        → IsReadBy k text t n → IsReadBy k text u m → (t ≡ u) × (n ≡ m) }
+    ensures fault { (k : Known) (text : Items ℕ) (fault : AnyFault) (t : Term) (n : ℕ)
+        → IsFaultOf k text fault → IsReadBy k text t n → WantsMemory fault }
+{}
+
 /// Reads the text of a type: `Int`, `a`, `NODE`, `Set(T)`, `Seq(T)`, `T -> U` (to the right), `<<T, U>>`,
 /// `{f: T, r}`, `(T, U) => V`, `(T)`, `$alias`; blanks are free.
 ///
@@ -179,9 +220,9 @@ pub fn read_type(
     ensures only { IsOnly aliases.now text.now result }
     ensures fault { IfErr result (IsTextFault aliases.now text.now) }
 {
-    let known = known_aliases(alloc, aliases.as_slice())?;
-    match read_by(alloc, text, known.as_slice()) {
-        Ok(whole) => Ok(type_of(whole)),
+    let known = Aliases::of(alloc, aliases)?;
+    match known.read(alloc, text) {
+        Ok(read) => Ok(read.0),
         Err(fault) => Err(fault),
     }
 }

@@ -105,12 +105,12 @@ pub fn has_distinct_names(t: &Ty) -> bool
         Ty::Str => true,
         Ty::Named(_) => true,
         Ty::Var(_) => true,
-        Ty::Set(a) => has_distinct_names(a),
-        Ty::Seq(a) => has_distinct_names(a),
-        Ty::Fun(a, b) => has_distinct_names(a) && has_distinct_names(b),
+        Ty::Set(a) => has_distinct_names(a.get()),
+        Ty::Seq(a) => has_distinct_names(a.get()),
+        Ty::Fun(a, b) => has_distinct_names(a.get()) && has_distinct_names(b.get()),
         Ty::Tup(ts) => all_distinct(ts.as_slice()),
         Ty::Rec(fs, _) => are_distinct(fs.as_slice()) && fields_distinct(fs.as_slice()),
-        Ty::Oper(ts, b) => all_distinct(ts.as_slice()) && has_distinct_names(b),
+        Ty::Oper(ts, b) => all_distinct(ts.as_slice()) && has_distinct_names(b.get()),
     }
 }
 

@@ -18,10 +18,10 @@ use crate::places::Places;
 use crate::records::find;
 use crate::types::{Ty, copy_type};
 use std::alloc::{AllocError, Global};
-use tla_values::{List, Text, copy_text};
+use tla_values::{Boxed, List, Text, copy_text};
 
 // What the variable is bound to.
-fn type_bound<'a>(bindings: &'a [Bound], places: &Places, v: u32) -> Option<&'a Ty>
+pub(crate) fn type_bound<'a>(bindings: &'a [Bound], places: &Places, v: u32) -> Option<&'a Ty>
     requires { Indexed places.now bindings.now }
     ensures mean { MatchOption result (type_at (bindings_of bindings.now) v ≡ var v)
         (λ t. type_at (bindings_of bindings.now) v ≡ mean t.now) }
@@ -85,17 +85,17 @@ pub(crate) fn replace(
             None => Ok(Ty::Var(*w)),
         },
         Ty::Set(a) => {
-            let item = replace(alloc, a, bindings, places)?;
-            Ok(Ty::Set(Box::new(alloc, item)?))
+            let item = replace(alloc, a.get(), bindings, places)?;
+            Ok(Ty::Set(Boxed::new(alloc, item)?))
         }
         Ty::Seq(a) => {
-            let item = replace(alloc, a, bindings, places)?;
-            Ok(Ty::Seq(Box::new(alloc, item)?))
+            let item = replace(alloc, a.get(), bindings, places)?;
+            Ok(Ty::Seq(Boxed::new(alloc, item)?))
         }
         Ty::Fun(x, y) => {
-            let argument = replace(alloc, x, bindings, places)?;
-            let value = replace(alloc, y, bindings, places)?;
-            Ok(Ty::Fun(Box::new(alloc, argument)?, Box::new(alloc, value)?))
+            let argument = replace(alloc, x.get(), bindings, places)?;
+            let value = replace(alloc, y.get(), bindings, places)?;
+            Ok(Ty::Fun(Boxed::new(alloc, argument)?, Boxed::new(alloc, value)?))
         }
         Ty::Tup(ts) => {
             let items = replace_all(alloc, ts.as_slice(), bindings, places)?;
@@ -108,8 +108,8 @@ pub(crate) fn replace(
         }
         Ty::Oper(ts, y) => {
             let arguments = replace_all(alloc, ts.as_slice(), bindings, places)?;
-            let value = replace(alloc, y, bindings, places)?;
-            Ok(Ty::Oper(arguments, Box::new(alloc, value)?))
+            let value = replace(alloc, y.get(), bindings, places)?;
+            Ok(Ty::Oper(arguments, Boxed::new(alloc, value)?))
         }
     }
 }

@@ -47,12 +47,12 @@ fn show_part(t: &Ty, out: &mut Vec<u8>) -> Result<(), AllocError>
         Ty::Str => append(b"Str", out),
         Ty::Named(name) => append(name.bytes(), out),
         Ty::Var(v) => show_variable(b"a", *v, out),
-        Ty::Set(a) => show_between(b"Set(", a, out),
-        Ty::Seq(a) => show_between(b"Seq(", a, out),
+        Ty::Set(a) => show_between(b"Set(", a.get(), out),
+        Ty::Seq(a) => show_between(b"Seq(", a.get(), out),
         Ty::Fun(a, b) => {
-            show_operand(a, out)?;
+            show_operand(a.get(), out)?;
             append(b" -> ", out)?;
-            show_result(b, out)?;
+            show_result(b.get(), out)?;
             Ok(())
         }
         Ty::Tup(ts) => show_tuple(ts.as_slice(), out),
@@ -61,7 +61,7 @@ fn show_part(t: &Ty, out: &mut Vec<u8>) -> Result<(), AllocError>
             append(b"(", out)?;
             show_items(ts.as_slice(), out)?;
             append(b") => ", out)?;
-            show_part(b, out)?;
+            show_part(b.get(), out)?;
             Ok(())
         }
     }

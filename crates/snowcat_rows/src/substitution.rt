@@ -1,9 +1,9 @@
 // Substitutions, and the most general one that makes two types equal.
-ghost use Rattle.std.specs.Prelude.{ℕ, ◌≡◌, ◌+◌, ◌<◌, ◌≤◌, [], IfOk, MatchResult, OnOk, alloc_error, take, true};
+ghost use Rattle.std.specs.Prelude.{ℕ, ◌≡◌, ◌+◌, ◌<◌, ◌≤◌, [], IfOk, length, MatchResult, OnOk, alloc_error, take, true};
 ghost use Rattle.snowcat_rows.specs.Types.{mean, var};
 ghost use Rattle.snowcat_rows.specs.Substitutions.{apply};
 ghost use Rattle.snowcat_rows.specs.Chains.{Chain, solved};
-ghost use Rattle.snowcat_rows.specs.Codes.{bindings_of};
+ghost use Rattle.snowcat_rows.specs.Codes.{Begins, bindings_of};
 ghost use Rattle.snowcat_rows.specs.Sorting.{Within};
 ghost use Rattle.snowcat_rows.specs.Unifying.{HasNames, IsMade, IsRefused};
 ghost use Rattle.snowcat_rows.specs.FieldNames.{names_differ};
@@ -14,6 +14,7 @@ ghost use Rattle.snowcat_rows.specs.inner.Stores.{HasBoth, IsFurther, IsKept, Is
 
 use crate::bindings::{Bound, advance, bound_by};
 use crate::differences::difference;
+use crate::following::follow_root;
 use crate::places::Places;
 use crate::replacement::{put_all, settle};
 use crate::types::{Ty, copy_type};
@@ -142,6 +143,7 @@ impl Store {
         requires within { HasBoth self.old (mean a.now) (mean b.now) }
         requires named { are_named a.now b.now ≡ true }
         ensures sound { IsSound self.new }
+        ensures further { Begins self.old.bindings.items self.new.bindings.items }
         ensures unified { MatchResult result
             (λ _. IsSolved self.old self.new (mean a.now) (mean b.now))
             (λ e. (self.new.bindings.items ≡ self.old.bindings.items) × (self.new.issued ≡ self.old.issued)
@@ -171,7 +173,8 @@ pub struct Subst {
 }
 
 impl Subst {
-    ghost use Rattle.snowcat_rows.specs.Views.{issued_of, kept_by, stands_for};
+    ghost use Rattle.snowcat_rows.specs.Roots.{IsRoot};
+    ghost use Rattle.snowcat_rows.specs.Views.{IsIssued, issued_of, kept_by, stands_for, type_bound_at};
 
     /// A substitution that has issued no variable. It takes its room from `alloc`.
     pub fn new(alloc: Global) -> Subst
@@ -186,11 +189,30 @@ impl Subst {
         Subst { alloc, store }
     }
 
-    /// How many variables are issued.
+    /// How many variables are issued; all that is bound is of these.
     pub fn issued(&self) -> u32
-        ensures { result ≡ issued_of self.now }
+        ensures count { result ≡ issued_of self.now }
+        ensures kept { IsIssued (issued_of self.now) (kept_by self.now) }
     {
         self.store.issued
+    }
+
+    /// How many variables are bound.
+    pub fn bound(&self) -> usize
+        ensures { result ≡ length (kept_by self.now) }
+    {
+        self.store.bindings.len()
+    }
+
+    /// The type variable that was bound as the i-th, from 0; none where that is a row variable.
+    pub fn bound_type(&self, i: usize) -> Option<u32>
+        requires { i < length (kept_by self.now) }
+        ensures { result ≡ type_bound_at (kept_by self.now) i }
+    {
+        match &self.store.bindings[i] {
+            Bound::Type(v, _) => Some(*v),
+            Bound::Row(_, _, _) => None,
+        }
     }
 
     /// A new variable; one is to be left.
@@ -217,6 +239,14 @@ impl Subst {
         Ok(settled)
     }
 
+    /// What the type is at its root: itself, or what its variable stands for, as long as that is a bound variable
+    /// again. Takes no memory.
+    pub fn root<'a>(&'a self, t: &'a Ty) -> &'a Ty
+        ensures { IsRoot (stands_for self.now) (mean t.now) (mean result.now) }
+    {
+        follow_root(t, self.store.bindings.as_slice(), &self.store.places)
+    }
+
     /// Makes the types equal by the most general substitution that extends this one. Each variable of
     /// the types is one that this substitution issued ([`is_within`](crate::is_within) tells), in
     /// each record the field names differ ([`has_distinct_names`](crate::has_distinct_names) tells), and each
@@ -232,6 +262,7 @@ impl Subst {
         requires right { Within (issued_of self.old) (mean b.now) }
         requires names { (names_differ a.now ≡ true) × (names_differ b.now ≡ true) }
         ensures more { issued_of self.old ≤ issued_of self.new }
+        ensures further { Begins (kept_by self.old) (kept_by self.new) }
         ensures ok { OnOk result (IsMade (issued_of self.old) (issued_of self.new)
             (kept_by self.old) (kept_by self.new) (mean a.now) (mean b.now)) }
         ensures err { MatchResult result (λ _. Unit {0})

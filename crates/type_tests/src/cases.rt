@@ -172,3 +172,38 @@ foo=Int | <<$foo ;; bad 6
  | (Int) = > Str ;; bad 7
  | Int -> Str => Bool ;; bad 11
  | a? ;; bad 1"#;
+
+// Types, closed, and whether no operator type stands in them.
+pub(crate) const CLOSED: &str = r#"b => Bool plain
+0 => Int plain
+u => U plain
+0SQ => Seq(Set(Int)) plain
+0sfB> => Int -> {f: Str} plain
+0fsgC => {f: Int, g: Str} plain
+A => {} plain
+0s1T => <<Int, Str, Int>> plain
+0bO => (Int) => Bool
+0bOfA => {f: (Int) => Bool}
+ibOS => Set((Int) => Bool)"#;
+
+// Text literals and their types.
+pub(crate) const LITERALS: &str = r#"1_OF_NODE => NODE
+a_b_OF_T_1 => T_1
+1_OF_A_OF_B => B
+1_OF_ => Str
+_OF_NODE => Str
+1_OF_node => Str
+1_OF_Node => Str
+a b_OF_P => Str
+1_OF_OF_P => P
+1_OF_P_OF_ => Str
+1OF_P => Str
+ => Str"#;
+
+// Pairs of types that are made equal one after the other; what is bound then, in order, and the root of a type.
+pub(crate) const ROOTS: &str = r#"0 i | 0 => 0 Int
+0 i | 1 => 0 a1
+0 1, 1 2, 2 iS | 2 => 120 Set(Int)
+0 1S, 1 i | 0 => 01 Set(a1)
+ifA ifsgC | 3 => r a3
+0 i, 1 s | 01> => 01 a0 -> a1"#;

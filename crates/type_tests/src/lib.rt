@@ -4,6 +4,8 @@
 #[cfg(test)]
 mod cases;
 #[cfg(test)]
+mod forms;
+#[cfg(test)]
 mod postfix;
 #[cfg(test)]
 mod reading;

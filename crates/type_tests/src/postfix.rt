@@ -8,7 +8,7 @@
 use snowcat_rows::Ty;
 use std::alloc::{AllocError, Global};
 use std::mem;
-use tla_values::{List, Text};
+use tla_values::{Boxed, List, Text};
 
 #[derive(Drop)]
 struct Postfix {
@@ -46,15 +46,15 @@ impl Postfix {
         let value = self.last();
         let argument = self.last();
         Ok(Ty::Fun(
-            Box::new(self.alloc, argument)?,
-            Box::new(self.alloc, value)?,
+            Boxed::new(self.alloc, argument)?,
+            Boxed::new(self.alloc, value)?,
         ))
     }
 
     fn operator(&mut self) -> Result<Ty, AllocError> {
         let value = self.last();
         let arguments = self.all();
-        Ok(Ty::Oper(arguments, Box::new(self.alloc, value)?))
+        Ok(Ty::Oper(arguments, Boxed::new(self.alloc, value)?))
     }
 
     fn made(&mut self, byte: u8) -> Result<Ty, AllocError> {
@@ -66,11 +66,11 @@ impl Postfix {
             b'0'..=b'9' => Ok(Ty::Var((byte - b'0') as u32)),
             b'S' => {
                 let item = self.last();
-                Ok(Ty::Set(Box::new(self.alloc, item)?))
+                Ok(Ty::Set(Boxed::new(self.alloc, item)?))
             }
             b'Q' => {
                 let item = self.last();
-                Ok(Ty::Seq(Box::new(self.alloc, item)?))
+                Ok(Ty::Seq(Boxed::new(self.alloc, item)?))
             }
             b'>' => self.function(),
             b'O' => self.operator(),

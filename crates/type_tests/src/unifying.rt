@@ -7,7 +7,7 @@ use std::alloc::{AllocError, Global};
 use std::test::Fail;
 
 // A substitution that has issued five variables.
-fn five(alloc: Global) -> Subst {
+pub(crate) fn five(alloc: Global) -> Subst {
     let mut s = Subst::new(alloc);
     for _i in 0..5 {
         if s.issued() < 4294967295 {

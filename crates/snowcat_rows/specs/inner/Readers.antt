@@ -14,7 +14,7 @@ use Rattle.snowcat_rows.specs.declared.building.Builder.{Builder}
 use Rattle.snowcat_rows.specs.declared.building.Alias.{Alias}
 use Rattle.snowcat_rows.specs.declared.types.Ty.{Ty}
 use Rattle.snowcat_rows.specs.Types.{Term, mean}
-use Rattle.snowcat_rows.specs.Readings.{Known, moved, read, read_row, unknown}
+use Rattle.snowcat_rows.specs.Readings.{Known, moved, read_row}
 use Rattle.snowcat_rows.specs.declared.marks.Seen.{Seen}
 use Rattle.snowcat_rows.specs.inner.Building.{Item, one, several, Site, site, built as built_mark, built_all, unknown_mark, unknown_in, record_all}
 use Rattle.snowcat_rows.specs.declared.faults.TypeTextFault.{TypeTextFault}
@@ -173,9 +173,3 @@ AreBuilt k ms s = (s ≡ built_all k ms (site [] [])) × (unknown_in k ms ≡ No
 -- the last that was built is this type, and so many have a number
 abbrev pub Leaves : Site → Term → ℕ → Type 0
 Leaves s t n = ((is : List Item) × (s.items ≡ one t ∷ is)) × (n ≡ length s.seen)
-
--- ---- a text by the aliases that are known
-
--- the text is this type's, with so many variables
-abbrev pub IsWhole : Known → List ℕ → Term → ℕ → Type 0
-IsWhole k text t n = (s : Syntax) × IsTypeText text s × (unknown k s ≡ None) × (t ≡ (read k s []).0) × (n ≡ length (read k s []).1)

@@ -3,6 +3,7 @@ use Rattle.std.specs.Prelude.{ℕ, ◌≡◌, ◌⊎◌, ◌+◌, List, [], ◌�
 use Rattle.snowcat_rows.specs.declared.substitution.Round.{Round}
 use Rattle.snowcat_rows.specs.declared.substitution.Round.TheVariants.{Equal, Differs, More}
 use Rattle.snowcat_rows.specs.Types.{Term, Slot, var, fields, none, some, mean, Beside}
+use Rattle.snowcat_rows.specs.FirstDifferences.{AtOnce, Common}
 use Rattle.snowcat_rows.specs.Substitutions.{Row, Sub, apply, apply_slot}
 use Rattle.snowcat_rows.specs.Chains.{type_var, row_var, Binding, to_type, to_row, single, solved, Occurs, OccursSlot, OccursRow}
 
@@ -14,10 +15,6 @@ only x (some t) = none
 abbrev pub Is : Slot → Type 0
 Is none = ⊥
 Is (some t) = Unit {0}
-
--- the two records agree where both have a name
-abbrev pub Common : (List ℕ → Slot) → (List ℕ → Slot) → Type 0
-Common f g = (n : List ℕ) (x y : Term) → f n ≡ some x → g n ≡ some y → x ≡ y
 
 -- the names that g has and f has not, and the new variable
 abbrev pub others : (List ℕ → Slot) → (List ℕ → Slot) → ℕ → Row
@@ -33,12 +30,10 @@ IsRecord x = (f : List ℕ → Slot) × (k : Option ℕ) × (x ≡ fields f k)
 abbrev pub NotVar : Term → Type 0
 NotVar x = (v : ℕ) → x ≡ var v → ⊥
 
--- two types that differ at once: what are no variables and not both records can never be equal, and records agree where
--- both have a name
+-- two types that differ at once: what are no variables and not both records can never be equal
 pub record Unlike (x y : Term) : Type 0 where
-  pub unequal : x ≡ y → ⊥
+  pub at_once : AtOnce x y
   pub apart : NotVar x → NotVar y → (IsRecord x → IsRecord y → ⊥) → Never x y
-  pub common : (f g : List ℕ → Slot) (k j : Option ℕ) → x ≡ fields f k → y ≡ fields g j → Common f g
 
 -- x in a and y in b are to be equal where a and b are, and differ at once
 pub record Differ (a b x y : Term) : Type 0 where

@@ -13,17 +13,17 @@ advance_rows-requires c =
     let ex = rec_is c.args.x.now c.in-Rec.fs c.as_slice.result.now c.in-Rec.k c.in-Rec.is c.as_slice.ensures in
     let ey = rec_is c.args.y.now c.in-Rec-y.gs c.as_slice-in-Rec-y.result.now c.in-Rec-y.j c.in-Rec-y.is c.as_slice-in-Rec-y.ensures in
     record {
-      common = c.requires.common (has c.as_slice.result.now) (has c.as_slice-in-Rec-y.result.now) c.in-Rec.k c.in-Rec-y.j ex ey;
-      unequal = λ e. c.requires.unequal (ex ∙ e ∙ sym ey);
+      common = c.requires.at_once.records (has c.as_slice.result.now) (has c.as_slice-in-Rec-y.result.now) c.in-Rec.k c.in-Rec-y.j ex ey;
+      unequal = λ e. c.requires.at_once.unequal (ex ∙ e ∙ sym ey);
     }
 
 pub bind_later-requires : goal.bind_later-requires
-bind_later-requires c = record { first = ap mean c.in-Var.is ∙ mean-Var c.in-Var.v; unequal = c.requires.unequal }
+bind_later-requires c = record { first = ap mean c.in-Var.is ∙ mean-Var c.in-Var.v; unequal = c.requires.at_once.unequal }
 
 pub returns-in_ok-bound-in-Var-y : goal.returns-in_ok-bound-in-Var-y
 returns-in_ok-bound-in-Var-y c = record {
   prefix = c.bind_type.ensures.prefix;
-  ok = type_right (mean c.args.x.now) (mean c.args.y.now) c.in-Var-y.w c.args.issued.now (bindings_of c.args.bindings.now.items) _ c.requires.unequal (ap mean c.in-Var-y.is ∙ mean-Var c.in-Var-y.w)
+  ok = type_right (mean c.args.x.now) (mean c.args.y.now) c.in-Var-y.w c.args.issued.now (bindings_of c.args.bindings.now.items) _ c.requires.at_once.unequal (ap mean c.in-Var-y.is ∙ mean-Var c.in-Var-y.w)
       c.in_ok-bound-in-Var-y.bound c.in_ok-bound-in-Var-y.ensures.ok;
   named = λ a h k. c.in_ok-bound-in-Var-y.ensures.named a h;
 }

@@ -2,12 +2,10 @@ use Rattle.std.proofs.Common.{Option, ◌≡◌, ℕ, sym, ap, ◌∙◌, refl, 
 use Rattle.std.specs.Cmp.Lexicographic.{bytes_decides}
 use lib.Pointwise.{pointwise}
 use lib.Dec.{eqb}
-use Rattle.std.specs.declared.alloc.Global.{Global}
-use Rattle.std.specs.declared.boxed.Box.{Box}
 use Rattle.snowcat_rows.specs.declared.types.Ty.{Ty, Set, Seq, Fun, Tup, Rec, Oper}
 use Rattle.snowcat_rows.specs.Types.{mean, row, con, app, SetHead, SeqHead, FunHead, TupHead, OperHead}
 use Rattle.snowcat_rows.specs.Types.{fields}
-use Rattle.snowcat_rows.specs.inner.Rounds.{Common}
+use Rattle.snowcat_rows.specs.FirstDifferences.{Common}
 use Rattle.snowcat_rows.specs.Codes.{has}
 use Rattle.snowcat_rows.proofs.Fields.{compared_next, compared_end, same_both, same_none, same_first}
 use Rattle.snowcat_rows.proofs.Means.{mean-Rec, mean-Set, mean-Seq, mean-Fun, mean-Tup, mean-Oper}
@@ -19,20 +17,20 @@ use Rattle.snowcat_rows.proofs.differences.+difference.Goals.{difference_fields-
 different : (xs ys : List ℕ) → xs ≡ ys → pointwise eqb xs ys ≡ false → ⊥
 different xs ys e f = let k = (bytes_decides xs ys).1 e in absurd (cc)
 
-set_is : (a u : Ty) (x : Box Ty Global) → a ≡ Set x → u ≡ x.value → mean a ≡ app (con SetHead) (mean u)
+set_is : (a u : Ty) (x : Ty) → a ≡ Set x → u ≡ x → mean a ≡ app (con SetHead) (mean u)
 set_is a u x e k = ap mean e ∙ mean-Set x ∙ ap (λ t. app (con SetHead) (mean t)) (sym k)
 
-seq_is : (a u : Ty) (x : Box Ty Global) → a ≡ Seq x → u ≡ x.value → mean a ≡ app (con SeqHead) (mean u)
+seq_is : (a u : Ty) (x : Ty) → a ≡ Seq x → u ≡ x → mean a ≡ app (con SeqHead) (mean u)
 seq_is a u x e k = ap mean e ∙ mean-Seq x ∙ ap (λ t. app (con SeqHead) (mean t)) (sym k)
 
-fun_is : (a u v : Ty) (x y : Box Ty Global) → a ≡ Fun x y → u ≡ x.value → v ≡ y.value → mean a ≡ app (con FunHead) (app (mean u) (mean v))
-fun_is a u v x y e k l = ap mean e ∙ mean-Fun x y ∙ ap (λ t. app (con FunHead) (app (mean t) (mean y.value))) (sym k) ∙ ap (λ t. app (con FunHead) (app (mean u) (mean t))) (sym l)
+fun_is : (a u v : Ty) (x y : Ty) → a ≡ Fun x y → u ≡ x → v ≡ y → mean a ≡ app (con FunHead) (app (mean u) (mean v))
+fun_is a u v x y e k l = ap mean e ∙ mean-Fun x y ∙ ap (λ t. app (con FunHead) (app (mean t) (mean y))) (sym k) ∙ ap (λ t. app (con FunHead) (app (mean u) (mean t))) (sym l)
 
 tup_is : (a : Ty) (xs us : List Ty) → a ≡ Tup xs → us ≡ xs → mean a ≡ app (con TupHead) (row (map mean us))
 tup_is a xs us e k = ap mean e ∙ mean-Tup xs ∙ ap (λ l. app (con TupHead) (row (map mean l))) (sym k)
 
-oper_is : (a v : Ty) (xs us : List Ty) (y : Box Ty Global) → a ≡ Oper xs y → us ≡ xs → v ≡ y.value → mean a ≡ app (con OperHead) (app (row (map mean us)) (mean v))
-oper_is a v xs us y e k l = ap mean e ∙ mean-Oper xs y ∙ ap (λ m. app (con OperHead) (app (row (map mean m)) (mean y.value))) (sym k) ∙ ap (λ t. app (con OperHead) (app (row (map mean us)) (mean t))) (sym l)
+oper_is : (a v : Ty) (xs us : List Ty) (y : Ty) → a ≡ Oper xs y → us ≡ xs → v ≡ y → mean a ≡ app (con OperHead) (app (row (map mean us)) (mean v))
+oper_is a v xs us y e k l = ap mean e ∙ mean-Oper xs y ∙ ap (λ m. app (con OperHead) (app (row (map mean m)) (mean y))) (sym k) ∙ ap (λ t. app (con OperHead) (app (row (map mean us)) (mean t))) (sym l)
 
 pub difference-returns-in_default-clause-differ : goal.difference-returns-in_default-clause-differ
 difference-returns-in_default-clause-differ t c = differ-Bool _ _ c.in-Bool.is c.in_default.not-Bool
@@ -57,8 +55,8 @@ difference-returns-in_default-b-4-clause-differ t c = differ-Var _ _ _ c.in-Var.
 
 pub difference-returns-in-Set-b-clause-differ : goal.difference-returns-in-Set-b-clause-differ
 difference-returns-in-Set-b-clause-differ t c =
-    through_right c.difference.result (λ p. mean p.0.now) (λ p. mean p.1.now) (mean c.args.a.now) (mean c.args.b.now) (con SetHead) (mean c.deref.result.now) (mean c.deref-in-Set-b.result.now)
-    (set_is _ _ _ c.in-Set.is c.deref.ensures) (set_is _ _ _ c.in-Set-b.is c.deref-in-Set-b.ensures) c.difference.ensures.differ
+    through_right c.difference.result (λ p. mean p.0.now) (λ p. mean p.1.now) (mean c.args.a.now) (mean c.args.b.now) (con SetHead) (mean c.get.result.now) (mean c.get-in-Set-b.result.now)
+    (set_is _ _ _ c.in-Set.is c.get.ensures) (set_is _ _ _ c.in-Set-b.is c.get-in-Set-b.ensures) c.difference.ensures.differ
 
 pub difference-returns-in_default-b-5-clause-differ : goal.difference-returns-in_default-b-5-clause-differ
 difference-returns-in_default-b-5-clause-differ t c = differ-Set _ _ _ c.in-Set.is c.in_default-b-5.not-Set
@@ -77,19 +75,19 @@ difference-returns-in_default-b-9-clause-differ t c = differ-Oper _ _ _ _ c.in-O
 
 pub difference-returns-in-Seq-b-clause-differ : goal.difference-returns-in-Seq-b-clause-differ
 difference-returns-in-Seq-b-clause-differ t c =
-    through_right c.difference-in-Seq-b.result (λ p. mean p.0.now) (λ p. mean p.1.now) (mean c.args.a.now) (mean c.args.b.now) (con SeqHead) (mean c.deref-in-Seq-b.result.now) (mean c.deref-in-Seq-b-2.result.now)
-    (seq_is _ _ _ c.in-Seq.is c.deref-in-Seq-b.ensures) (seq_is _ _ _ c.in-Seq-b.is c.deref-in-Seq-b-2.ensures) c.difference-in-Seq-b.ensures.differ
+    through_right c.difference-in-Seq-b.result (λ p. mean p.0.now) (λ p. mean p.1.now) (mean c.args.a.now) (mean c.args.b.now) (con SeqHead) (mean c.get-in-Seq-b.result.now) (mean c.get-in-Seq-b-2.result.now)
+    (seq_is _ _ _ c.in-Seq.is c.get-in-Seq-b.ensures) (seq_is _ _ _ c.in-Seq-b.is c.get-in-Seq-b-2.ensures) c.difference-in-Seq-b.ensures.differ
 
 pub difference-returns-in-Some-clause-differ : goal.difference-returns-in-Some-clause-differ
 difference-returns-in-Some-clause-differ t c =
-    through_first (mean c.args.a.now) (mean c.args.b.now) (con FunHead) (mean c.deref-in-Fun-b.result.now) (mean c.deref-in-Fun-b-2.result.now) (mean c.in-Fun.z.value) (mean c.in-Fun-b.w.value) _ _
-    (fun_is _ _ _ _ _ c.in-Fun.is c.deref-in-Fun-b.ensures refl) (fun_is _ _ _ _ _ c.in-Fun-b.is c.deref-in-Fun-b-2.ensures refl) c.in-Some.ensures.differ
+    through_first (mean c.args.a.now) (mean c.args.b.now) (con FunHead) (mean c.get-in-Fun-b.result.now) (mean c.get-in-Fun-b-2.result.now) (mean c.in-Fun.z) (mean c.in-Fun-b.w) _ _
+    (fun_is _ _ _ _ _ c.in-Fun.is c.get-in-Fun-b.ensures refl) (fun_is _ _ _ _ _ c.in-Fun-b.is c.get-in-Fun-b-2.ensures refl) c.in-Some.ensures.differ
 
 pub difference-returns-in-None-clause-differ : goal.difference-returns-in-None-clause-differ
 difference-returns-in-None-clause-differ t c =
     through_second c.difference-in-None.result (λ p. mean p.0.now) (λ p. mean p.1.now) (mean c.args.a.now) (mean c.args.b.now) (con FunHead)
-    (mean c.deref-in-Fun-b.result.now) (mean c.deref-in-Fun-b-2.result.now) (mean c.deref-in-None.result.now) (mean c.deref-in-None-2.result.now)
-    (fun_is _ _ _ _ _ c.in-Fun.is c.deref-in-Fun-b.ensures c.deref-in-None.ensures) (fun_is _ _ _ _ _ c.in-Fun-b.is c.deref-in-Fun-b-2.ensures c.deref-in-None-2.ensures)
+    (mean c.get-in-Fun-b.result.now) (mean c.get-in-Fun-b-2.result.now) (mean c.get-in-None.result.now) (mean c.get-in-None-2.result.now)
+    (fun_is _ _ _ _ _ c.in-Fun.is c.get-in-Fun-b.ensures c.get-in-None.ensures) (fun_is _ _ _ _ _ c.in-Fun-b.is c.get-in-Fun-b-2.ensures c.get-in-None-2.ensures)
     c.in-None.ensures.differ c.difference-in-None.ensures.differ
 
 pub difference-returns-then-len-clause-differ : goal.difference-returns-then-len-clause-differ
@@ -103,14 +101,14 @@ difference-returns-else-len-clause-differ t c =
 
 pub difference-returns-in-Some-difference_all-clause-differ : goal.difference-returns-in-Some-difference_all-clause-differ
 difference-returns-in-Some-difference_all-clause-differ t c =
-    through_first (mean c.args.a.now) (mean c.args.b.now) (con OperHead) (row (map mean c.as_slice-then-len-2.result.now)) (row (map mean c.as_slice-then-len-2-2.result.now)) (mean c.in-Oper.z.value) (mean c.in-Oper-b.w.value) _ _
+    through_first (mean c.args.a.now) (mean c.args.b.now) (con OperHead) (row (map mean c.as_slice-then-len-2.result.now)) (row (map mean c.as_slice-then-len-2-2.result.now)) (mean c.in-Oper.z) (mean c.in-Oper-b.w) _ _
     (oper_is _ _ _ _ _ c.in-Oper.is c.as_slice-then-len-2.ensures refl) (oper_is _ _ _ _ _ c.in-Oper-b.is c.as_slice-then-len-2-2.ensures refl) c.in-Some-difference_all.ensures.differ
 
 pub difference-returns-in-None-difference_all-clause-differ : goal.difference-returns-in-None-difference_all-clause-differ
 difference-returns-in-None-difference_all-clause-differ t c =
     through_second c.difference-in-None-difference_all.result (λ p. mean p.0.now) (λ p. mean p.1.now) (mean c.args.a.now) (mean c.args.b.now) (con OperHead)
-    (row (map mean c.as_slice-then-len-2.result.now)) (row (map mean c.as_slice-then-len-2-2.result.now)) (mean c.deref-in-None-difference_all.result.now) (mean c.deref-in-None-difference_all-2.result.now)
-    (oper_is _ _ _ _ _ c.in-Oper.is c.as_slice-then-len-2.ensures c.deref-in-None-difference_all.ensures) (oper_is _ _ _ _ _ c.in-Oper-b.is c.as_slice-then-len-2-2.ensures c.deref-in-None-difference_all-2.ensures)
+    (row (map mean c.as_slice-then-len-2.result.now)) (row (map mean c.as_slice-then-len-2-2.result.now)) (mean c.get-in-None-difference_all.result.now) (mean c.get-in-None-difference_all-2.result.now)
+    (oper_is _ _ _ _ _ c.in-Oper.is c.as_slice-then-len-2.ensures c.get-in-None-difference_all.ensures) (oper_is _ _ _ _ _ c.in-Oper-b.is c.as_slice-then-len-2-2.ensures c.get-in-None-difference_all-2.ensures)
     c.in-None-difference_all.ensures.differ c.difference-in-None-difference_all.ensures.differ
 
 pub difference-returns-else-len-2-clause-differ : goal.difference-returns-else-len-2-clause-differ

@@ -33,13 +33,13 @@ loop-g-preserved c =
       | then-is_none+in_ok-name-in-Some-row_bound+in_ok-item-in-Some-row_bound+in_ok-push-in-Some-row_bound w ↦ (
         joined_take c.args.fields.items c.in-Some-row_bound.rest.now c.loop-g.fields.items c.if-is_none.fields.items c.loop-g.g-index (c.loop-g.g-index + 1) c.g-item.result
             (w.in_ok-name-in-Some-row_bound.name, w.in_ok-item-in-Some-row_bound.item) lt c.g-item.is (omega arith)
-            (ap (λ v. v.items) w.fields-is ∙ w.in_ok-push-in-Some-row_bound.ensures.items) w.in_ok-name-in-Some-row_bound.ensures w.in_ok-item-in-Some-row_bound.ensures.mean c.loop-g.invariant.0,
+            (ap (λ v. v.items) w.fields-is ∙ w.in_ok-push-in-Some-row_bound.ensures.items) w.in_ok-name-in-Some-row_bound.ensures (ap mean w.in_ok-item-in-Some-row_bound.ensures) c.loop-g.invariant.0,
         λ r h.
             let k = front_passes (λ f. names_differ f.1) c.in-Some-row_bound.rest.now c.loop-g.g-index c.g-item.result lt c.g-item.is h in
             joined_named c.loop-g.fields.items c.if-is_none.fields.items c.g-item.result (w.in_ok-name-in-Some-row_bound.name, w.in_ok-item-in-Some-row_bound.item)
             (ap (λ v. v.items) w.fields-is ∙ w.in_ok-push-in-Some-row_bound.ensures.items)
             (ap (λ l. has l c.g-item.result.0) (sym c.as_slice.ensures.value) ∙ none_is c.as_slice.result.now c.g-item.result.0 c.find.result c.find.ensures w.if-is_none.ensures)
-            w.in_ok-name-in-Some-row_bound.ensures w.in_ok-item-in-Some-row_bound.ensures.named (c.loop-g.invariant.1 r k.0) k.1,
+            w.in_ok-name-in-Some-row_bound.ensures (ap names_differ w.in_ok-item-in-Some-row_bound.ensures) (c.loop-g.invariant.1 r k.0) k.1,
       )
       | else-is_none w ↦ (
         joined_skip c.args.fields.items c.in-Some-row_bound.rest.now c.loop-g.fields.items c.if-is_none.fields.items c.loop-g.g-index (c.loop-g.g-index + 1) c.g-item.result lt c.g-item.is (omega arith)

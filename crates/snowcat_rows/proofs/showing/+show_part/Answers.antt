@@ -18,8 +18,8 @@ show_fields-loop-i-preserved t c =
 
 pub show_part-returns-in_ok-show_result-in-Fun-clause-text : goal.show_part-returns-in_ok-show_result-in-Fun-clause-text
 show_part-returns-in_ok-show_result-in-Fun-clause-text t c =
-    let a = c.in-Fun.a.value in
-    let b = c.in-Fun.b.value in
+    let a = c.in-Fun.a in
+    let b = c.in-Fun.b in
     let first : c.show_operand.new.out.items ≡ c.args.out.now.items ++ operand_text (form_of a) (type_text a) = search rules in
     let last : c.show_result.new.out.items ≡ c.append-in-Fun.new.out.items ++ result_text (form_of b) (type_text b) = search rules in
     three_written _ _ _ _ (operand_text (form_of a) (type_text a)) (codes " -> ") (result_text (form_of b) (type_text b)) _
@@ -27,7 +27,7 @@ show_part-returns-in_ok-show_result-in-Fun-clause-text t c =
 
 pub show_part-returns-in_ok-show_part-in-Oper-clause-text : goal.show_part-returns-in_ok-show_part-in-Oper-clause-text
 show_part-returns-in_ok-show_part-in-Oper-clause-text t c =
-    let b = c.in-Oper.b.value in
+    let b = c.in-Oper.b in
     let items : c.show_items.new.out.items ≡ c.append-in-Oper.new.out.items ++ items_text (map type_text c.in-Oper.ts) = search rules in
     let last : c.show_part.new.out.items ≡ c.append-in-Oper-2.new.out.items ++ type_text b = search rules in
     four_written _ _ _ _ _ (codes "(") (items_text (map type_text c.in-Oper.ts)) (codes ") => ") (type_text b) _
