@@ -1,0 +1,19 @@
+use Rattle.snowcat_rows.specs.declared.types.Ty.{Var}
+use Rattle.snowcat_rows.specs.Types.{mean}
+use Rattle.snowcat_rows.specs.Views.{issued_of}
+use Rattle.snowcat_rows.proofs.Means.{mean-Var}
+use Rattle.snowcat_rows.proofs.Naming.{differ-Var}
+use Rattle.snowcat_types.proofs.FieldMet.{field_told, var_within}
+use Rattle.snowcat_types.proofs.meeting.ask_field.Goals as goal
+
+pub unify-requires-clause-right : goal.unify-requires-clause-right
+unify-requires-clause-right c =
+    var_within (issued_of c.args.subst.now) (issued_of c.open_record.new.subst) c.args.whole c.in-Ok.ensures.issued.0 c.requires.0
+
+pub unify-requires-clause-names : goal.unify-requires-clause-names
+unify-requires-clause-names c = (c.in-Ok.ensures.names, differ-Var c.args.whole)
+
+pub returns-in-Ok-clause-met : goal.returns-in-Ok-clause-met
+returns-in-Ok-clause-met c = λ n l rs h f lr lv.
+    field_told n l rs c.args.subst.now c.args.whole c.args.field c.args.name.now h f lr lv c.open_record.new.subst c.unify.new.self
+    c.unify.result (mean c.in-Ok.part) (mean (Var c.args.whole)) c.in-Ok.ensures.issued.0 c.in-Ok.ensures.issued.1 c.in-Ok.ensures.mean (mean-Var c.args.whole) c.unify.ensures.more c.unify.ensures.ok c.unify.ensures.err

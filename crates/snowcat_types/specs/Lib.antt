@@ -1,0 +1,10 @@
+pub mod TypeForms
+pub mod Rows
+pub mod Requirements
+pub mod Waiting
+pub mod Systems
+pub mod Typings
+pub mod Annotated
+pub mod Judgement
+pub mod Answers
+pub mod inner

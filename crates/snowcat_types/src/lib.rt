@@ -1,0 +1,27 @@
+//! A type for each node and each name of a job.
+//!
+//! The rules are those of Apalache's type checker Snowcat (Apalache manual, "Type System 1.2"), with a choice
+//! and a default for each overloaded operator. Begin with `specs/Typings`.
+#![tactic(auto)]
+
+mod around;
+mod counts;
+mod deciding;
+mod faults;
+mod forms;
+mod kinds;
+mod meeting;
+mod rows;
+mod theorems;
+mod typable;
+mod updates;
+mod waiting;
+
+pub use faults::TypeFault;
+pub use kinds::Kind;
+pub use theorems::{
+    clashes_have_no_typing, typings_are_ground, typings_meet_rows,
+    unread_annotations_have_no_typing,
+};
+pub use typable::is_typable;
+pub use waiting::{Index, Wait};
