@@ -1,6 +1,6 @@
 -- What is shown of a type is read back.
-use Rattle.std.proofs.Common.{◌≡◌, ℕ, suc, true, inl, inr, List, [], ◌∷◌, ◌++◌, map, refl, ap, sym, ◌∙◌, subst, codes, Option, Some, None, append_assoc}
-use Rattle.std.specs.Prelude.{decimal, option_map, bytes_eq}
+use Rattle.std.proofs.Common.{◌≡◌, ℕ, suc, true, inl, inr, List, [], ◌∷◌, ◌++◌, map, refl, ap, sym, ◌∙◌, subst, Option, Some, None, append_assoc}
+use Rattle.std.specs.Prelude.{option_map, bytes_eq}
 use Rattle.std.proofs.lemmas.Bool.{cases_Bool}
 use Rattle.std.proofs.lemmas.List.{append-nil}
 use Rattle.snowcat_rows.specs.declared.marks.Seen.{Seen}
@@ -10,6 +10,7 @@ use Rattle.snowcat_rows.specs.declared.showing.Form.TheVariants.{Operand, Functi
 use Rattle.snowcat_rows.specs.declared.types.Ty.{Ty, out-Ty, roll-Ty, out-roll-Ty}
 use Rattle.snowcat_rows.specs.declared.types.Ty.TheOpen as layer
 use Rattle.snowcat_rows.specs.declared.types.Ty.TheFolds.{ind-Ty, map-Ty}
+use Rattle.snowcat_rows.specs.Letters.{variable_text}
 use Rattle.snowcat_rows.specs.Types.{Term, var, con, app, fields, row, lookup, mean, mean_layer, SetHead, SeqHead, FunHead, TupHead, OperHead}
 use Rattle.snowcat_rows.specs.TypeTexts.{Syntax, Syntaxes, Fields, bool, int, str, named, variable, alias, set, seq, function, tuple, record_of, constant, operator, parens, end, more, last, also, names_of, IsTypeText}
 use Rattle.snowcat_rows.specs.Texts.{type_text}
@@ -175,7 +176,7 @@ lookup_renamed N (f ∷ fs) x = elim (cases_Bool (bytes_eq f.0 x)) [ inl h ↦ r
 
 row_term : (k : Option ℕ) (ns N : List Seen) → Begins (read_row (row_name k) ns).1 N → (read_row (row_name k) ns).0 ≡ option_map (λ n. number (shown_row n) N) k
 row_term None ns N b = refl
-row_term (Some r) ns N b = ap (λ z. Some z) (number_is (shown_row r) (itself (codes "r" ++ decimal r)) ns N b)
+row_term (Some r) ns N b = ap (λ z. Some z) (number_is (shown_row r) (itself (variable_text r)) ns N b)
 
 read_left : (f : Form) (s : Syntax) (k : Known) (ns : List Seen) → read k (left_of_arrow f s) ns ≡ read k s ns
 read_left Operand s k ns = refl
@@ -217,8 +218,8 @@ terms_at layer.Int s e = terms_are int s (mean_at layer.Int) (some_is int s e) (
 terms_at layer.Str s e = terms_are str s (mean_at layer.Str) (some_is str s e) (λ k ns N b. refl)
 terms_at (layer.Named x) s e = terms_are (named x) s (mean_at (layer.Named x)) (some_is (named x) s e) (λ k ns N b. refl)
 terms_at (layer.Var n) s e =
-    terms_are (variable (codes "a" ++ decimal n)) s (mean_at (layer.Var n)) (some_is (variable (codes "a" ++ decimal n)) s e)
-    (λ k ns N b. ap (λ z. var z) (number_is (shown_type n) (itself (codes "a" ++ decimal n)) ns N b))
+    terms_are (variable (variable_text n)) s (mean_at (layer.Var n)) (some_is (variable (variable_text n)) s e)
+    (λ k ns N b. ap (λ z. var z) (number_is (shown_type n) (itself (variable_text n)) ns N b))
 terms_at (layer.Set a) s e =
     let g = got_one set (spelling a.0) s e in
     terms_are (set g.0) s (mean_at (layer.Set a)) g.2 (λ k ns N b. ap (λ z. app (con SetHead) z) (a.1.terms g.0 g.1 k ns N b))
@@ -279,7 +280,7 @@ plainly_at layer.Bool s e = plainly_are bool s (some_is bool s e) (λ k. refl)
 plainly_at layer.Int s e = plainly_are int s (some_is int s e) (λ k. refl)
 plainly_at layer.Str s e = plainly_are str s (some_is str s e) (λ k. refl)
 plainly_at (layer.Named x) s e = plainly_are (named x) s (some_is (named x) s e) (λ k. refl)
-plainly_at (layer.Var n) s e = plainly_are (variable (codes "a" ++ decimal n)) s (some_is (variable (codes "a" ++ decimal n)) s e) (λ k. refl)
+plainly_at (layer.Var n) s e = plainly_are (variable (variable_text n)) s (some_is (variable (variable_text n)) s e) (λ k. refl)
 plainly_at (layer.Set a) s e = let g = got_one set (spelling a.0) s e in plainly_are (set g.0) s g.2 (a.1.plainly g.0 g.1)
 plainly_at (layer.Seq a) s e = let g = got_one seq (spelling a.0) s e in plainly_are (seq g.0) s g.2 (a.1.plainly g.0 g.1)
 plainly_at (layer.Fun a c) s e =

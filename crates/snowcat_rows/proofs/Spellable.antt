@@ -1,9 +1,10 @@
 -- A type that can be written has a spelling that is formed and keeps fronts.
-use Rattle.std.proofs.Common.{◌≡◌, ◌<◌, ◌^◌, arith, ℕ, Bool, true, false, ◌&&◌, inl, inr, List, [], ◌∷◌, ◌++◌, map, refl, ap, sym, ◌∙◌, subst, codes, Option, Some, None, IsTrue}
-use Rattle.std.specs.Prelude.{decimal, option_map, bytes_eq, not, ◌||◌}
+use Rattle.std.proofs.Common.{◌≡◌, ◌<◌, ◌^◌, arith, ℕ, Bool, true, false, ◌&&◌, inl, inr, List, [], ◌∷◌, map, refl, ap, sym, ◌∙◌, subst, Option, Some, None, IsTrue}
+use Rattle.std.specs.Prelude.{◌+◌, ◌*◌, ◌-◌, ◌/◌, ◌%◌, ◌==◌, decimal, option_map, bytes_eq, not, ◌||◌}
 use Rattle.std.specs.List.{list_all}
 use Rattle.std.specs.Str.Parse.{AllDigits, digits_value}
 use Rattle.std.proofs.lemmas.Bool.{cases_Bool}
+use Rattle.std.proofs.Math.Nat.{div-add-mod}
 use Rattle.std.proofs.lemmas.Fmt.{digits_decimal, digits_value-decimal}
 use Rattle.std.proofs.lemmas.Str.Parse.{IsNumeralModel, numerals_by_value, tells_digits, digit_from_value}
 use Rattle.snowcat_rows.specs.declared.showing.Form.{Form}
@@ -11,11 +12,12 @@ use Rattle.snowcat_rows.specs.declared.showing.Form.TheVariants.{Operand, Functi
 use Rattle.snowcat_rows.specs.declared.types.Ty.{Ty, out-Ty, roll-Ty, out-roll-Ty}
 use Rattle.snowcat_rows.specs.declared.types.Ty.TheOpen as layer
 use Rattle.snowcat_rows.specs.declared.types.Ty.TheFolds.{ind-Ty, map-Ty}
-use Rattle.snowcat_rows.specs.LiteralTypes.{is_digit}
+use Rattle.snowcat_rows.specs.Letters.{letter, letter_count, round_text, variable_text}
+use Rattle.snowcat_rows.specs.LiteralTypes.{is_digit, is_small}
 use Rattle.snowcat_rows.specs.Types.{Term, Slot, none, some, row, lookup, mean, mean_layer}
 use Rattle.snowcat_rows.specs.Substitutions.{Present, Sorted, SortedSlot, Fronts as Sides}
 use Rattle.snowcat_rows.specs.FieldNames.{names, names_differ, differ_layer}
-use Rattle.snowcat_rows.specs.TypeTexts.{Syntax, Syntaxes, Fields, bool, int, str, named, variable, set, seq, function, tuple, record_of, constant, operator, end, more, last, also, names_of, is_among, are_distinct, is_formed, are_formed, fields_formed, is_name, is_operand, is_row, Fronts, KeepsFronts, AllKeep, FieldsKeep, RowAfter}
+use Rattle.snowcat_rows.specs.TypeTexts.{Syntax, Syntaxes, Fields, bool, int, str, named, variable, set, seq, function, tuple, record_of, constant, operator, end, more, last, also, names_of, is_among, are_distinct, is_formed, are_formed, fields_formed, is_name, is_operand, is_row, is_variable, Fronts, KeepsFronts, AllKeep, FieldsKeep, RowAfter}
 use Rattle.snowcat_rows.specs.Texts.{form_layer}
 use Rattle.snowcat_rows.specs.Spellings.{Spelt, spelt, spelling, syntax_layer, left_of_arrow, right_of_arrow, both, others, other_fields, row_name, operator_of}
 use Rattle.snowcat_rows.specs.inner.Below.{Below, BelowSlot, EndBelow}
@@ -34,17 +36,38 @@ own = numerals_by_value (AllDigits 10) tells_digits
 -- the number of a variable that is shown
 abbrev pub number_in : List ℕ → ℕ
 number_in [] = 0
-number_in (c ∷ cs) = digits_value 10 cs
+number_in (c ∷ cs) = letter_count * digits_value 10 cs + (c - 97)
 
-pub shown_number : (n : ℕ) → n < 2 ^ 32 → digits_value 10 (decimal n) ≡ n
-shown_number n h = digits_value-decimal own n (omega (arith, h))
+round_number : (k : ℕ) → k < 2 ^ 32 → digits_value 10 (round_text k) ≡ k
+round_number k h = elim (cases_Bool (k == 0)) [
+  | inl e ↦ let z : k ≡ 0 = grind (arith, e) in rw e (sym z)
+  | inr e ↦ rw e (digits_value-decimal own k (omega (arith, h)))
+]
+
+pub shown_number : (n : ℕ) → n < 2 ^ 32 → number_in (variable_text n) ≡ n
+unfolding variable_text
+shown_number n h =
+    let small : n / letter_count < 2 ^ 32 = omega (arith, h) in
+    let letter_is : letter (n % letter_count) - 97 ≡ n % letter_count = omega arith in
+    ap (λ z. letter_count * z + (letter (n % letter_count) - 97)) (round_number (n / letter_count) small)
+    ∙ ap (λ z. letter_count * (n / letter_count) + z) letter_is ∙ div-add-mod n letter_count
 
 digits_only : (ds : List ℕ) → AllDigits 10 ds → list_all is_digit ds ≡ true
 digits_only [] h = refl
 digits_only (d ∷ ds) h = let k = digit_from_value d h.0 in let e : is_digit d ≡ true = grind (arith, k.0, k.1) in rw e (digits_only ds h.1)
 
-decimal_only : (n : ℕ) → n < 2 ^ 32 → IsTrue (list_all is_digit (decimal n))
-decimal_only n h = to_yes _ (digits_only (decimal n) (digits_decimal own n (omega (arith, h))))
+round_digits : (k : ℕ) → k < 2 ^ 32 → list_all is_digit (round_text k) ≡ true
+round_digits k h = elim (cases_Bool (k == 0)) [
+  | inl e ↦ rw e refl
+  | inr e ↦ rw e (digits_only (decimal k) (digits_decimal own k (omega (arith, h))))
+]
+
+letter_small : (n : ℕ) → is_small (letter (n % letter_count)) ≡ true
+letter_small n = grind arith
+
+variable_formed : (n : ℕ) → n < 2 ^ 32 → IsTrue (is_variable (variable_text n))
+unfolding variable_text
+variable_formed n h = to_yes _ (rw (letter_small n) (round_digits (n / letter_count) (omega (arith, h))))
 
 abbrev by_names : Sides → Fronts
 by_names l x n = l (number_in x) n
@@ -260,7 +283,7 @@ row_kept l fs xs (Some r) e b h = λ n.
 
 row_formed : (k : Option ℕ) → ((r : ℕ) → k ≡ Some r → r < 2 ^ 32) → IsTrue (is_row (row_name k))
 row_formed None b = refl
-row_formed (Some r) b = decimal_only r (b r refl)
+row_formed (Some r) b = variable_formed r (b r refl)
 
 end_small : (k : Option ℕ) → EndBelow (2 ^ 32) k → (r : ℕ) → k ≡ Some r → r < 2 ^ 32
 end_small None h r e = absurd (cc)
@@ -308,7 +331,7 @@ operand_at layer.Bool s e = operand_is bool s (some_is bool s e) refl
 operand_at layer.Int s e = operand_is int s (some_is int s e) refl
 operand_at layer.Str s e = operand_is str s (some_is str s e) refl
 operand_at (layer.Named x) s e = operand_is (named x) s (some_is (named x) s e) refl
-operand_at (layer.Var n) s e = let v = variable (codes "a" ++ decimal n) in operand_is v s (some_is v s e) refl
+operand_at (layer.Var n) s e = let v = variable (variable_text n) in operand_is v s (some_is v s e) refl
 operand_at (layer.Set a) s e = let g = got_one set (spelling a.0) s e in operand_is (set g.0) s g.2 refl
 operand_at (layer.Seq a) s e = let g = got_one seq (spelling a.0) s e in operand_is (seq g.0) s g.2 refl
 operand_at (layer.Fun a c) s e = refl
@@ -327,7 +350,7 @@ spells_at layer.Bool h b d = record { syntax_of = bool; is = refl; formed = refl
 spells_at layer.Int h b d = record { syntax_of = int; is = refl; formed = refl; keeps = λ l k. tt }
 spells_at layer.Str h b d = record { syntax_of = str; is = refl; formed = refl; keeps = λ l k. tt }
 spells_at (layer.Named x) h b d = record { syntax_of = named x; is = refl; formed = h; keeps = λ l k. tt }
-spells_at (layer.Var n) h b d = record { syntax_of = variable (codes "a" ++ decimal n); is = refl; formed = decimal_only n b; keeps = λ l k. tt }
+spells_at (layer.Var n) h b d = record { syntax_of = variable (variable_text n); is = refl; formed = variable_formed n b; keeps = λ l k. tt }
 spells_at (layer.Set a) h b d =
     let r = a.1.spells h b.1 d in
     record { syntax_of = set r.syntax_of; is = ap (λ z. option_map set z) r.is; formed = r.formed; keeps = λ l k. r.keeps l k.1 }

@@ -1,7 +1,8 @@
 -- The text of a type is the layout of its spelling.
 use Rattle.std.proofs.Common.{◌≡◌, ℕ, suc, List, [], ◌∷◌, ◌++◌, map, flat_map, length, refl, ap, sym, ◌∙◌, subst, codes, Option, Some, None, append_assoc, IsTrue, inl, inr, arith}
 use Rattle.std.proofs.lemmas.Bool.Decides.{eqb_tells}
-use Rattle.std.specs.Prelude.{decimal, option_map}
+use Rattle.std.specs.Prelude.{option_map}
+use Rattle.snowcat_rows.specs.Letters.{variable_text}
 use Rattle.snowcat_rows.specs.declared.showing.Form.{Form}
 use Rattle.snowcat_rows.specs.declared.showing.Form.TheVariants.{Operand, Function, Operator}
 use Rattle.snowcat_rows.specs.declared.types.Ty.{Ty, out-Ty, roll-Ty, out-roll-Ty}
@@ -157,7 +158,7 @@ texts_at layer.Bool s e = ap layout (some_is bool s e)
 texts_at layer.Int s e = ap layout (some_is int s e)
 texts_at layer.Str s e = ap layout (some_is str s e)
 texts_at (layer.Named x) s e = ap layout (some_is (named x) s e)
-texts_at (layer.Var n) s e = ap layout (some_is (variable (codes "a" ++ decimal n)) s e)
+texts_at (layer.Var n) s e = ap layout (some_is (variable (variable_text n)) s e)
 texts_at (layer.Set a) s e =
     let g = got_one set (spelling a.0) s e in
     ap (λ x. codes "Set(" ++ x ++ codes ")") (a.1.texts g.0 g.1) ∙ ap layout g.2

@@ -1,7 +1,8 @@
 -- The text of each form of type.
 use Rattle.std.proofs.Common.{◌≡◌, ℕ, List, [], ◌∷◌, ◌++◌, map, length, Option, refl, ap, sym, append_assoc, ◌∙◌, codes}
-use Rattle.std.specs.Prelude.{decimal}
 use Rattle.std.proofs.lemmas.List.{length-map}
+use Rattle.std.specs.Prelude.{◌/◌, ◌%◌}
+use Rattle.snowcat_rows.specs.Letters.{letter, letter_count, round_text, variable_text}
 use Rattle.snowcat_rows.specs.Texts.{Shown, shown, text_layer, form_layer, text_field, typed_field, type_text, form_of, operand_text, result_text, items_text, fields_text, tail_text}
 use Rattle.snowcat_rows.specs.declared.showing.Form.TheVariants as form
 use Rattle.snowcat_rows.specs.declared.types.Ty.{Ty, out-Ty, Bool, Int, Str, Named, Var, Set, Seq, Fun, Tup, Rec, Oper}
@@ -45,7 +46,7 @@ text-Str = text_is Str _ outs-Str
 pub text-Named : (x : List ℕ) → type_text (Named x) ≡ x
 text-Named x = text_is (Named x) _ (outs-Named x)
 
-pub text-Var : (n : ℕ) → type_text (Var n) ≡ codes "a" ++ decimal n
+pub text-Var : (n : ℕ) → type_text (Var n) ≡ variable_text n
 text-Var n = text_is (Var n) _ (outs-Var n)
 
 pub text-Set : (a : Ty) → type_text (Set a) ≡ codes "Set(" ++ type_text a ++ codes ")"
@@ -113,3 +114,8 @@ three_written o p q r a b c w e f g h =
 pub four_written : (o p q r s a b c d w : List ℕ) → p ≡ o ++ a → q ≡ p ++ b → r ≡ q ++ c → s ≡ r ++ d → w ≡ a ++ b ++ c ++ d → s ≡ o ++ w
 four_written o p q r s a b c d w e f g i h =
     i ∙ ap (λ l. l ++ d) (three_written o p q r a b c (a ++ b ++ c) e f g refl) ∙ append_assoc o (a ++ b ++ c) d ∙ ap (λ l. o ++ l) (sym h)
+
+pub variable_written : (o p q : List ℕ) (n : ℕ) → p ≡ o ++ letter (n % letter_count) ∷ [] → q ≡ p ++ round_text (n / letter_count) → q ≡ o ++ variable_text n
+unfolding variable_text
+variable_written o p q n e f =
+    f ∙ ap (λ l. l ++ round_text (n / letter_count)) e ∙ append_assoc o (letter (n % letter_count) ∷ []) (round_text (n / letter_count))

@@ -3,7 +3,9 @@ pub mod Closing
 pub mod Codes
 pub mod FieldNames
 pub mod FirstDifferences
+pub mod Letters
 pub mod LiteralTypes
+pub mod Numbered
 pub mod Operators
 pub mod Readings
 pub mod Renamings

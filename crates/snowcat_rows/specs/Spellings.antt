@@ -1,6 +1,7 @@
--- How a type is written when it is shown: its variables are a0, a1, .. and r0, r1, ..; a tuple or record without parts has
+-- How a type is written when it is shown: its variables are a to z, a1 to z1 and so on; a tuple or record without parts has
 -- no text.
-use Rattle.std.specs.Prelude.{ℕ, List, [], ◌∷◌, ◌++◌, Option, Some, None, option_map, codes, decimal}
+use Rattle.std.specs.Prelude.{ℕ, List, [], ◌∷◌, Option, Some, None, option_map}
+use Rattle.snowcat_rows.specs.Letters.{variable_text}
 use Rattle.snowcat_rows.specs.declared.showing.Form.{Form}
 use Rattle.snowcat_rows.specs.declared.showing.Form.TheVariants.{Operand, Function, Operator}
 use Rattle.snowcat_rows.specs.declared.types.Ty.{Ty}
@@ -38,7 +39,7 @@ other_fields (f ∷ fs) = both (also f.0) f.1.syntax_of (other_fields fs)
 
 abbrev pub row_name : Option ℕ → Option (List ℕ)
 row_name None = None
-row_name (Some r) = Some (codes "r" ++ decimal r)
+row_name (Some r) = Some (variable_text r)
 
 abbrev pub tuple_syntax : List Spelt → Option Syntax
 tuple_syntax [] = None
@@ -61,7 +62,7 @@ syntax_layer layer.Bool = Some bool
 syntax_layer layer.Int = Some int
 syntax_layer layer.Str = Some str
 syntax_layer (layer.Named x) = Some (named x)
-syntax_layer (layer.Var n) = Some (variable (codes "a" ++ decimal n))
+syntax_layer (layer.Var n) = Some (variable (variable_text n))
 syntax_layer (layer.Set a) = option_map set a.syntax_of
 syntax_layer (layer.Seq a) = option_map seq a.syntax_of
 syntax_layer (layer.Fun a b) =

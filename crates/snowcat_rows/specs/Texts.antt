@@ -1,6 +1,7 @@
 -- The text of a type. Source: the Apalache manual, "Type System 1.2".
-use Rattle.std.specs.Prelude.{ℕ, ◌==◌, List, [], ◌++◌, map, length, Option, Some, None, if◌then◌else◌, codes, decimal}
+use Rattle.std.specs.Prelude.{ℕ, ◌==◌, List, [], ◌++◌, map, length, Option, Some, None, if◌then◌else◌, codes}
 use Rattle.std.specs.List.{join_by}
+use Rattle.snowcat_rows.specs.Letters.{variable_text}
 use Rattle.snowcat_rows.specs.declared.showing.Form.{Form}
 use Rattle.snowcat_rows.specs.declared.showing.Form.TheVariants.{Operand, Function, Operator}
 use Rattle.snowcat_rows.specs.declared.types.Ty.{Ty}
@@ -39,7 +40,7 @@ fields_text fs = join_by field_text (codes ", ") fs
 -- the row variable behind so many fields
 abbrev pub tail_text : ℕ → Option ℕ → List ℕ
 tail_text n None = []
-tail_text n (Some r) = (if n == 0 then [] else codes ", ") ++ (codes "r" ++ decimal r)
+tail_text n (Some r) = (if n == 0 then [] else codes ", ") ++ variable_text r
 
 abbrev pub text_field : List ℕ × Shown → List ℕ × List ℕ
 text_field f = (f.0, f.1.text)
@@ -49,7 +50,7 @@ text_layer layer.Bool = codes "Bool"
 text_layer layer.Int = codes "Int"
 text_layer layer.Str = codes "Str"
 text_layer (layer.Named x) = x
-text_layer (layer.Var n) = codes "a" ++ decimal n
+text_layer (layer.Var n) = variable_text n
 text_layer (layer.Set a) = codes "Set(" ++ a.text ++ codes ")"
 text_layer (layer.Seq a) = codes "Seq(" ++ a.text ++ codes ")"
 text_layer (layer.Fun a b) = operand_text a.form a.text ++ codes " -> " ++ result_text b.form b.text

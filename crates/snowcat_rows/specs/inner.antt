@@ -15,3 +15,4 @@ pub mod Stores
 pub mod Naming
 pub mod Fronted
 pub mod Shown
+pub mod Meeting

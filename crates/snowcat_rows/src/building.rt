@@ -96,10 +96,10 @@ fn as_number(n: usize) -> Result<u32, AllocError>
     }
 }
 
-// The type with numbers that are greater by so many.
+/// The type with the numbers of its variables, of either kind, greater by so many.
 #[tactic(auto, using(crate::proofs::Means::means, crate::proofs::Naming::differs))]
 #[cycle(moved)]
-fn copy_moved(alloc: Global, t: &Ty, by: u32) -> Result<Ty, AllocError>
+pub fn copy_moved(alloc: Global, t: &Ty, by: u32) -> Result<Ty, AllocError>
     ensures mean { IfOk result (λ r. mean r ≡ moved by (mean t.now)) }
     ensures named { IfOk result (λ r. names_differ r ≡ names_differ t.now) }
 {

@@ -5,9 +5,10 @@
 //! that is, end in a variable which stands for a row of further fields. Field names of one record
 //! differ, and their order tells nothing.
 //!
-//! `substitution` (over `bindings`, `replacement`, `places`, `differences`, `occurrences`, `records`), `showing` and
-//! `reading` stand beside each other over `types`. A text is read in two steps: `scanning` (over `reader`, `pieces`)
-//! leaves the marks of what it read (`marks`), each construct behind its parts, and `building` makes the type of them.
+//! `substitution` (over `bindings`, `replacement`, `places`, `differences`, `occurrences`, `records`), `showing` with
+//! `renumbering`, and `reading` stand beside each other over `types`. A text is read in two steps: `scanning` (over
+//! `reader`, `pieces`) leaves the marks of what it read (`marks`), each construct behind its parts, and `building` makes
+//! the type of them.
 #![tactic(auto)]
 
 mod bindings;
@@ -25,12 +26,14 @@ mod places;
 mod reader;
 mod reading;
 mod records;
+mod renumbering;
 mod replacement;
 mod scanning;
 mod showing;
 mod substitution;
 mod types;
 
+pub use building::copy_moved;
 pub use closing::closed;
 pub use faults::TypeTextFault;
 pub use literals::literal_type;
@@ -38,6 +41,7 @@ pub use occurrences::is_within;
 pub use operators::has_no_operator;
 pub use reading::{Aliases, read_type, types_are_read_in_one_way};
 pub use records::has_distinct_names;
+pub use renumbering::{renumbered, renumbered_types_are_the_same};
 pub use showing::{
     said_types_are_spellable, show_type, shown_types_are_read_back, shown_types_are_spelled,
 };

@@ -1,6 +1,7 @@
 // The text of a type.
-ghost use Rattle.std.specs.Prelude.{ℕ, List as Items, [], ◌<◌, ◌==◌, ◌≡◌, ◌++◌, OnOk, codes, decimal, if◌then◌else◌, length, map};
+ghost use Rattle.std.specs.Prelude.{ℕ, List as Items, [], ◌∷◌, ◌<◌, ◌==◌, ◌%◌, ◌≡◌, ◌++◌, OnOk, codes, if◌then◌else◌, length, map};
 ghost use Rattle.std.specs.List.{join_by};
+ghost use Rattle.snowcat_rows.specs.Letters.{letter, letter_count, round_text, variable_text};
 ghost use Rattle.snowcat_rows.specs.Texts.{fields_text, form_of, items_text, operand_text, result_text, tail_text, type_text, typed_field};
 ghost use Rattle.snowcat_rows.specs.declared.types.Ty.{Ty as AnyType};
 ghost use Rattle.snowcat_rows.specs.Readings.{IsReadAs, number};
@@ -15,6 +16,9 @@ use itoa::Buffer;
 use std::alloc::{AllocError, Global};
 use tla_values::Text;
 
+// The letters that variables are shown by.
+const LETTER_COUNT: u32 = 26;
+
 // What decides where a type's text stands in parentheses.
 #[derive(Clone, Copy, Drop)]
 pub(crate) enum Form {
@@ -23,10 +27,11 @@ pub(crate) enum Form {
     Operator,
 }
 
-/// Adds the text of a type: `Set(Int)`, `Int -> Str -> Bool`, `<<Int, Str>>`, `{f: Int, r0}`, `(Int, a1) => Bool`.
+/// Adds the text of a type: `Set(Int)`, `Int -> Str -> Bool`, `<<Int, Str>>`, `{f: Int, b}`, `(Int, a) => Bool`.
 ///
-/// The type variable with number n is `a` and n, a row variable `r` and n. A function stands in parentheses to the left
-/// of `->`, an operator on both sides. After a refusal `out` begins with its old bytes.
+/// A variable's text is the letter of its number, `a` to `z`, and behind `z` the letters again with their round: `a1` to
+/// `z1`, `a2` and so on; a row variable's too, so that two types that are shown together are numbered first
+/// ([`renumbered`](crate::renumbered)). A function stands in parentheses to the left of `->`, an operator on both sides. After a refusal `out` begins with its old bytes.
 /// Source: the Apalache manual, "Type System 1.2".
 pub fn show_type(_alloc: Global, t: &Ty, out: &mut Vec<u8>) -> Result<(), AllocError>
     ensures text { OnOk result (out.new.items ≡ out.old.items ++ type_text t.now) }
@@ -46,7 +51,7 @@ fn show_part(t: &Ty, out: &mut Vec<u8>) -> Result<(), AllocError>
         Ty::Int => append(b"Int", out),
         Ty::Str => append(b"Str", out),
         Ty::Named(name) => append(name.bytes(), out),
-        Ty::Var(v) => show_variable(b"a", *v, out),
+        Ty::Var(v) => show_variable(*v, out),
         Ty::Set(a) => show_between(b"Set(", a.get(), out),
         Ty::Seq(a) => show_between(b"Seq(", a.get(), out),
         Ty::Fun(a, b) => {
@@ -205,16 +210,37 @@ fn show_tail(count: usize, tail: Option<u32>, out: &mut Vec<u8>) -> Result<(), A
         None => Ok(()),
         Some(r) => {
             separate(count, out)?;
-            show_variable(b"r", r, out)
+            show_variable(r, out)
         }
     }
 }
 
-fn show_variable(letter: &[u8], n: u32, out: &mut Vec<u8>) -> Result<(), AllocError>
-    ensures text { OnOk result (out.new.items ≡ out.old.items ++ (letter.now ++ decimal n)) }
+#[tactic(auto, using(crate::proofs::TextForms::variable_written))]
+fn show_variable(n: u32, out: &mut Vec<u8>) -> Result<(), AllocError>
+    ensures text { OnOk result (out.new.items ≡ out.old.items ++ variable_text n) }
     ensures begins { Begins out.old.items out.new.items }
 {
-    append(letter, out)?;
+    show_letter(n, out)?;
+    show_round(n / LETTER_COUNT, out)?;
+    Ok(())
+}
+
+fn show_letter(n: u32, out: &mut Vec<u8>) -> Result<(), AllocError>
+    ensures text { OnOk result (out.new.items ≡ out.old.items ++ letter (n % letter_count) ∷ []) }
+    ensures begins { Begins out.old.items out.new.items }
+{
+    out.push(b'a' + (n % LETTER_COUNT) as u8)?;
+    Ok(())
+}
+
+// How often the letters were gone through, where they were.
+fn show_round(n: u32, out: &mut Vec<u8>) -> Result<(), AllocError>
+    ensures text { OnOk result (out.new.items ≡ out.old.items ++ round_text n) }
+    ensures begins { Begins out.old.items out.new.items }
+{
+    if n == 0 {
+        return Ok(());
+    }
     let mut buffer = Buffer::new();
     append(buffer.format(n).as_bytes(), out)
 }

@@ -106,7 +106,7 @@ fn a_text_with_aliases_is_shown_and_read_again(rt: HostRuntime) -> Result<(), Fa
     let text = "<<b, $pair, {f: b, r}, $open>>";
     let answer = read_again(rt.alloc(), text.as_bytes(), &aliases);
     let out = show_answer(rt.alloc(), &answer)?;
-    let want = "<<a0, <<a1, a2>>, {f: a0, r3}, {f: a4, r5}>>";
+    let want = "<<a, <<b, c>>, {f: a, d}, {f: e, f}>>";
     assert!(rt; out.as_slice() == want.as_bytes());
     Ok(())
 }
