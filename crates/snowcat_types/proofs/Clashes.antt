@@ -24,7 +24,7 @@ use Rattle.snowcat_types.proofs.Waits.{distinct_waits}
 
 -- ---- what was visited and chosen is reached, but for the order of what is asked
 
-decide_by : (A done : List Requirement) (W earlier later ds : List Wait) (w : Wait) (k : Kind) → Going A W done (earlier ++ w ∷ later) ds →
+pub decide_by : (A done : List Requirement) (W earlier later ds : List Wait) (w : Wait) (k : Kind) → Going A W done (earlier ++ w ∷ later) ds →
     Decides done w k → Going A W (done ++ choice w k) (earlier ++ later) ds
 decide_by A done W earlier later ds w k g d = record {
   rs = g.rs ++ choice w k;
@@ -33,7 +33,7 @@ decide_by A done W earlier later ds w k g d = record {
   from_done = both_more done g.rs (choice w k) g.from_done;
 }
 
-default_by : (A done : List Requirement) (W earlier later ds : List Wait) (w : Wait) → Going A W done (earlier ++ w ∷ later) ds →
+pub default_by : (A done : List Requirement) (W earlier later ds : List Wait) (w : Wait) → Going A W done (earlier ++ w ∷ later) ds →
     Each (DecidesNothing done) (earlier ++ w ∷ later) → IsFirst earlier w later →
     Going A W (done ++ choice w (default_kind w)) (earlier ++ later) (ds ++ w ∷ [])
 default_by A done W earlier later ds w g n i = record {
@@ -43,7 +43,7 @@ default_by A done W earlier later ds w g n i = record {
   from_done = both_more done g.rs (choice w (default_kind w)) g.from_done;
 }
 
-going_on : (A d : List Requirement) (W us : List Wait) → Going A W d us [] → (rs : List Requirement) (ws ds : List Wait) → Reached d us rs ws ds → Going A W rs ws ds
+pub going_on : (A d : List Requirement) (W us : List Wait) → Going A W d us [] → (rs : List Requirement) (ws ds : List Wait) → Reached d us rs ws ds → Going A W rs ws ds
 going_on A d W us g rs ws ds at_start = g
 going_on A d W us g rs ws ds (decided qs e l es w k r h) = decide_by A qs W e l es w k (going_on A d W us g qs (e ++ w ∷ l) es r) h
 going_on A d W us g rs ws ds (by_default qs e l es w r n i) = default_by A qs W e l es w (going_on A d W us g qs (e ++ w ∷ l) es r) n i
@@ -60,7 +60,7 @@ entry_more ds done es ws e g =
     subst P (sym (asked_more ds es (e ∷ [])))
     (subst Q (sym (waited-append es (e ∷ []))) (visit_step (ds ++ asked es) (asked (e ∷ [])) done (waited es) (waited (e ∷ [])) ws g))
 
-going_visited : (ds : List Requirement) (es : List Entry) (done : List Requirement) (ws : List Wait) → Visited ds es done ws →
+pub going_visited : (ds : List Requirement) (es : List Entry) (done : List Requirement) (ws : List Wait) → Visited ds es done ws →
     Going (ds ++ asked es) (waited es) done ws []
 going_visited ds es done ws nothing_yet =
     let P : List Requirement → Type 0 = λ z. Going z [] ds [] [] in

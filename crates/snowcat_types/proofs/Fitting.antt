@@ -294,14 +294,16 @@ lookup_no_operator (f ∷ fs) h x = chosen_no_operator (bytes_eq f.0 x) f.1 (loo
 
 keeps_no_operator : KeepsForms HasNoOperator
 keeps_no_operator = record {
-  truth = tt;
-  number = tt;
-  text = tt;
-  named = λ x. tt;
-  set = λ t h. (tt, h);
-  seq = λ t h. (tt, h);
-  fun = λ t u h k. (tt, (h, k));
-  tuple = λ ts h. (tt, row_no_operator ts h);
+  plain = record {
+    truth = tt;
+    number = tt;
+    text = tt;
+    named = λ x. tt;
+    set = λ t h. (tt, h);
+    seq = λ t h. (tt, h);
+    fun = λ t u h k. (tt, (h, k));
+    tuple = λ ts h. (tt, row_no_operator ts h);
+  };
   of_record = λ fs h. (lookup_no_operator fs h, tt);
 }
 

@@ -31,7 +31,7 @@ next_unknown first start i ts us t e h k =
 
 -- ---- names with their types
 
-scope_append : (xs ys : List (List ℕ × Ty)) → scope_of (xs ++ ys) ≡ scope_of xs ++ scope_of ys
+pub scope_append : (xs ys : List (List ℕ × Ty)) → scope_of (xs ++ ys) ≡ scope_of xs ++ scope_of ys
 scope_append [] ys = refl
 scope_append (x ∷ xs) ys = ap (λ z. (x.0, mean x.1) ∷ z) (scope_append xs ys)
 
@@ -86,6 +86,14 @@ operands_append (o ∷ os) qs = ap (λ z. operand_of o ∷ z) (operands_append o
 pub more_operands : (os qs ps : List BuiltOperand) (xs ys : List Operand) → ps ≡ os ++ qs → map operand_of os ≡ xs → map operand_of qs ≡ ys → map operand_of ps ≡ xs ++ ys
 more_operands os qs ps xs ys e h k = ap (map operand_of) e ∙ operands_append os qs ∙ (λ i. h i ++ k i)
 
+plains_more : (ts : List Ty) (t : Ty) → map plain (means (ts ++ t ∷ [])) ≡ map plain (means ts) ++ plain (mean t) ∷ []
+plains_more [] t = refl
+plains_more (x ∷ ts) t = ap (λ z. plain (mean x) ∷ z) (plains_more ts t)
+
+pub plain_more : (os ps : List BuiltOperand) (o : BuiltOperand) (ts : List Ty) (t : Ty) → ps ≡ os ++ o ∷ [] → map operand_of os ≡ map plain (means ts) →
+    operand_of o ≡ plain (mean t) → map operand_of ps ≡ map plain (means (ts ++ t ∷ []))
+plain_more os ps o ts t e h k = ap (map operand_of) e ∙ operands_append os (o ∷ []) ∙ (λ i. h i ++ k i ∷ []) ∙ sym (plains_more ts t)
+
 -- what is left of the updates
 pub next_update : (names : List (List ℕ)) (a : ℕ → Term) (counts : List ℕ) (at i n j : ℕ) (done more : List Operand) → at < length counts → n ≡ get_or counts at n →
     j ≡ i + n → more ≡ done ++ update_of names a i n →
@@ -118,19 +126,13 @@ zip_enough (x ∷ xs) [] (suc i) le = refl
 zip_enough (x ∷ xs) (t ∷ ts) zero le = absurd (omega (arith, le))
 zip_enough (x ∷ xs) (t ∷ ts) (suc i) le = ap (λ z. (x, mean t) ∷ z) (zip_enough xs ts i (omega (arith, le)))
 
-zip_more : (xs : List (List ℕ)) (ts : List Ty) (i : ℕ) (x d : List ℕ) (t e : Ty) → i < length xs → i < length ts → x ≡ get_or xs i d → t ≡ get_or ts i e →
+pub zip_more : (xs : List (List ℕ)) (ts : List Ty) (i : ℕ) (x d : List ℕ) (t e : Ty) → i < length xs → i < length ts → x ≡ get_or xs i d → t ≡ get_or ts i e →
     zip (take (suc i) xs) (means ts) ≡ zip (take i xs) (means ts) ++ (x, mean t) ∷ []
 zip_more [] ts i x d t e l k p q = absurd (omega (arith, l))
 zip_more (y ∷ xs) [] i x d t e l k p q = absurd (omega (arith, k))
 zip_more (y ∷ xs) (u ∷ ts) zero x d t e l k p q = λ i. (sym p i, mean (sym q i)) ∷ []
 zip_more (y ∷ xs) (u ∷ ts) (suc i) x d t e l k p q =
     ap (λ z. (y, mean u) ∷ z) (zip_more xs ts i x d t e (omega (arith, l)) (omega (arith, k)) p q)
-
-pub next_zip : (xs : List (List ℕ)) (ts : List Ty) (i : ℕ) (x d : List ℕ) (t e : Ty) (fs gs : List (List ℕ × Ty)) → i < length xs → i < length ts →
-    x ≡ get_or xs i d → t ≡ get_or ts i e → gs ≡ fs ++ (x, t) ∷ [] → scope_of fs ≡ zip (take i xs) (means ts) → scope_of gs ≡ zip (take (i + 1) xs) (means ts)
-next_zip xs ts i x d t e fs gs l k p q g h =
-    let up : suc i ≡ i + 1 = omega arith in
-    scope_more fs gs x t g ∙ ap (λ z. z ++ (x, mean t) ∷ []) h ∙ sym (zip_more xs ts i x d t e l k p q) ∙ ap (λ z. zip (take z xs) (means ts)) up
 
 pub next_branch : (t : Term) (ts us : List Term) (left m : ℕ) → left ≡ m + 2 → us ≡ ts ++ bool_type ∷ t ∷ [] → us ++ branches t m ≡ ts ++ branches t left
 next_branch t ts us left m e h =

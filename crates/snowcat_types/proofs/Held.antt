@@ -100,17 +100,17 @@ record_formed : RecordKind ≡ NotFormed → ⊥
 record_formed e = cc
 
 pub choice_has : (P : Term → Type 0) → KeepsForms P → (w : Wait) (q : Kind) → WaitHas P w → AllRequired P (choice w q)
-choice_has P k (wait.Apply p f i t x) Function h = ((h.0, k.fun (var i) (var t) h.1.0 h.1.1), tt)
-choice_has P k (wait.Apply p f i t x) Sequence h = ((h.0, k.seq (var t) h.1.1), ((k.number, h.1.0), tt))
+choice_has P k (wait.Apply p f i t x) Function h = ((h.0, k.plain.fun (var i) (var t) h.1.0 h.1.1), tt)
+choice_has P k (wait.Apply p f i t x) Sequence h = ((h.0, k.plain.seq (var t) h.1.1), ((k.plain.number, h.1.0), tt))
 choice_has P k (wait.Apply p f i t (Number (pos n))) TupleKind h = ((h.0, h.1.1), tt)
 choice_has P k (wait.Apply p f i t (Word x)) RecordKind h = ((h.0, h.1.1), tt)
 choice_has P k (wait.Domain p f t x y) Function h =
-    ((h.0, k.fun (var x) (var y) h.1.1.0 h.1.1.1), ((k.set (var x) h.1.1.0, h.1.0), tt))
-choice_has P k (wait.Domain p f t x y) Sequence h = ((h.0, sequence_formed), ((k.set int_type k.number, h.1.0), tt))
-choice_has P k (wait.Domain p f t x y) TupleKind h = ((h.0, tuple_formed), ((k.set int_type k.number, h.1.0), tt))
-choice_has P k (wait.Domain p f t x y) RecordKind h = ((h.0, record_formed), ((k.set str_type k.text, h.1.0), tt))
-choice_has P k (wait.Tuple p t x i n) TupleKind h = ((h.0, k.tuple (items_from i n) h.1.1), tt)
-choice_has P k (wait.Tuple p t x i n) Sequence h = ((h.0, k.seq (var x) h.1.0), equals_have P (var x) (items_from i n) h.1.0 h.1.1)
+    ((h.0, k.plain.fun (var x) (var y) h.1.1.0 h.1.1.1), ((k.plain.set (var x) h.1.1.0, h.1.0), tt))
+choice_has P k (wait.Domain p f t x y) Sequence h = ((h.0, sequence_formed), ((k.plain.set int_type k.plain.number, h.1.0), tt))
+choice_has P k (wait.Domain p f t x y) TupleKind h = ((h.0, tuple_formed), ((k.plain.set int_type k.plain.number, h.1.0), tt))
+choice_has P k (wait.Domain p f t x y) RecordKind h = ((h.0, record_formed), ((k.plain.set str_type k.plain.text, h.1.0), tt))
+choice_has P k (wait.Tuple p t x i n) TupleKind h = ((h.0, k.plain.tuple (items_from i n) h.1.1), tt)
+choice_has P k (wait.Tuple p t x i n) Sequence h = ((h.0, k.plain.seq (var x) h.1.0), equals_have P (var x) (items_from i n) h.1.0 h.1.1)
 choice_has P k w q h = (tt, tt)
 
 -- ---- around a node
@@ -145,7 +145,7 @@ module _ (P : Term → Type 0) (k : KeepsForms P) where
       last_or (find_last x ys) (if same_text x y.0 then Some y.1 else None) (found_has x ys h.1) (entry_found (same_text x y.0) y.1 h.0)
 
   or_has : (o : Option Term) → IfFound o → P (or_type o bool_type)
-  or_has None h = k.truth
+  or_has None h = k.plain.truth
   or_has (Some t) h = h
 
   abbrev Has : TypeRow → Type 0

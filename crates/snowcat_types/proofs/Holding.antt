@@ -1,12 +1,13 @@
 -- A property of types that the forms of the table keep: where the types that a row speaks of have it, so has all that the row
 -- says.
-use Rattle.std.proofs.Common.{ℕ, zero, suc, ◌+◌, ◌<◌, Bool, true, false, ◌&&◌, if◌then◌else◌, List, [], ◌∷◌, ◌++◌, map, length, arith, Option, Some, None}
+use Rattle.std.proofs.Common.{◌≡◌, refl, ℕ, zero, suc, ◌+◌, ◌<◌, Bool, true, false, ◌&&◌, if◌then◌else◌, List, [], ◌∷◌, ◌++◌, map, length, arith, Option, Some, None}
 use Rattle.std.specs.Prelude.{zip, replicate}
 use Rattle.tla_meaning.specs.declared.op.Op.{Op}
 use Rattle.tla_meaning.specs.declared.op.Op.TheVariants as op
 use Rattle.snowcat_rows.specs.Types.{Term, con, NamedHead, StrHead}
 use Rattle.snowcat_rows.specs.LiteralTypes.{literal_type, type_of_parts, last_of, is_word, is_type_name}
 use Rattle.snowcat_types.specs.TypeForms.{bool_type, int_type, str_type, set_type, seq_type, fun_type, tuple_type, record_type}
+use Rattle.snowcat_types.specs.inner.Named.{has_fields}
 use Rattle.snowcat_types.specs.Rows.{Scope, Operand, Signature, TypeRow, plain, gives, from_type, sets_of, argument_type, typed_names, over, first_type, branches, index_types, reached_after, update_operands, sum, tuple_row, sequence_row, record_row, function_row, binder_row, set_row, number_row, equality_row, type_row}
 
 -- of each of some types, and of those of some names
@@ -18,8 +19,8 @@ abbrev pub AllNamed : (Term → Type 0) → Scope → Type 0
 AllNamed P [] = Unit {0}
 AllNamed P (x ∷ xs) = P x.1 × AllNamed P xs
 
--- the forms keep the property
-pub record KeepsForms (P : Term → Type 0) : Type 0 where
+-- the forms but records keep the property
+pub record KeepsPlainForms (P : Term → Type 0) : Type 0 where
   pub truth : P bool_type
   pub number : P int_type
   pub text : P str_type
@@ -28,6 +29,10 @@ pub record KeepsForms (P : Term → Type 0) : Type 0 where
   pub seq : (t : Term) → P t → P (seq_type t)
   pub fun : (t u : Term) → P t → P u → P (fun_type t u)
   pub tuple : (ts : List Term) → AllTypes P ts → P (tuple_type ts)
+
+-- and so do records
+pub record KeepsForms (P : Term → Type 0) : Type 0 where
+  pub plain : KeepsPlainForms P
   pub of_record : (fs : Scope) → AllNamed P fs → P (record_type fs)
 
 abbrev pub OperandHas : (Term → Type 0) → Operand → Type 0
@@ -48,7 +53,10 @@ pub named_append : (P : Term → Type 0) (xs ys : Scope) → AllNamed P xs → A
 named_append P [] ys h k = k
 named_append P (x ∷ xs) ys h k = (h.0, named_append P xs ys h.1 k)
 
-module _ (P : Term → Type 0) (k : KeepsForms P) where
+abbrev Has : (Term → Type 0) → TypeRow → Type 0
+Has P r = (a : ℕ → Term) → ((j : ℕ) → j < r.unknowns → P (a j)) → SignatureHas P (r.says a)
+
+module _ (P : Term → Type 0) (k : KeepsPlainForms P) where
   operands_append : (os qs : List Operand) → AllOperands P os → AllOperands P qs → AllOperands P (os ++ qs)
   operands_append [] qs h i = i
   operands_append (o ∷ os) qs h i = (h.0, operands_append os qs h.1 i)
@@ -137,15 +145,15 @@ module _ (P : Term → Type 0) (k : KeepsForms P) where
 
   -- ---- the rows
 
-  abbrev Has : TypeRow → Type 0
-  Has r = (a : ℕ → Term) → ((j : ℕ) → j < r.unknowns → P (a j)) → SignatureHas P (r.says a)
+  abbrev RecordsHave : Type 0
+  RecordsHave = (fs : Scope) → AllNamed P fs → P (record_type fs)
 
-  tuple_has : (n : ℕ) → Has (tuple_row n)
+  tuple_has : (n : ℕ) → Has P (tuple_row n)
   tuple_has zero a h = gives_has [] (seq_type (a 0)) tt (k.seq (a 0) (h 0 (omega arith)))
   tuple_has (suc n) a h =
       gives_has (from_type a 2 (suc n)) (a 0) (from_has a 2 (suc n) (λ j lt. h j (omega (arith, lt)))) (h 0 (omega arith))
 
-  sequences_have : (o : Op) (names : List (List ℕ)) (n : ℕ) → Has (sequence_row o names n)
+  sequences_have : (o : Op) (names : List (List ℕ)) (n : ℕ) → Has P (sequence_row o names n)
   sequences_have op.Tuple names n a h = tuple_has n a h
   sequences_have op.Len names n a h = gives_has ((seq_type (a 0)) ∷ []) int_type ((k.seq (a 0) (h 0 (omega arith))), tt) k.number
   sequences_have op.Append names n a h = gives_has ((seq_type (a 0)) ∷ ((a 0) ∷ [])) (seq_type (a 0)) ((k.seq (a 0) (h 0 (omega arith))), ((h 0 (omega arith)), tt)) (k.seq (a 0) (h 0 (omega arith)))
@@ -159,89 +167,92 @@ module _ (P : Term → Type 0) (k : KeepsForms P) where
       (((zero_has, typed_names_have names (a 0 ∷ a 1 ∷ []) (zero_has, (one_has, tt))), ((zero_has, tt), ((k.seq (a 1) one_has, tt), tt))), zero_has)
   sequences_have o names n a h = gives_has [] bool_type tt k.truth
 
-  records_have : (o : Op) (names : List (List ℕ)) (n : ℕ) → Has (record_row o names n)
-  records_have (op.RecSet fs) names n a h = gives_has (sets_of (from_type a 0 n)) (set_type (record_type (zip fs (from_type a 0 n)))) (sets_has (from_type a 0 n) (from_has a 0 n (λ j lt. h j (omega (arith, lt))))) (k.set (record_type (zip fs (from_type a 0 n))) (k.of_record (zip fs (from_type a 0 n)) (zip_has fs (from_type a 0 n) (from_has a 0 n (λ j lt. h j (omega (arith, lt)))))))
-  records_have (op.Record fs) names n a h = gives_has (from_type a 0 n) (record_type (zip fs (from_type a 0 n))) (from_has a 0 n (λ j lt. h j (omega (arith, lt)))) (k.of_record (zip fs (from_type a 0 n)) (zip_has fs (from_type a 0 n) (from_has a 0 n (λ j lt. h j (omega (arith, lt))))))
-  records_have (op.Field f) names n a h = gives_has ((a 0) ∷ []) (a 1) ((h 0 (omega arith)), tt) (h 1 (omega arith))
-  records_have o names n a h = sequences_have o names n a h
+  records_have : (o : Op) (r : has_fields o ≡ true → RecordsHave) (names : List (List ℕ)) (n : ℕ) → Has P (record_row o names n)
+  records_have (op.RecSet fs) r names n a h = gives_has (sets_of (from_type a 0 n)) (set_type (record_type (zip fs (from_type a 0 n)))) (sets_has (from_type a 0 n) (from_has a 0 n (λ j lt. h j (omega (arith, lt))))) (k.set (record_type (zip fs (from_type a 0 n))) (r refl (zip fs (from_type a 0 n)) (zip_has fs (from_type a 0 n) (from_has a 0 n (λ j lt. h j (omega (arith, lt)))))))
+  records_have (op.Record fs) r names n a h = gives_has (from_type a 0 n) (record_type (zip fs (from_type a 0 n))) (from_has a 0 n (λ j lt. h j (omega (arith, lt)))) (r refl (zip fs (from_type a 0 n)) (zip_has fs (from_type a 0 n) (from_has a 0 n (λ j lt. h j (omega (arith, lt))))))
+  records_have (op.Field f) r names n a h = gives_has ((a 0) ∷ []) (a 1) ((h 0 (omega arith)), tt) (h 1 (omega arith))
+  records_have o r names n a h = sequences_have o names n a h
 
-  functions_have : (o : Op) (names : List (List ℕ)) (n : ℕ) → Has (function_row o names n)
-  functions_have op.FunSet names n a h = gives_has ((set_type (a 0)) ∷ ((set_type (a 1)) ∷ [])) (set_type (fun_type (a 0) (a 1))) ((k.set (a 0) (h 0 (omega arith))), ((k.set (a 1) (h 1 (omega arith))), tt)) (k.set (fun_type (a 0) (a 1)) (k.fun (a 0) (a 1) (h 0 (omega arith)) (h 1 (omega arith))))
-  functions_have op.Apply names n a h = gives_has ((a 0) ∷ ((a 1) ∷ [])) (a 2) ((h 0 (omega arith)), ((h 1 (omega arith)), tt)) (h 2 (omega arith))
-  functions_have (op.Except ns) names n a h =
+  functions_have : (o : Op) (r : has_fields o ≡ true → RecordsHave) (names : List (List ℕ)) (n : ℕ) → Has P (function_row o names n)
+  functions_have op.FunSet r names n a h = gives_has ((set_type (a 0)) ∷ ((set_type (a 1)) ∷ [])) (set_type (fun_type (a 0) (a 1))) ((k.set (a 0) (h 0 (omega arith))), ((k.set (a 1) (h 1 (omega arith))), tt)) (k.set (fun_type (a 0) (a 1)) (k.fun (a 0) (a 1) (h 0 (omega arith)) (h 1 (omega arith))))
+  functions_have op.Apply r names n a h = gives_has ((a 0) ∷ ((a 1) ∷ [])) (a 2) ((h 0 (omega arith)), ((h 1 (omega arith)), tt)) (h 2 (omega arith))
+  functions_have (op.Except ns) r names n a h =
       (((h 0 (omega arith), tt), updates_have names a 0 ns (λ j lt. h j (omega (arith, lt)))), h 0 (omega arith))
-  functions_have op.Domain names n a h = gives_has ((a 0) ∷ []) (a 1) ((h 0 (omega arith)), tt) (h 1 (omega arith))
-  functions_have op.Merge names n a h = gives_has ((fun_type (a 0) (a 1)) ∷ ((fun_type (a 0) (a 1)) ∷ [])) (fun_type (a 0) (a 1)) ((k.fun (a 0) (a 1) (h 0 (omega arith)) (h 1 (omega arith))), ((k.fun (a 0) (a 1) (h 0 (omega arith)) (h 1 (omega arith))), tt)) (k.fun (a 0) (a 1) (h 0 (omega arith)) (h 1 (omega arith)))
-  functions_have op.Single names n a h = gives_has ((a 0) ∷ ((a 1) ∷ [])) (fun_type (a 0) (a 1)) ((h 0 (omega arith)), ((h 1 (omega arith)), tt)) (k.fun (a 0) (a 1) (h 0 (omega arith)) (h 1 (omega arith)))
-  functions_have o names n a h = records_have o names n a h
+  functions_have op.Domain r names n a h = gives_has ((a 0) ∷ []) (a 1) ((h 0 (omega arith)), tt) (h 1 (omega arith))
+  functions_have op.Merge r names n a h = gives_has ((fun_type (a 0) (a 1)) ∷ ((fun_type (a 0) (a 1)) ∷ [])) (fun_type (a 0) (a 1)) ((k.fun (a 0) (a 1) (h 0 (omega arith)) (h 1 (omega arith))), ((k.fun (a 0) (a 1) (h 0 (omega arith)) (h 1 (omega arith))), tt)) (k.fun (a 0) (a 1) (h 0 (omega arith)) (h 1 (omega arith)))
+  functions_have op.Single r names n a h = gives_has ((a 0) ∷ ((a 1) ∷ [])) (fun_type (a 0) (a 1)) ((h 0 (omega arith)), ((h 1 (omega arith)), tt)) (k.fun (a 0) (a 1) (h 0 (omega arith)) (h 1 (omega arith)))
+  functions_have o r names n a h = records_have o r names n a h
 
-  binders_have : (o : Op) (names : List (List ℕ)) (n : ℕ) → Has (binder_row o names n)
-  binders_have op.Exists names n a h = over_has names a bool_type bool_type h k.truth k.truth
-  binders_have op.Forall names n a h = over_has names a bool_type bool_type h k.truth k.truth
-  binders_have op.Filter names n a h =
+  binders_have : (o : Op) (r : has_fields o ≡ true → RecordsHave) (names : List (List ℕ)) (n : ℕ) → Has P (binder_row o names n)
+  binders_have op.Exists r names n a h = over_has names a bool_type bool_type h k.truth k.truth
+  binders_have op.Forall r names n a h = over_has names a bool_type bool_type h k.truth k.truth
+  binders_have op.Filter r names n a h =
       let ts : List Term = from_type a 0 (length names) in
       over_has names a bool_type (set_type (first_type ts)) h k.truth
       (k.set (first_type ts) (first_has ts (from_has a 0 (length names) (λ j lt. h j (omega (arith, lt))))))
-  binders_have op.MapTo names n a h =
+  binders_have op.MapTo r names n a h =
       let b : P (a (length names)) = h (length names) (omega arith) in
       over_has names a (a (length names)) (set_type (a (length names))) (λ j lt. h j (omega (arith, lt))) b (k.set (a (length names)) b)
-  binders_have op.Lambda names n a h =
+  binders_have op.Lambda r names n a h =
       let b : P (a (length names)) = h (length names) (omega arith) in
       let ts : List Term = from_type a 0 (length names) in
       over_has names a (a (length names)) (fun_type (argument_type ts) (a (length names))) (λ j lt. h j (omega (arith, lt))) b
       (k.fun (argument_type ts) (a (length names)) (argument_has ts (from_has a 0 (length names) (λ j lt. h j (omega (arith, lt))))) b)
-  binders_have o names n a h = functions_have o names n a h
+  binders_have o r names n a h = functions_have o r names n a h
 
-  sets_have : (o : Op) (names : List (List ℕ)) (n : ℕ) → Has (set_row o names n)
-  sets_have op.SetEnum names n a h = gives_has (replicate n (a 0)) (set_type (a 0)) (replicate_has n (a 0) (h 0 (omega arith))) (k.set (a 0) (h 0 (omega arith)))
-  sets_have op.Cup names n a h = gives_has ((set_type (a 0)) ∷ ((set_type (a 0)) ∷ [])) (set_type (a 0)) ((k.set (a 0) (h 0 (omega arith))), ((k.set (a 0) (h 0 (omega arith))), tt)) (k.set (a 0) (h 0 (omega arith)))
-  sets_have op.Cap names n a h = gives_has ((set_type (a 0)) ∷ ((set_type (a 0)) ∷ [])) (set_type (a 0)) ((k.set (a 0) (h 0 (omega arith))), ((k.set (a 0) (h 0 (omega arith))), tt)) (k.set (a 0) (h 0 (omega arith)))
-  sets_have op.Minus names n a h = gives_has ((set_type (a 0)) ∷ ((set_type (a 0)) ∷ [])) (set_type (a 0)) ((k.set (a 0) (h 0 (omega arith))), ((k.set (a 0) (h 0 (omega arith))), tt)) (k.set (a 0) (h 0 (omega arith)))
-  sets_have op.Powerset names n a h = gives_has ((set_type (a 0)) ∷ []) (set_type (set_type (a 0))) ((k.set (a 0) (h 0 (omega arith))), tt) (k.set (set_type (a 0)) (k.set (a 0) (h 0 (omega arith))))
-  sets_have op.Product names n a h = gives_has (sets_of (from_type a 0 n)) (set_type (tuple_type (from_type a 0 n))) (sets_has (from_type a 0 n) (from_has a 0 n (λ j lt. h j (omega (arith, lt))))) (k.set (tuple_type (from_type a 0 n)) (k.tuple (from_type a 0 n) (from_has a 0 n (λ j lt. h j (omega (arith, lt))))))
-  sets_have op.BigUnion names n a h = gives_has ((set_type (set_type (a 0))) ∷ []) (set_type (a 0)) ((k.set (set_type (a 0)) (k.set (a 0) (h 0 (omega arith)))), tt) (k.set (a 0) (h 0 (omega arith)))
-  sets_have op.BooleanSet names n a h = gives_has [] (set_type bool_type) tt (k.set bool_type k.truth)
-  sets_have op.IntSet names n a h = gives_has [] (set_type int_type) tt (k.set int_type k.number)
-  sets_have op.NatSet names n a h = gives_has [] (set_type int_type) tt (k.set int_type k.number)
-  sets_have op.StringSet names n a h = gives_has [] (set_type str_type) tt (k.set str_type k.text)
-  sets_have op.SeqSet names n a h = gives_has ((set_type (a 0)) ∷ []) (set_type (seq_type (a 0))) ((k.set (a 0) (h 0 (omega arith))), tt) (k.set (seq_type (a 0)) (k.seq (a 0) (h 0 (omega arith))))
-  sets_have op.Cardinality names n a h = gives_has ((set_type (a 0)) ∷ []) int_type ((k.set (a 0) (h 0 (omega arith))), tt) k.number
-  sets_have op.IsFinite names n a h = gives_has ((set_type (a 0)) ∷ []) bool_type ((k.set (a 0) (h 0 (omega arith))), tt) k.truth
-  sets_have o names n a h = binders_have o names n a h
+  sets_have : (o : Op) (r : has_fields o ≡ true → RecordsHave) (names : List (List ℕ)) (n : ℕ) → Has P (set_row o names n)
+  sets_have op.SetEnum r names n a h = gives_has (replicate n (a 0)) (set_type (a 0)) (replicate_has n (a 0) (h 0 (omega arith))) (k.set (a 0) (h 0 (omega arith)))
+  sets_have op.Cup r names n a h = gives_has ((set_type (a 0)) ∷ ((set_type (a 0)) ∷ [])) (set_type (a 0)) ((k.set (a 0) (h 0 (omega arith))), ((k.set (a 0) (h 0 (omega arith))), tt)) (k.set (a 0) (h 0 (omega arith)))
+  sets_have op.Cap r names n a h = gives_has ((set_type (a 0)) ∷ ((set_type (a 0)) ∷ [])) (set_type (a 0)) ((k.set (a 0) (h 0 (omega arith))), ((k.set (a 0) (h 0 (omega arith))), tt)) (k.set (a 0) (h 0 (omega arith)))
+  sets_have op.Minus r names n a h = gives_has ((set_type (a 0)) ∷ ((set_type (a 0)) ∷ [])) (set_type (a 0)) ((k.set (a 0) (h 0 (omega arith))), ((k.set (a 0) (h 0 (omega arith))), tt)) (k.set (a 0) (h 0 (omega arith)))
+  sets_have op.Powerset r names n a h = gives_has ((set_type (a 0)) ∷ []) (set_type (set_type (a 0))) ((k.set (a 0) (h 0 (omega arith))), tt) (k.set (set_type (a 0)) (k.set (a 0) (h 0 (omega arith))))
+  sets_have op.Product r names n a h = gives_has (sets_of (from_type a 0 n)) (set_type (tuple_type (from_type a 0 n))) (sets_has (from_type a 0 n) (from_has a 0 n (λ j lt. h j (omega (arith, lt))))) (k.set (tuple_type (from_type a 0 n)) (k.tuple (from_type a 0 n) (from_has a 0 n (λ j lt. h j (omega (arith, lt))))))
+  sets_have op.BigUnion r names n a h = gives_has ((set_type (set_type (a 0))) ∷ []) (set_type (a 0)) ((k.set (set_type (a 0)) (k.set (a 0) (h 0 (omega arith)))), tt) (k.set (a 0) (h 0 (omega arith)))
+  sets_have op.BooleanSet r names n a h = gives_has [] (set_type bool_type) tt (k.set bool_type k.truth)
+  sets_have op.IntSet r names n a h = gives_has [] (set_type int_type) tt (k.set int_type k.number)
+  sets_have op.NatSet r names n a h = gives_has [] (set_type int_type) tt (k.set int_type k.number)
+  sets_have op.StringSet r names n a h = gives_has [] (set_type str_type) tt (k.set str_type k.text)
+  sets_have op.SeqSet r names n a h = gives_has ((set_type (a 0)) ∷ []) (set_type (seq_type (a 0))) ((k.set (a 0) (h 0 (omega arith))), tt) (k.set (seq_type (a 0)) (k.seq (a 0) (h 0 (omega arith))))
+  sets_have op.Cardinality r names n a h = gives_has ((set_type (a 0)) ∷ []) int_type ((k.set (a 0) (h 0 (omega arith))), tt) k.number
+  sets_have op.IsFinite r names n a h = gives_has ((set_type (a 0)) ∷ []) bool_type ((k.set (a 0) (h 0 (omega arith))), tt) k.truth
+  sets_have o r names n a h = binders_have o r names n a h
 
-  numbers_have : (o : Op) (names : List (List ℕ)) (n : ℕ) → Has (number_row o names n)
-  numbers_have op.Lt names n a h = gives_has (int_type ∷ (int_type ∷ [])) bool_type (k.number, (k.number, tt)) k.truth
-  numbers_have op.Gt names n a h = gives_has (int_type ∷ (int_type ∷ [])) bool_type (k.number, (k.number, tt)) k.truth
-  numbers_have op.Le names n a h = gives_has (int_type ∷ (int_type ∷ [])) bool_type (k.number, (k.number, tt)) k.truth
-  numbers_have op.Ge names n a h = gives_has (int_type ∷ (int_type ∷ [])) bool_type (k.number, (k.number, tt)) k.truth
-  numbers_have op.Add names n a h = gives_has (int_type ∷ (int_type ∷ [])) int_type (k.number, (k.number, tt)) k.number
-  numbers_have op.Sub names n a h = gives_has (int_type ∷ (int_type ∷ [])) int_type (k.number, (k.number, tt)) k.number
-  numbers_have op.Mul names n a h = gives_has (int_type ∷ (int_type ∷ [])) int_type (k.number, (k.number, tt)) k.number
-  numbers_have op.Neg names n a h = gives_has (int_type ∷ []) int_type (k.number, tt) k.number
-  numbers_have op.Div names n a h = gives_has (int_type ∷ (int_type ∷ [])) int_type (k.number, (k.number, tt)) k.number
-  numbers_have op.Mod names n a h = gives_has (int_type ∷ (int_type ∷ [])) int_type (k.number, (k.number, tt)) k.number
-  numbers_have op.Pow names n a h = gives_has (int_type ∷ (int_type ∷ [])) int_type (k.number, (k.number, tt)) k.number
-  numbers_have op.Range names n a h = gives_has (int_type ∷ (int_type ∷ [])) (set_type int_type) (k.number, (k.number, tt)) (k.set int_type k.number)
-  numbers_have o names n a h = sets_have o names n a h
+  numbers_have : (o : Op) (r : has_fields o ≡ true → RecordsHave) (names : List (List ℕ)) (n : ℕ) → Has P (number_row o names n)
+  numbers_have op.Lt r names n a h = gives_has (int_type ∷ (int_type ∷ [])) bool_type (k.number, (k.number, tt)) k.truth
+  numbers_have op.Gt r names n a h = gives_has (int_type ∷ (int_type ∷ [])) bool_type (k.number, (k.number, tt)) k.truth
+  numbers_have op.Le r names n a h = gives_has (int_type ∷ (int_type ∷ [])) bool_type (k.number, (k.number, tt)) k.truth
+  numbers_have op.Ge r names n a h = gives_has (int_type ∷ (int_type ∷ [])) bool_type (k.number, (k.number, tt)) k.truth
+  numbers_have op.Add r names n a h = gives_has (int_type ∷ (int_type ∷ [])) int_type (k.number, (k.number, tt)) k.number
+  numbers_have op.Sub r names n a h = gives_has (int_type ∷ (int_type ∷ [])) int_type (k.number, (k.number, tt)) k.number
+  numbers_have op.Mul r names n a h = gives_has (int_type ∷ (int_type ∷ [])) int_type (k.number, (k.number, tt)) k.number
+  numbers_have op.Neg r names n a h = gives_has (int_type ∷ []) int_type (k.number, tt) k.number
+  numbers_have op.Div r names n a h = gives_has (int_type ∷ (int_type ∷ [])) int_type (k.number, (k.number, tt)) k.number
+  numbers_have op.Mod r names n a h = gives_has (int_type ∷ (int_type ∷ [])) int_type (k.number, (k.number, tt)) k.number
+  numbers_have op.Pow r names n a h = gives_has (int_type ∷ (int_type ∷ [])) int_type (k.number, (k.number, tt)) k.number
+  numbers_have op.Range r names n a h = gives_has (int_type ∷ (int_type ∷ [])) (set_type int_type) (k.number, (k.number, tt)) (k.set int_type k.number)
+  numbers_have o r names n a h = sets_have o r names n a h
 
-  equalities_have : (o : Op) (names : List (List ℕ)) (n : ℕ) → Has (equality_row o names n)
-  equalities_have op.Eq names n a h = gives_has ((a 0) ∷ ((a 0) ∷ [])) bool_type ((h 0 (omega arith)), ((h 0 (omega arith)), tt)) k.truth
-  equalities_have op.Ne names n a h = gives_has ((a 0) ∷ ((a 0) ∷ [])) bool_type ((h 0 (omega arith)), ((h 0 (omega arith)), tt)) k.truth
-  equalities_have op.Assign names n a h = gives_has ((a 0) ∷ ((a 0) ∷ [])) bool_type ((h 0 (omega arith)), ((h 0 (omega arith)), tt)) k.truth
-  equalities_have op.In names n a h = gives_has ((a 0) ∷ ((set_type (a 0)) ∷ [])) bool_type ((h 0 (omega arith)), ((k.set (a 0) (h 0 (omega arith))), tt)) k.truth
-  equalities_have op.NotIn names n a h = gives_has ((a 0) ∷ ((set_type (a 0)) ∷ [])) bool_type ((h 0 (omega arith)), ((k.set (a 0) (h 0 (omega arith))), tt)) k.truth
-  equalities_have op.SubsetEq names n a h = gives_has ((set_type (a 0)) ∷ ((set_type (a 0)) ∷ [])) bool_type ((k.set (a 0) (h 0 (omega arith))), ((k.set (a 0) (h 0 (omega arith))), tt)) k.truth
-  equalities_have o names n a h = numbers_have o names n a h
+  equalities_have : (o : Op) (r : has_fields o ≡ true → RecordsHave) (names : List (List ℕ)) (n : ℕ) → Has P (equality_row o names n)
+  equalities_have op.Eq r names n a h = gives_has ((a 0) ∷ ((a 0) ∷ [])) bool_type ((h 0 (omega arith)), ((h 0 (omega arith)), tt)) k.truth
+  equalities_have op.Ne r names n a h = gives_has ((a 0) ∷ ((a 0) ∷ [])) bool_type ((h 0 (omega arith)), ((h 0 (omega arith)), tt)) k.truth
+  equalities_have op.Assign r names n a h = gives_has ((a 0) ∷ ((a 0) ∷ [])) bool_type ((h 0 (omega arith)), ((h 0 (omega arith)), tt)) k.truth
+  equalities_have op.In r names n a h = gives_has ((a 0) ∷ ((set_type (a 0)) ∷ [])) bool_type ((h 0 (omega arith)), ((k.set (a 0) (h 0 (omega arith))), tt)) k.truth
+  equalities_have op.NotIn r names n a h = gives_has ((a 0) ∷ ((set_type (a 0)) ∷ [])) bool_type ((h 0 (omega arith)), ((k.set (a 0) (h 0 (omega arith))), tt)) k.truth
+  equalities_have op.SubsetEq r names n a h = gives_has ((set_type (a 0)) ∷ ((set_type (a 0)) ∷ [])) bool_type ((k.set (a 0) (h 0 (omega arith))), ((k.set (a 0) (h 0 (omega arith))), tt)) k.truth
+  equalities_have o r names n a h = numbers_have o r names n a h
 
-  pub table_has : (o : Op) (names : List (List ℕ)) (n : ℕ) → Has (type_row o names n)
-  table_has (op.Bool b) names n a h = gives_has [] bool_type tt k.truth
-  table_has (op.Int i) names n a h = gives_has [] int_type tt k.number
-  table_has (op.Str s) names n a h = gives_has [] (literal_type s) tt (literal_has s)
-  table_has op.And names n a h = gives_has (replicate n bool_type) bool_type (replicate_has n bool_type k.truth) k.truth
-  table_has op.Or names n a h = gives_has (replicate n bool_type) bool_type (replicate_has n bool_type k.truth) k.truth
-  table_has op.Implies names n a h = gives_has (bool_type ∷ (bool_type ∷ [])) bool_type (k.truth, (k.truth, tt)) k.truth
-  table_has op.Not names n a h = gives_has (bool_type ∷ []) bool_type (k.truth, tt) k.truth
-  table_has op.Iff names n a h = gives_has (bool_type ∷ (bool_type ∷ [])) bool_type (k.truth, (k.truth, tt)) k.truth
-  table_has op.If names n a h = gives_has (bool_type ∷ ((a 0) ∷ ((a 0) ∷ []))) (a 0) (k.truth, ((h 0 (omega arith)), ((h 0 (omega arith)), tt))) (h 0 (omega arith))
-  table_has (op.Case other) names n a h = gives_has (branches (a 0) n) (a 0) (branches_has (a 0) n (h 0 (omega arith))) (h 0 (omega arith))
-  table_has o names n a h = equalities_have o names n a h
+  pub rows_have : (o : Op) (r : has_fields o ≡ true → RecordsHave) (names : List (List ℕ)) (n : ℕ) → Has P (type_row o names n)
+  rows_have (op.Bool b) r names n a h = gives_has [] bool_type tt k.truth
+  rows_have (op.Int i) r names n a h = gives_has [] int_type tt k.number
+  rows_have (op.Str s) r names n a h = gives_has [] (literal_type s) tt (literal_has s)
+  rows_have op.And r names n a h = gives_has (replicate n bool_type) bool_type (replicate_has n bool_type k.truth) k.truth
+  rows_have op.Or r names n a h = gives_has (replicate n bool_type) bool_type (replicate_has n bool_type k.truth) k.truth
+  rows_have op.Implies r names n a h = gives_has (bool_type ∷ (bool_type ∷ [])) bool_type (k.truth, (k.truth, tt)) k.truth
+  rows_have op.Not r names n a h = gives_has (bool_type ∷ []) bool_type (k.truth, tt) k.truth
+  rows_have op.Iff r names n a h = gives_has (bool_type ∷ (bool_type ∷ [])) bool_type (k.truth, (k.truth, tt)) k.truth
+  rows_have op.If r names n a h = gives_has (bool_type ∷ ((a 0) ∷ ((a 0) ∷ []))) (a 0) (k.truth, ((h 0 (omega arith)), ((h 0 (omega arith)), tt))) (h 0 (omega arith))
+  rows_have (op.Case other) r names n a h = gives_has (branches (a 0) n) (a 0) (branches_has (a 0) n (h 0 (omega arith))) (h 0 (omega arith))
+  rows_have o r names n a h = equalities_have o r names n a h
+
+pub table_has : (P : Term → Type 0) → KeepsForms P → (o : Op) (names : List (List ℕ)) (n : ℕ) → Has P (type_row o names n)
+table_has P k o names n = rows_have P k.plain o (λ e. k.of_record) names n

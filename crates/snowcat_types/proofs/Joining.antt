@@ -127,7 +127,7 @@ through m s u x a w = sym (apply_agree m (then_sub x.rest s) u a (agrees m s u x
 some_same : (a b : Term) → some a ≡ some b → a ≡ b
 some_same a b e = cc
 
-within_more : (n m : ℕ) (a : Term) → n ≤ m → Within n a → Within m a
+pub within_more : (n m : ℕ) (a : Term) → n ≤ m → Within n a → Within m a
 within_more n m a le w v o = let lt : number v < n = w v o in omega (arith, lt, le)
 
 module _ (m : ℕ) (s : Sub) (f a : Term) (wf : Within m f) (wa : Within m a) (own : apply s a ≡ a) where

@@ -1,5 +1,5 @@
 -- The annotations of a job are determined: each text says one type, and each note binds one type or none.
-use Rattle.std.proofs.Common.{◌+◌, ◌≤◌, ◌<◌, ◌^◌, ◌%◌, arith, ◌≡◌, ℕ, true, false, ◌⊎◌, inl, inr, List, [], ◌∷◌, ◌++◌, map, refl, ap, sym, ◌∙◌, subst, Option, Some}
+use Rattle.std.proofs.Common.{◌+◌, ◌<◌, ◌^◌, ◌%◌, arith, ◌≡◌, ℕ, true, false, ◌⊎◌, inl, inr, List, [], ◌∷◌, ◌++◌, map, refl, ap, sym, ◌∙◌, subst, Option, Some}
 use Rattle.std.specs.Prelude.{bytes_eq, Contains}
 use Rattle.std.specs.List.{list_any}
 use Rattle.std.specs.Cmp.{IsEquivalence}
@@ -16,8 +16,9 @@ use Rattle.snowcat_rows.specs.Readings.{Known, IsReadBy}
 use Rattle.snowcat_rows.proofs.ReadingLaws.{same_known, read_once}
 use Rattle.snowcat_types.specs.Systems.{Annotations, parts_of}
 use Rattle.snowcat_types.specs.Annotated.{Aliases, IsReadWith, IsNameType, numbered, Binds, Says, all_notes, AreNameTypes, AreAnnotations}
+use Rattle.snowcat_types.specs.inner.Telling.{IsUnbroken}
 
-some_same : {X : Type 0} → (x y : X) → Some x ≡ Some y → x ≡ y
+pub some_same : {X : Type 0} → (x y : X) → Some x ≡ Some y → x ≡ y
 some_same x y e = cc
 
 pair_same : {X : Type 0} → {Y : Type 0} → (a b : X × Y) → a.0 ≡ b.0 → a.1 ≡ b.1 → a ≡ b
@@ -25,7 +26,7 @@ pair_same a b e f = λ i. (e i, f i)
 
 -- ---- what a text says
 
-read_the_same : (aliases : Aliases) (text : List ℕ) (t u : Term) (n m : ℕ) → IsReadWith aliases text t n → IsReadWith aliases text u m → (t ≡ u) × (n ≡ m)
+pub read_the_same : (aliases : Aliases) (text : List ℕ) (t u : Term) (n m : ℕ) → IsReadWith aliases text t n → IsReadWith aliases text u m → (t ≡ u) × (n ≡ m)
 read_the_same aliases text t u n m (k, g, r) (j, h, q) =
     let P : Known → Type 0 = λ z. IsReadBy z text t n in
     read_once j text t u n m (subst P (same_known aliases [] k j g h) r) q
@@ -59,18 +60,14 @@ same_binding i t o p (inr g) (inr h) = g.1 ∙ sym h.1
 
 -- a number's digits end before the blank behind it
 
-abbrev AllHigh : List ℕ → Type 0
-AllHigh [] = Unit {0}
-AllHigh (b ∷ bs) = (48 ≤ b) × AllHigh bs
+unbroken_append : (xs ys : List ℕ) → IsUnbroken xs → IsUnbroken ys → IsUnbroken (xs ++ ys)
+unbroken_append [] ys h k = k
+unbroken_append (x ∷ xs) ys h k = (h.0, unbroken_append xs ys h.1 k)
 
-high_append : (xs ys : List ℕ) → AllHigh xs → AllHigh ys → AllHigh (xs ++ ys)
-high_append [] ys h k = k
-high_append (x ∷ xs) ys h k = (h.0, high_append xs ys h.1 k)
-
-decimal_high : (n : ℕ) → n < 2 ^ 64 → AllHigh (decimal n)
-decimal_high n lt =
-    decimal_by_steps (λ n ds. AllHigh ds) (λ n l. (omega arith, tt))
-    (λ n ds l h. high_append ds ((48 + n % 10) ∷ []) h (omega arith, tt)) n lt
+pub decimal_unbroken : (n : ℕ) → n < 2 ^ 64 → IsUnbroken (decimal n)
+decimal_unbroken n lt =
+    decimal_by_steps (λ n ds. IsUnbroken ds) (λ n l. ((λ e. omega (arith, e)), tt))
+    (λ n ds l h. unbroken_append ds ((48 + n % 10) ∷ []) h ((λ e. omega (arith, e)), tt)) n lt
 
 head_same : (x y : ℕ) (xs ys : List ℕ) → x ∷ xs ≡ y ∷ ys → x ≡ y
 head_same x y xs ys e = cc
@@ -78,20 +75,20 @@ head_same x y xs ys e = cc
 tail_same : (x y : ℕ) (xs ys : List ℕ) → x ∷ xs ≡ y ∷ ys → xs ≡ ys
 tail_same x y xs ys e = cc
 
-same_split : (xs ys us vs : List ℕ) → AllHigh xs → AllHigh ys → xs ++ 32 ∷ us ≡ ys ++ 32 ∷ vs → (xs ≡ ys) × (us ≡ vs)
+pub same_split : (xs ys us vs : List ℕ) → IsUnbroken xs → IsUnbroken ys → xs ++ 32 ∷ us ≡ ys ++ 32 ∷ vs → (xs ≡ ys) × (us ≡ vs)
 same_split [] [] us vs h k e = (refl, tail_same 32 32 us vs e)
 same_split [] (y ∷ ys) us vs h k e =
-    absurd (let d : 32 ≡ y = head_same 32 y us (ys ++ 32 ∷ vs) e in let l : 48 ≤ y = k.0 in omega (arith, d, l))
+    absurd (k.0 (sym (head_same 32 y us (ys ++ 32 ∷ vs) e)))
 same_split (x ∷ xs) [] us vs h k e =
-    absurd (let d : x ≡ 32 = head_same x 32 (xs ++ 32 ∷ us) vs e in let l : 48 ≤ x = h.0 in omega (arith, d, l))
+    absurd (h.0 (head_same x 32 (xs ++ 32 ∷ us) vs e))
 same_split (x ∷ xs) (y ∷ ys) us vs h k e =
     let d : x ≡ y = head_same x y (xs ++ 32 ∷ us) (ys ++ 32 ∷ vs) e in
     let r = same_split xs ys us vs h.1 k.1 (tail_same x y (xs ++ 32 ∷ us) (ys ++ 32 ∷ vs) e) in
     (λ i. d i ∷ r.0 i, r.1)
 
-same_numbered : (i j : ℕ) (x y : List ℕ) → i < 2 ^ 64 → j < 2 ^ 64 → numbered i x ≡ numbered j y → (i ≡ j) × (x ≡ y)
+pub same_numbered : (i j : ℕ) (x y : List ℕ) → i < 2 ^ 64 → j < 2 ^ 64 → numbered i x ≡ numbered j y → (i ≡ j) × (x ≡ y)
 same_numbered i j x y li lj e =
-    let r = same_split (decimal i) (decimal j) x y (decimal_high i li) (decimal_high j lj) e in
+    let r = same_split (decimal i) (decimal j) x y (decimal_unbroken i li) (decimal_unbroken j lj) e in
     (sym (decimal_is_IsNumeral i li).1 ∙ ap (digits_value 10) r.0 ∙ (decimal_is_IsNumeral j lj).1, r.1)
 
 same_saying : (aliases : Aliases) (text : List ℕ) (o p : Option Term) → Says aliases text o → Says aliases text p → o ≡ p

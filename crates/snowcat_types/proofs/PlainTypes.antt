@@ -36,14 +36,16 @@ lookup_plain n (f ∷ fs) h x = chosen_plain n (bytes_eq f.0 x) f.1 (lookup fs x
 
 pub keeps_plain : (n : ℕ) → KeepsForms (Plain n)
 keeps_plain n = record {
-  truth = tt;
-  number = tt;
-  text = tt;
-  named = λ x. tt;
-  set = λ t h. (tt, h);
-  seq = λ t h. (tt, h);
-  fun = λ t u h k. (tt, (h, k));
-  tuple = λ ts h. (tt, row_plain n ts h);
+  plain = record {
+    truth = tt;
+    number = tt;
+    text = tt;
+    named = λ x. tt;
+    set = λ t h. (tt, h);
+    seq = λ t h. (tt, h);
+    fun = λ t u h k. (tt, (h, k));
+    tuple = λ ts h. (tt, row_plain n ts h);
+  };
   of_record = λ fs h. (lookup_plain n fs h, refl);
 }
 

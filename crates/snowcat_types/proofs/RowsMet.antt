@@ -47,14 +47,16 @@ all_anything (t ∷ ts) = (tt, all_anything ts)
 
 keeps_anything : KeepsForms Anything
 keeps_anything = record {
-  truth = tt;
-  number = tt;
-  text = tt;
-  named = λ x. tt;
-  set = λ t h. tt;
-  seq = λ t h. tt;
-  fun = λ t u h k. tt;
-  tuple = λ ts h. tt;
+  plain = record {
+    truth = tt;
+    number = tt;
+    text = tt;
+    named = λ x. tt;
+    set = λ t h. tt;
+    seq = λ t h. tt;
+    fun = λ t u h k. tt;
+    tuple = λ ts h. tt;
+  };
   of_record = λ fs h. tt;
 }
 

@@ -30,12 +30,12 @@ name_at aliases (x ∷ xs) (t ∷ ts) zero d h lt e = let P : Decl → Type 0 = 
 name_at aliases (x ∷ xs) (t ∷ ts) (suc k) d h lt e = name_at aliases xs ts k d h.1 (omega (arith, lt)) e
 
 -- of pairs one is there, so its first part is
-first_at : (xs : List (List ℕ × Place)) (k : ℕ) (x : List ℕ × Place) → slice_index_or (map (λ n. n.0) xs) k x.0 ≡ (slice_index_or xs k x).0
+first_at : {X : Type 0} → (xs : List (List ℕ × X)) (k : ℕ) (x : List ℕ × X) → slice_index_or (map (λ n. n.0) xs) k x.0 ≡ (slice_index_or xs k x).0
 first_at [] k x = refl
 first_at (y ∷ xs) zero x = refl
 first_at (y ∷ xs) (suc k) x = first_at xs k x
 
-first_stands : (xs : List (List ℕ × Place)) (x : List ℕ × Place) → Contains xs x → Contains (map (λ n. n.0) xs) x.0
+pub first_stands : {X : Type 0} → (xs : List (List ℕ × X)) (x : List ℕ × X) → Contains xs x → Contains (map (λ n. n.0) xs) x.0
 first_stands xs x (k, lt, e) =
     let n : length (map (λ n. n.0) xs) ≡ length xs = length-map xs (λ n. n.0) in
     (k, omega (arith, lt, n), first_at xs k x ∙ (λ i. (e i).0))

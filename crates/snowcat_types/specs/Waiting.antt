@@ -8,6 +8,7 @@ use Rattle.snowcat_rows.specs.Types.{Term, var}
 use Rattle.snowcat_types.specs.declared.waiting.Index.{Index}
 use Rattle.snowcat_types.specs.declared.waiting.Index.TheVariants.{Number, Word, NoLiteral}
 use Rattle.snowcat_types.specs.declared.waiting.Wait.{Wait}
+pub use Rattle.snowcat_types.specs.declared.waiting.Sight.{Sight}
 use Rattle.snowcat_types.specs.declared.waiting.Wait.TheVariants as wait
 use Rattle.snowcat_types.specs.TypeForms.{int_type, str_type, set_type, seq_type, fun_type, tuple_type}
 use Rattle.snowcat_types.specs.Rows.{from_type, index_number, reached_number}
@@ -60,11 +61,6 @@ default_type (wait.Domain p f t x y) = fun_type (var x) (var y)
 default_type (wait.Tuple p t x i n) = tuple_type (items_from i n)
 
 -- ---- which nodes wait
-
--- what the choice of the node above must know of a node: its place, and whether it is a literal
-pub record Sight : Type 0 where
-  pub place : Place
-  pub literal : Index
 
 abbrev pub first_literal : List Sight → Index
 first_literal [] = NoLiteral

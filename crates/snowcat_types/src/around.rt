@@ -3,8 +3,10 @@ ghost use Rattle.std.specs.Prelude.{◌≡◌, [], IfOk, option_map};
 ghost use Rattle.tla_meaning.specs.Scopes.{find_last};
 ghost use Rattle.snowcat_rows.specs.Types.{mean, var};
 ghost use Rattle.snowcat_types.specs.TypeForms.{bool_type};
-ghost use Rattle.snowcat_types.specs.Rows.{gives, noted_row, or_type, row_of};
-ghost use Rattle.snowcat_types.specs.inner.Built.{context_of, note_of, scope_of, signature_of, unknown_from};
+ghost use Rattle.snowcat_types.specs.Rows.{gives, noted_row, or_type};
+ghost use Rattle.snowcat_types.specs.inner.Built.{context_of, note_of, row_at, scope_of, signature_of, unknown_from};
+ghost use Rattle.snowcat_types.specs.inner.Gathered.{IsNamed, NoteNamed, NotesNamed};
+ghost use Rattle.snowcat_types.specs.inner.Named.{AroundNamed, RowNamed, ScopeNamed};
 
 use crate::counts::type_count;
 use crate::forms::{Row, gives, one, unknown};
@@ -12,7 +14,7 @@ use crate::rows::{leaf_row, type_row};
 use crate::typable::same_name;
 use snowcat_rows::{Ty, copy_type};
 use std::alloc::{AllocError, Global};
-use tla_meaning::Op;
+use tla_meaning::{Expr, Op};
 use tla_values::{List, Text};
 
 /// What is known around a node: what the texts of notes bind, and the types of bound names. A declared name has the
@@ -20,12 +22,14 @@ use tla_values::{List, Text};
 #[derive(Drop)]
 pub struct Around {
     pub notes: List<(Text, Option<Ty>)>,
-    pub bound: List<(Text, Ty)>,
+    pub bound: Vec<(Text, Ty)>,
 }
 
 #[tactic(auto, using(snowcat_rows::proofs::Means::means))]
 fn bound_type(alloc: Global, name: &Text, bound: &[(Text, Ty)]) -> Result<Ty, AllocError>
-    ensures { IfOk result (λ t. mean t ≡ or_type (find_last name.now (scope_of bound.now)) bool_type) }
+    ensures mean { IfOk result (λ t. mean t
+        ≡ or_type (find_last name.now (scope_of bound.now)) bool_type) }
+    ensures named { ScopeNamed bound.now → IfOk result (λ t. IsNamed t) }
 {
     let mut i = bound.len();
     while i > 0 {
@@ -41,7 +45,9 @@ fn bound_type(alloc: Global, name: &Text, bound: &[(Text, Ty)]) -> Result<Ty, Al
 
 #[tactic(auto, using(snowcat_rows::proofs::Means::means))]
 fn note_row(alloc: Global, of: &Option<Ty>, first: u32) -> Result<Row, AllocError>
-    ensures { IfOk result (λ r. signature_of r ≡ (noted_row (option_map mean of.now)).says (unknown_from first)) }
+    ensures mean { IfOk result (λ r. signature_of r
+        ≡ (noted_row (option_map mean of.now)).says (unknown_from first)) }
+    ensures named { NoteNamed of.now → IfOk result (λ r. RowNamed r) }
 {
     match of {
         None => {
@@ -63,7 +69,9 @@ fn noted_row(
     notes: &[(Text, Option<Ty>)],
     first: u32,
 ) -> Result<Row, AllocError>
-    ensures { IfOk result (λ r. signature_of r ≡ (noted_row (note_of notes.now text.now)).says (unknown_from first)) }
+    ensures mean { IfOk result (λ r. signature_of r
+        ≡ (noted_row (note_of notes.now text.now)).says (unknown_from first)) }
+    ensures named { NotesNamed notes.now → IfOk result (λ r. RowNamed r) }
 {
     for i in 0..notes.len() {
         let note = &notes[i];
@@ -77,37 +85,34 @@ fn noted_row(
 }
 
 fn name_row(alloc: Global, i: usize) -> Result<Row, AllocError>
-    ensures { IfOk result (λ r. signature_of r ≡ gives [] (var i)) }
+    ensures mean { IfOk result (λ r. signature_of r ≡ gives [] (var i)) }
+    ensures named { IfOk result (λ r. RowNamed r) }
 {
     let of = unknown(0, i)?;
     leaf_row(alloc, of)
 }
 
 fn bound_row(alloc: Global, name: &Text, bound: &[(Text, Ty)]) -> Result<Row, AllocError>
-    ensures { IfOk result (λ r. signature_of r
+    ensures mean { IfOk result (λ r. signature_of r
         ≡ gives [] (or_type (find_last name.now (scope_of bound.now)) bool_type)) }
+    ensures named { ScopeNamed bound.now → IfOk result (λ r. RowNamed r) }
 {
     let of = bound_type(alloc, name, bound)?;
     leaf_row(alloc, of)
 }
 
-/// The row of a node of this operator, which binds these names and has `n` children.
-pub fn row_of(
-    alloc: Global,
-    around: &Around,
-    op: &Op,
-    names: &[Text],
-    n: usize,
-    first: u32,
-) -> Result<Row, AllocError>
-    ensures { IfOk result (λ r. signature_of r
-        ≡ (row_of (context_of around.now) op.now names.now n).says (unknown_from first)) }
+/// The row of the node, whose unknown types begin with that number.
+pub fn row_of(alloc: Global, around: &Around, e: &Expr, first: u32) -> Result<Row, AllocError>
+    ensures mean { IfOk result (λ r. signature_of r
+        ≡ (row_at (context_of around.now) e.now).says (unknown_from first)) }
+    ensures named { AroundNamed around.now → IfOk result (λ r. RowNamed r) }
 {
-    match op {
+    let n = e.args.as_slice().len();
+    match &e.op {
         Op::Name(i, _) => name_row(alloc, *i),
         Op::Bound(name) => bound_row(alloc, name, around.bound.as_slice()),
         Op::Noted(text) => noted_row(alloc, text, around.notes.as_slice(), first),
-        _ => type_row(alloc, op, names, n, first),
+        _ => type_row(alloc, &e.op, e.binds.as_slice(), n, first),
     }
 }
 
@@ -133,13 +138,14 @@ fn noted_count(text: &Text, notes: &[(Text, Option<Ty>)]) -> usize
 }
 
 /// How many unknown types that row speaks of.
-pub fn row_count(around: &Around, op: &Op, names: &[Text], n: usize) -> Result<usize, AllocError>
-    ensures { IfOk result (λ k. k ≡ (row_of (context_of around.now) op.now names.now n).unknowns) }
+pub fn row_count(around: &Around, e: &Expr) -> Result<usize, AllocError>
+    ensures { IfOk result (λ k. k ≡ (row_at (context_of around.now) e.now).unknowns) }
 {
-    match op {
+    let n = e.args.as_slice().len();
+    match &e.op {
         Op::Name(_, _) => Ok(0),
         Op::Bound(_) => Ok(0),
         Op::Noted(text) => Ok(noted_count(text, around.notes.as_slice())),
-        _ => type_count(op, names, n),
+        _ => type_count(&e.op, e.binds.as_slice(), n),
     }
 }

@@ -1,6 +1,9 @@
 // Why a job has no typing.
+ghost use Rattle.std.specs.Prelude.{◌≡◌, alloc_error};
+ghost use Rattle.snowcat_types.specs.declared.faults.TypeFault.TheVariants.{Memory as wants_memory};
+
 use snowcat_rows::Ty;
-use std::alloc::AllocError;
+use std::alloc::{AllocError, AllocFailed};
 use tla_meaning::Place;
 use tla_values::{List, Text};
 
@@ -15,4 +18,20 @@ pub enum TypeFault {
     /// nodes at the places behind took their default in this order.
     Clash(Place, Ty, Ty, List<Place>),
     Memory(AllocError),
+}
+
+impl From<AllocError> for TypeFault {
+    ghost from_gives = { λ _ e. e ≡ wants_memory alloc_error };
+
+    fn from(_: AllocError) -> Self {
+        TypeFault::Memory(AllocError)
+    }
+}
+
+impl<T: Drop> From<AllocFailed<T>> for TypeFault {
+    ghost from_gives = { λ _ e. e ≡ wants_memory alloc_error };
+
+    fn from(_: AllocFailed<T>) -> Self {
+        TypeFault::Memory(AllocError)
+    }
 }

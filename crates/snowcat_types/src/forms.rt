@@ -1,13 +1,18 @@
 // Rows of the table of types, and the types in them.
-ghost use Rattle.std.specs.Prelude.{◌≡◌, ◌+◌, ◌∷◌, [], IfOk, map, replicate, zip};
+ghost use Rattle.std.specs.Prelude.{◌≡◌, ◌+◌, ◌∷◌, [], IfOk, OnOk, map, replicate, true, zip};
+ghost use Rattle.snowcat_rows.specs.FieldNames.{names};
+ghost use Rattle.snowcat_rows.specs.TypeTexts.{is_among};
 ghost use Rattle.snowcat_rows.specs.Types.{mean};
+ghost use Rattle.snowcat_rows.specs.inner.Naming.{record_named};
 ghost use Rattle.snowcat_types.specs.TypeForms.{fun_type, record_type, seq_type, set_type, tuple_type};
 ghost use Rattle.snowcat_types.specs.Rows.{argument_type, from_type, gives, plain, sets_of, typed_names};
 ghost use Rattle.snowcat_types.specs.inner.Built.{means, operand_of, scope_of, signature_of, type_at, unknown_from};
+ghost use Rattle.snowcat_types.specs.inner.Gathered.{IsNamed, TypesNamed};
+ghost use Rattle.snowcat_types.specs.inner.Named.{OperandsNamed, RowNamed, Tells, TellsBehind};
 
 use snowcat_rows::{Ty, copy_type};
 use std::alloc::{AllocError, Global};
-use tla_values::{Boxed, List, Text, copy_text};
+use tla_values::{Boxed, List, Text, copy_text, same_text};
 
 /// What an operand is to have: its type, and the names that the node binds in it.
 #[derive(Drop)]
@@ -37,9 +42,10 @@ pub fn unknown(first: u32, k: usize) -> Result<Ty, AllocError>
     }
 }
 
-#[tactic(auto, using(snowcat_rows::proofs::Means::means))]
+#[tactic(auto, using(snowcat_rows::proofs::Means::means, snowcat_rows::proofs::Naming::differs))]
 pub fn set_of(alloc: Global, item: Ty) -> Result<Ty, AllocError>
-    ensures { IfOk result (λ t. mean t ≡ set_type (mean item)) }
+    ensures mean { IfOk result (λ t. mean t ≡ set_type (mean item)) }
+    ensures named { IsNamed item → IfOk result (λ t. IsNamed t) }
 {
     let item = Boxed::new(alloc, item)?;
     Ok(Ty::Set(item))
@@ -70,7 +76,8 @@ pub fn tuple_of(items: Vec<Ty>) -> Ty
 }
 
 fn plain(alloc: Global, of: Ty) -> Operand
-    ensures { operand_of result ≡ plain (mean of) }
+    ensures mean { operand_of result ≡ plain (mean of) }
+    ensures named { IsNamed of → OperandsNamed (result ∷ []) }
 {
     Operand {
         of,
@@ -80,7 +87,8 @@ fn plain(alloc: Global, of: Ty) -> Operand
 
 // Operands in which nothing is bound.
 pub fn plains(alloc: Global, types: Vec<Ty>) -> Result<Vec<Operand>, AllocError>
-    ensures { IfOk result (λ os. map operand_of os.items ≡ map plain (means types.items)) }
+    ensures mean { IfOk result (λ os. map operand_of os.items ≡ map plain (means types.items)) }
+    ensures named { TypesNamed types.items → IfOk result (λ os. OperandsNamed os.items) }
 {
     let mut operands = Vec::new(alloc);
     for of in types {
@@ -91,7 +99,8 @@ pub fn plains(alloc: Global, types: Vec<Ty>) -> Result<Vec<Operand>, AllocError>
 
 /// Operands of these types, and a result of that one.
 pub fn gives(alloc: Global, types: Vec<Ty>, of: Ty) -> Result<Row, AllocError>
-    ensures { IfOk result (λ r. signature_of r ≡ gives (means types.items) (mean of)) }
+    ensures mean { IfOk result (λ r. signature_of r ≡ gives (means types.items) (mean of)) }
+    ensures named { TypesNamed types.items → IsNamed of → IfOk result (λ r. RowNamed r) }
 {
     let operands = plains(alloc, types)?;
     Ok(Row {
@@ -101,7 +110,8 @@ pub fn gives(alloc: Global, types: Vec<Ty>, of: Ty) -> Result<Row, AllocError>
 }
 
 pub fn one(alloc: Global, a: Ty) -> Result<Vec<Ty>, AllocError>
-    ensures { IfOk result (λ v. means v.items ≡ mean a ∷ []) }
+    ensures mean { IfOk result (λ v. means v.items ≡ mean a ∷ []) }
+    ensures named { IsNamed a → IfOk result (λ v. TypesNamed v.items) }
 {
     let mut types = Vec::new(alloc);
     types.push(a)?;
@@ -206,26 +216,58 @@ fn type_at(alloc: Global, types: &[Ty], i: usize) -> Result<Ty, AllocError>
     Ok(Ty::Bool)
 }
 
-/// The record of these fields and no others.
-#[tactic(auto, using(snowcat_rows::proofs::Means::means))]
+/// The record of these fields and no others; of a name that stands twice the first counts.
 pub fn record_of(alloc: Global, names: &[Text], types: &[Ty]) -> Result<Ty, AllocError>
-    ensures { IfOk result (λ t. mean t ≡ record_type (zip names.now (means types.now))) }
+    ensures mean { IfOk result (λ t. mean t ≡ record_type (zip names.now (means types.now))) }
+    ensures named { TypesNamed types.now → IfOk result (λ t. IsNamed t) }
 {
     let fields = zipped(alloc, names, types)?;
     Ok(Ty::Rec(List::from_vec(fields), None))
 }
 
+fn has_field(fields: &[(Text, Ty)], name: &Text) -> bool
+    ensures { result ≡ is_among name.now (names fields.now) }
+{
+    for i in 0..fields.len() {
+        if same_text(name, &fields[i].0) {
+            return true;
+        }
+    }
+    false
+}
+
+// The field stands there too, behind those of its name.
+fn push_behind(
+    fields: &mut Vec<(Text, Ty)>,
+    alloc: Global,
+    name: &Text,
+    of: &Ty,
+) -> Result<(), AllocError>
+    ensures tells { OnOk result
+        (TellsBehind fields.old.items name.now (mean of.now) fields.new.items) }
+    ensures named { record_named fields.old.items ≡ true → IsNamed of.now
+        → OnOk result (record_named fields.new.items ≡ true) }
+{
+    if has_field(fields.as_slice(), name) {
+        return Ok(());
+    }
+    let name = copy_text(alloc, name)?;
+    let of = copy_type(alloc, of)?;
+    fields.push((name, of))?;
+    Ok(())
+}
+
+// Each name with its type, a name that stands twice with its first.
 fn zipped(alloc: Global, names: &[Text], types: &[Ty]) -> Result<Vec<(Text, Ty)>, AllocError>
-    ensures { IfOk result (λ xs. scope_of xs.items ≡ zip names.now (means types.now)) }
+    ensures tells { IfOk result (λ fs. Tells fs.items names.now types.now) }
+    ensures named { TypesNamed types.now → IfOk result (λ fs. record_named fs.items ≡ true) }
 {
     let mut fields = Vec::new(alloc);
     for i in 0..names.len() {
         if i >= types.len() {
             return Ok(fields);
         }
-        let name = copy_text(alloc, &names[i])?;
-        let of = copy_type(alloc, &types[i])?;
-        fields.push((name, of))?;
+        push_behind(&mut fields, alloc, &names[i], &types[i])?;
     }
     Ok(fields)
 }

@@ -4,20 +4,38 @@
 //! and a default for each overloaded operator. Begin with `specs/Typings`.
 #![tactic(auto)]
 
+mod annotations;
 mod around;
+mod asking;
+mod choosing;
 mod counts;
 mod deciding;
+mod earliest;
 mod faults;
 mod forms;
+mod gathered;
+mod gathering;
+mod hearing;
+mod jobs;
 mod kinds;
 mod meeting;
+mod names;
+mod notes;
+mod numbered;
 mod rows;
+mod saying;
+mod solving;
 mod theorems;
+mod told;
+mod trees;
+mod tying;
 mod typable;
+mod undecided;
 mod updates;
 mod waiting;
 
 pub use faults::TypeFault;
+pub use jobs::typing;
 pub use kinds::Kind;
 pub use theorems::{
     clashes_have_no_typing, typings_are_ground, typings_meet_rows,

@@ -1,6 +1,5 @@
 // One requirement more, over what a substitution solves.
 ghost use Rattle.std.specs.Prelude.{ℕ, ◌≡◌, ◌+◌, ◌<◌, ◌∷◌, [], IfOk, List as Items, MatchResult, OnOk, true};
-ghost use Rattle.snowcat_rows.specs.Codes.{Begins};
 ghost use Rattle.snowcat_rows.specs.FieldNames.{names_differ};
 ghost use Rattle.snowcat_rows.specs.Sorting.{Within};
 ghost use Rattle.snowcat_rows.specs.Substitutions.{Fronts, apply};
@@ -9,7 +8,7 @@ ghost use Rattle.snowcat_rows.specs.Unifying.{HasNames};
 ghost use Rattle.snowcat_rows.specs.Views.{issued_of, kept_by, stands_for};
 ghost use Rattle.snowcat_types.specs.Requirements.{Equal, FieldOf, ItemOf, Requirement, item_at};
 ghost use Rattle.snowcat_types.specs.Typings.{with_field};
-ghost use Rattle.snowcat_types.specs.inner.Solved.{AreOf, IsMet, IsSolved};
+ghost use Rattle.snowcat_types.specs.inner.Solved.{AreOf, IsFurther, IsMet, IsOpened, IsSolved};
 
 use snowcat_rows::{Subst, Ty, UnifyFault};
 use std::alloc::{AllocError, Global};
@@ -22,7 +21,7 @@ pub(crate) fn equate(subst: &mut Subst, a: &Ty, b: &Ty) -> Result<(), UnifyFault
     ensures met { (n : ℕ) (l : Fronts) (rs : Items Requirement) → IsSolved n l rs subst.old → AreOf n l rs
         → AreOf n l (Equal (mean a.now) (mean b.now) ∷ [])
         → IsMet n l rs (Equal (mean a.now) (mean b.now)) (kept_by subst.old) (mean a.now) (mean b.now) subst.new result }
-    ensures further { Begins (kept_by subst.old) (kept_by subst.new) }
+    ensures kept { IsFurther subst.old subst.new }
     ensures names { MatchResult result (λ _. Unit {0}) (λ e. HasNames e) }
 {
     subst.unify(a, b)
@@ -30,10 +29,8 @@ pub(crate) fn equate(subst: &mut Subst, a: &Ty, b: &Ty) -> Result<(), UnifyFault
 
 // The record of one field, the unknown type of that number, that is open for others: its row variable is new.
 fn open_record(alloc: Global, subst: &mut Subst, name: &Text, field: u32) -> Result<Ty, AllocError>
-    ensures mean { IfOk result (λ t. mean t ≡ with_field name.now (var field) (issued_of subst.old)) }
-    ensures names { IfOk result (λ t. names_differ t ≡ true) }
-    ensures issued { OnOk result (issued_of subst.new ≡ issued_of subst.old + 1)
-        × (kept_by subst.new ≡ kept_by subst.old) }
+    ensures opened { IfOk result (λ t. IsOpened name.now field subst.old subst.new t) }
+    ensures kept { IsFurther subst.old subst.new }
 {
     let row = subst.issued();
     if row == u32::MAX {
@@ -58,7 +55,7 @@ pub(crate) fn ask_field(
     ensures met { (n : ℕ) (l : Fronts) (rs : Items Requirement) → IsSolved n l rs subst.old → AreOf n l rs
         → whole < n → field < n → IsMet n l rs (FieldOf (var whole) name.now (var field)) (kept_by subst.old)
         (with_field name.now (var field) (issued_of subst.old)) (var whole) subst.new result }
-    ensures further { Begins (kept_by subst.old) (kept_by subst.new) }
+    ensures kept { IsFurther subst.old subst.new }
     ensures names { MatchResult result (λ _. Unit {0}) (λ e. HasNames e) }
 {
     match open_record(alloc, subst, name, field) {
@@ -82,7 +79,7 @@ pub(crate) fn choose_field(
     ensures met { (n : ℕ) (l : Fronts) (rs : Items Requirement) → IsSolved n l rs subst.old → AreOf n l rs
         → whole < n → field < n → IsMet n l rs (FieldOf (var whole) name.now (var field)) (kept_by subst.old)
         (var whole) (with_field name.now (var field) (issued_of subst.old)) subst.new result }
-    ensures further { Begins (kept_by subst.old) (kept_by subst.new) }
+    ensures kept { IsFurther subst.old subst.new }
     ensures names { MatchResult result (λ _. Unit {0}) (λ e. HasNames e) }
 {
     match open_record(alloc, subst, name, field) {
@@ -109,7 +106,7 @@ pub(crate) fn choose_item(
     ensures met { (n : ℕ) (l : Fronts) (rs : Items Requirement) → IsSolved n l rs subst.old → AreOf n l rs
         → whole < n → part < n → IsMet n l rs (ItemOf (var whole) i (var part)) (kept_by subst.old)
         (mean item.now) (var part) subst.new result }
-    ensures further { Begins (kept_by subst.old) (kept_by subst.new) }
+    ensures kept { IsFurther subst.old subst.new }
     ensures names { MatchResult result (λ _. Unit {0}) (λ e. HasNames e) }
 {
     let known = Ty::Var(part);

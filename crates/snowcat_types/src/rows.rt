@@ -1,11 +1,13 @@
 // The table of types, in its families: each goes on with the one above it. The numbers of a row's unknown types
 // begin at `first`; begin with `type_row` at the end.
-ghost use Rattle.std.specs.Prelude.{◌≡◌, ◌+◌, ◌∷◌, [], IfOk, OnOk, ◌++◌, length, map, replicate, zip};
+ghost use Rattle.std.specs.Prelude.{◌≡◌, ◌+◌, ◌∷◌, [], IfOk, OnOk, ◌++◌, length, map, replicate, true, zip};
 ghost use Rattle.snowcat_rows.specs.LiteralTypes.{literal_type};
 ghost use Rattle.snowcat_rows.specs.Types.{mean};
 ghost use Rattle.snowcat_types.specs.TypeForms.{bool_type, fun_type, int_type, record_type, seq_type, set_type, tuple_type};
 ghost use Rattle.snowcat_types.specs.Rows.{argument_type, binder_row, branches, equality_row, first_type, from_type, function_row, gives, number_row, over, record_row, sequence_row, set_row, sets_of, tuple_row, type_row, typed_names};
 ghost use Rattle.snowcat_types.specs.inner.Built.{means, signature_of, unknown_from};
+ghost use Rattle.snowcat_types.specs.inner.Gathered.{IsNamed};
+ghost use Rattle.snowcat_types.specs.inner.Named.{RowNamed, has_fields};
 
 use crate::forms::{
     Operand, Row, argument_of, copies, function_at, function_of, gives, one, plains, record_of,
@@ -21,7 +23,8 @@ use tla_values::{List, Text};
 
 #[tactic(auto, using(snowcat_rows::proofs::Means::means))]
 pub fn leaf_row(alloc: Global, of: Ty) -> Result<Row, AllocError>
-    ensures { IfOk result (λ r. signature_of r ≡ gives [] (mean of)) }
+    ensures mean { IfOk result (λ r. signature_of r ≡ gives [] (mean of)) }
+    ensures named { IsNamed of → IfOk result (λ r. RowNamed r) }
 {
     gives(alloc, Vec::new(alloc), of)
 }
@@ -304,8 +307,9 @@ fn single_row(alloc: Global, first: u32) -> Result<Row, AllocError>
 
 #[tactic(auto, using(snowcat_rows::proofs::Means::means))]
 fn records_row(alloc: Global, first: u32, names: &[Text], n: usize) -> Result<Row, AllocError>
-    ensures { let a = unknown_from first in IfOk result (λ r. signature_of r
+    ensures mean { let a = unknown_from first in IfOk result (λ r. signature_of r
         ≡ gives (sets_of (from_type a 0 n)) (set_type (record_type (zip names.now (from_type a 0 n))))) }
+    ensures named { IfOk result (λ r. RowNamed r) }
 {
     let items = unknowns(alloc, first, 0, n)?;
     let of = set_of(alloc, record_of(alloc, names, items.as_slice())?)?;
@@ -315,8 +319,9 @@ fn records_row(alloc: Global, first: u32, names: &[Text], n: usize) -> Result<Ro
 
 #[tactic(auto, using(snowcat_rows::proofs::Means::means))]
 fn record_of_row(alloc: Global, first: u32, names: &[Text], n: usize) -> Result<Row, AllocError>
-    ensures { let a = unknown_from first in IfOk result (λ r. signature_of r
+    ensures mean { let a = unknown_from first in IfOk result (λ r. signature_of r
         ≡ gives (from_type a 0 n) (record_type (zip names.now (from_type a 0 n)))) }
+    ensures named { IfOk result (λ r. RowNamed r) }
 {
     let types = unknowns(alloc, first, 0, n)?;
     let of = record_of(alloc, names, types.as_slice())?;
@@ -509,7 +514,8 @@ fn record_row(
     n: usize,
     first: u32,
 ) -> Result<Row, AllocError>
-    ensures { IfOk result (λ r. signature_of r ≡ (record_row op.now names.now n).says (unknown_from first)) }
+    ensures mean { IfOk result (λ r. signature_of r ≡ (record_row op.now names.now n).says (unknown_from first)) }
+    ensures named { has_fields op.now ≡ true → IfOk result (λ r. RowNamed r) }
 {
     match op {
         Op::RecSet(fields) => records_row(alloc, first, fields.as_slice(), n),
@@ -527,7 +533,8 @@ fn function_row(
     n: usize,
     first: u32,
 ) -> Result<Row, AllocError>
-    ensures { IfOk result (λ r. signature_of r ≡ (function_row op.now names.now n).says (unknown_from first)) }
+    ensures mean { IfOk result (λ r. signature_of r ≡ (function_row op.now names.now n).says (unknown_from first)) }
+    ensures named { has_fields op.now ≡ true → IfOk result (λ r. RowNamed r) }
 {
     match op {
         Op::FunSet => functions_row(alloc, first),
@@ -548,7 +555,8 @@ fn binder_row(
     n: usize,
     first: u32,
 ) -> Result<Row, AllocError>
-    ensures { IfOk result (λ r. signature_of r ≡ (binder_row op.now names.now n).says (unknown_from first)) }
+    ensures mean { IfOk result (λ r. signature_of r ≡ (binder_row op.now names.now n).says (unknown_from first)) }
+    ensures named { has_fields op.now ≡ true → IfOk result (λ r. RowNamed r) }
 {
     match op {
         Op::Exists | Op::Forall => test_row(alloc, first, names),
@@ -561,7 +569,8 @@ fn binder_row(
 
 #[tactic(auto, using(snowcat_rows::proofs::Means::means))]
 fn set_row(alloc: Global, op: &Op, names: &[Text], n: usize, first: u32) -> Result<Row, AllocError>
-    ensures { IfOk result (λ r. signature_of r ≡ (set_row op.now names.now n).says (unknown_from first)) }
+    ensures mean { IfOk result (λ r. signature_of r ≡ (set_row op.now names.now n).says (unknown_from first)) }
+    ensures named { has_fields op.now ≡ true → IfOk result (λ r. RowNamed r) }
 {
     match op {
         Op::SetEnum => items_row(alloc, first, n),
@@ -587,7 +596,8 @@ fn number_row(
     n: usize,
     first: u32,
 ) -> Result<Row, AllocError>
-    ensures { IfOk result (λ r. signature_of r ≡ (number_row op.now names.now n).says (unknown_from first)) }
+    ensures mean { IfOk result (λ r. signature_of r ≡ (number_row op.now names.now n).says (unknown_from first)) }
+    ensures named { has_fields op.now ≡ true → IfOk result (λ r. RowNamed r) }
 {
     match op {
         Op::Lt | Op::Gt | Op::Le | Op::Ge => numbers_row(alloc, Ty::Bool),
@@ -607,7 +617,8 @@ fn equality_row(
     n: usize,
     first: u32,
 ) -> Result<Row, AllocError>
-    ensures { IfOk result (λ r. signature_of r ≡ (equality_row op.now names.now n).says (unknown_from first)) }
+    ensures mean { IfOk result (λ r. signature_of r ≡ (equality_row op.now names.now n).says (unknown_from first)) }
+    ensures named { has_fields op.now ≡ true → IfOk result (λ r. RowNamed r) }
 {
     match op {
         Op::Eq | Op::Ne | Op::Assign => equal_row(alloc, first),
@@ -625,7 +636,8 @@ pub fn type_row(
     n: usize,
     first: u32,
 ) -> Result<Row, AllocError>
-    ensures { IfOk result (λ r. signature_of r ≡ (type_row op.now names.now n).says (unknown_from first)) }
+    ensures mean { IfOk result (λ r. signature_of r ≡ (type_row op.now names.now n).says (unknown_from first)) }
+    ensures named { has_fields op.now ≡ true → IfOk result (λ r. RowNamed r) }
 {
     match op {
         Op::Bool(_) => leaf_row(alloc, Ty::Bool),

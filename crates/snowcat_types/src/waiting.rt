@@ -10,6 +10,13 @@ pub enum Index {
     NoLiteral,
 }
 
+/// What the choice of the node above must know of a node: its place, and whether it is a literal.
+#[derive(Drop)]
+pub struct Sight {
+    pub place: Place,
+    pub literal: Index,
+}
+
 /// A node that waits. All its types are unknown ones of its own, which are named by numbers.
 #[derive(Drop)]
 pub enum Wait {

@@ -1,5 +1,6 @@
 -- What built rows of the table mean.
-use Rattle.std.specs.Prelude.{ℕ, ◌+◌, List, [], ◌∷◌, ◌++◌, get_or, map, Option, None, option_map, if◌then◌else◌}
+use Rattle.std.specs.Prelude.{ℕ, ◌+◌, List, [], ◌∷◌, ◌++◌, get_or, length, map, Option, None, option_map, if◌then◌else◌}
+use Rattle.tla_meaning.specs.declared.expr.Expr.{Expr, out-Expr}
 use Rattle.tla_meaning.specs.Scopes.{same_text}
 use Rattle.snowcat_rows.specs.declared.types.Ty.{Ty}
 use Rattle.snowcat_rows.specs.Types.{Term, mean, var}
@@ -7,7 +8,7 @@ use Rattle.snowcat_types.specs.declared.around.Around.{Around}
 use Rattle.snowcat_types.specs.declared.forms.Operand.{Operand as BuiltOperand}
 use Rattle.snowcat_types.specs.declared.forms.Row.{Row as BuiltRow}
 use Rattle.snowcat_types.specs.TypeForms.{bool_type}
-use Rattle.snowcat_types.specs.Rows.{Scope, Operand, Signature, Context, plain, index_types, reached_after, typed_names}
+use Rattle.snowcat_types.specs.Rows.{Scope, Operand, Signature, TypeRow, Context, row_of, plain, index_types, reached_after, typed_names}
 
 -- unknown types from a number on
 abbrev pub unknown_from : ℕ → ℕ → Term
@@ -41,4 +42,8 @@ note_of [] x = None
 note_of (n ∷ ns) x = if same_text x n.0 then option_map mean n.1 else note_of ns x
 
 abbrev pub context_of : Around → Context
-context_of a = record { declared = var; noted = note_of a.notes; bound = scope_of a.bound }
+context_of a = record { declared = var; noted = note_of a.notes; bound = scope_of a.bound.items }
+
+-- the row of a node
+abbrev pub row_at : Context → Expr → TypeRow
+row_at c e = row_of c (out-Expr e).op (out-Expr e).binds (length (out-Expr e).args)
