@@ -1,0 +1,265 @@
+// What is answered of the cases, `NAMES | TREES ==> ANSWER` a line, the front left out where nothing is declared. NAMES has
+// `x: T`, `x@4: T` with the column of its place, `x` without an annotation, and `$a = T` for an alias. TREES, which
+// `reader` reads, are the last of CInit, the assumptions, Init, Next and the invariants; the others are TRUE. ANSWER has
+// the types of their nodes, each before its children; or the types that clash with their place and the places of
+// defaults; or the place of an annotation that is no type; or a name without one.
+use crate::choices::{ACCESSES, DEFAULTS, TUPLES, UPDATES};
+use crate::notes::{ALIASES, CAUSES, DECLARED, DEFINITIONS, PARTS};
+use crate::operators::{BINDERS, FUNCTIONS, LOGIC, NUMBERS, SEQUENCES, SETS};
+use crate::reader::{leaf, number, place, read, text_of};
+use crate::refusals::{CLASHES, FIRST_CLASHES};
+use snowcat_rows::{Ty, Typed, renumbered, show_type};
+use snowcat_types::{TypeFault, is_typable, typing};
+use std::alloc::{AllocError, Global};
+use std::test::Fail;
+use tla_meaning::{Decl, Expr, Job, Op, Place};
+use tla_values::{List, Text};
+
+// What is declared, and the aliases.
+#[derive(Drop)]
+struct Front {
+    names: Vec<Decl>,
+    aliases: Vec<(Text, Text)>,
+}
+
+fn add_name(alloc: Global, entry: &str, names: &mut Vec<Decl>) -> Result<(), AllocError> {
+    let (name, note) = match entry.split_once(": ") {
+        Some((name, t)) => (name, format!(in alloc; " @type: {t};")?),
+        None => (entry, String::new(alloc)),
+    };
+    let (name, column) = name.split_once("@").unwrap_or((name, "0"));
+    names.push(Decl {
+        name: text_of(alloc, name.as_bytes())?,
+        place: place(number(column.as_bytes())),
+        constant: false,
+        note: text_of(alloc, note.as_bytes())?,
+    })?;
+    Ok(())
+}
+
+fn front_of(alloc: Global, text: &str) -> Result<Front, AllocError> {
+    let mut names = Vec::new(alloc);
+    let mut aliases = Vec::new(alloc);
+    for entry in text.split("; ") {
+        match entry.strip_prefix("$").unwrap_or("").split_once(" = ") {
+            Some((name, t)) => {
+                let alias = (
+                    text_of(alloc, name.as_bytes())?,
+                    text_of(alloc, t.as_bytes())?,
+                );
+                aliases.push(alias)?;
+            }
+            None if entry == "" => {}
+            None => add_name(alloc, entry, &mut names)?,
+        }
+    }
+    Ok(Front { names, aliases })
+}
+
+fn set_part(alloc: Global, job: &mut Job, part: usize, e: Expr) -> Result<(), AllocError> {
+    match part {
+        0 => job.cinit = e,
+        1 => job.assume = e,
+        2 => job.init = e,
+        3 => job.next = e,
+        _ => job.invs.push((text_of(alloc, b"Inv")?, e))?,
+    }
+    Ok(())
+}
+
+// The job whose last parts are the trees, and how many parts stand before them.
+fn job_of(alloc: Global, front: &str, trees: Vec<Expr>) -> Result<(Job, usize), AllocError> {
+    let Front { names, aliases } = front_of(alloc, front)?;
+    let mut job = Job {
+        files: List::new(alloc),
+        names: List::from_vec(names),
+        aliases: List::from_vec(aliases),
+        cinit: leaf(alloc, Op::Bool(true), 0),
+        assume: leaf(alloc, Op::Bool(true), 0),
+        init: leaf(alloc, Op::Bool(true), 0),
+        next: leaf(alloc, Op::Bool(true), 0),
+        invs: List::new(alloc),
+    };
+    let before = 5usize.saturating_sub(trees.len());
+    for (i, e) in trees.into_iter().enumerate() {
+        set_part(alloc, &mut job, before.wrapping_add(i), e)?;
+    }
+    Ok((job, before))
+}
+
+fn show_types(alloc: Global, types: &[Ty], out: &mut Vec<u8>) -> Result<(), AllocError> {
+    for (i, t) in types.iter().enumerate() {
+        if i > 0 {
+            out.extend_from_slice(b"; ")?;
+        }
+        show_type(alloc, t, out)?;
+    }
+    Ok(())
+}
+
+// The types of the parts from this one on; where there is none, those of the names.
+fn show_typed(
+    alloc: Global,
+    typed: &Typed,
+    from: usize,
+    out: &mut Vec<u8>,
+) -> Result<(), AllocError> {
+    let parts = typed.parts.as_slice();
+    if parts.len() <= from {
+        return show_types(alloc, typed.names.as_slice(), out);
+    }
+    for (i, part) in parts.iter().enumerate() {
+        if i > from {
+            out.extend_from_slice(b" / ")?;
+        }
+        if i >= from {
+            show_types(alloc, part.as_slice(), out)?;
+        }
+    }
+    Ok(())
+}
+
+fn show_column(
+    alloc: Global,
+    mark: &str,
+    place: Place,
+    out: &mut Vec<u8>,
+) -> Result<(), AllocError> {
+    let column = place.col;
+    out.extend_from_slice(format!(in alloc; " {mark}{column}")?.as_bytes())
+}
+
+fn show_clash(alloc: Global, a: &Ty, b: &Ty, out: &mut Vec<u8>) -> Result<(), AllocError> {
+    let (a, b) = renumbered(alloc, a, b)?;
+    show_type(alloc, &a, out)?;
+    out.extend_from_slice(b" # ")?;
+    show_type(alloc, &b, out)
+}
+
+fn show_defaults(alloc: Global, places: &[Place], out: &mut Vec<u8>) -> Result<(), AllocError> {
+    if !places.is_empty() {
+        out.extend_from_slice(b" defaults")?;
+    }
+    for place in places {
+        show_column(alloc, "", *place, out)?;
+    }
+    Ok(())
+}
+
+fn show_fault(alloc: Global, fault: &TypeFault, out: &mut Vec<u8>) -> Result<(), AllocError> {
+    match fault {
+        TypeFault::NotAnnotated(name, place) => {
+            out.extend_from_slice(b"untyped ")?;
+            out.extend_from_slice(name.bytes())?;
+            show_column(alloc, "@", *place, out)
+        }
+        TypeFault::BadAnnotation(place) => {
+            out.extend_from_slice(b"bad")?;
+            show_column(alloc, "@", *place, out)
+        }
+        TypeFault::Clash(place, a, b, defaults) => {
+            show_clash(alloc, a, b, out)?;
+            show_column(alloc, "@", *place, out)?;
+            show_defaults(alloc, defaults.as_slice(), out)
+        }
+        TypeFault::Memory(_) => out.extend_from_slice(b"memory"),
+    }
+}
+
+// What is answered of a job, the types from this part on.
+fn show_answer(alloc: Global, job: &Job, from: usize, out: &mut Vec<u8>) -> Result<(), AllocError> {
+    if !is_typable(alloc, job)? {
+        return out.extend_from_slice(b"not typable");
+    }
+    match typing(alloc, job) {
+        Ok(typed) => show_typed(alloc, &typed, from, out),
+        Err(fault) => show_fault(alloc, &fault, out),
+    }
+}
+
+fn answered(alloc: Global, front: &str, trees: &str) -> Result<Vec<u8>, AllocError> {
+    let trees = read(alloc, trees.as_bytes())?;
+    let (job, from) = job_of(alloc, front, trees)?;
+    let mut out = Vec::new(alloc);
+    show_answer(alloc, &job, from, &mut out)?;
+    Ok(out)
+}
+
+fn add_bytes(all: &mut String, bytes: &[u8]) -> Result<(), AllocError> {
+    for byte in bytes {
+        all.push(char::from(*byte))?;
+    }
+    Ok(())
+}
+
+// The line and what is answered, where that is not what it says.
+fn wrong_line(alloc: Global, line: &str, all: &mut String) -> Result<(), AllocError> {
+    let (asked, wanted) = line.split_once(" ==> ").unwrap_or((line, ""));
+    let (front, trees) = asked.split_once(" | ").unwrap_or(("", asked));
+    let given = answered(alloc, front, trees)?;
+    if given.as_slice() != wanted.as_bytes() {
+        all.push_str(line)?;
+        all.push_str(" GIVES ")?;
+        add_bytes(all, given.as_slice())?;
+        all.push('\n')?;
+    }
+    Ok(())
+}
+
+fn wrong(alloc: Global, table: &str) -> Result<String, AllocError> {
+    let mut all = String::new(alloc);
+    for line in table.lines() {
+        wrong_line(alloc, line, &mut all)?;
+    }
+    Ok(all)
+}
+
+#[test]
+fn operators_have_their_types(rt: HostRuntime) -> Result<(), Fail> {
+    for table in [LOGIC, NUMBERS, SETS, BINDERS, FUNCTIONS, SEQUENCES] {
+        assert_eq!(rt; wrong(rt.alloc(), table)?.as_str(), "");
+    }
+    Ok(())
+}
+
+#[test]
+fn types_that_differ_clash_at_their_node(rt: HostRuntime) -> Result<(), Fail> {
+    for table in [CLASHES, FIRST_CLASHES] {
+        assert_eq!(rt; wrong(rt.alloc(), table)?.as_str(), "");
+    }
+    Ok(())
+}
+
+#[test]
+fn overloaded_nodes_take_a_choice(rt: HostRuntime) -> Result<(), Fail> {
+    for table in [TUPLES, ACCESSES, UPDATES] {
+        assert_eq!(rt; wrong(rt.alloc(), table)?.as_str(), "");
+    }
+    Ok(())
+}
+
+#[test]
+fn defaults_are_taken_in_the_order_of_places(rt: HostRuntime) -> Result<(), Fail> {
+    assert_eq!(rt; wrong(rt.alloc(), DEFAULTS)?.as_str(), "");
+    Ok(())
+}
+
+#[test]
+fn annotations_are_read(rt: HostRuntime) -> Result<(), Fail> {
+    for table in [DECLARED, ALIASES, CAUSES] {
+        assert_eq!(rt; wrong(rt.alloc(), table)?.as_str(), "");
+    }
+    Ok(())
+}
+
+#[test]
+fn definitions_are_typed_at_each_use(rt: HostRuntime) -> Result<(), Fail> {
+    assert_eq!(rt; wrong(rt.alloc(), DEFINITIONS)?.as_str(), "");
+    Ok(())
+}
+
+#[test]
+fn each_part_has_its_types(rt: HostRuntime) -> Result<(), Fail> {
+    assert_eq!(rt; wrong(rt.alloc(), PARTS)?.as_str(), "");
+    Ok(())
+}
