@@ -38,7 +38,7 @@ front_counted p (x ∷ xs) (suc i) = by_head (p x) (counted p (take i xs)) (coun
 front_counts : {X : Type 0} (p : X → Bool) (xs : List X) (i : ℕ) → count_by p (take i xs) ≤ count_by p xs
 front_counts p xs i = omega (arith, as_counted p (take i xs), as_counted p xs, front_counted p xs i)
 
-both_true : (a b : Bool) → a ≡ true → b ≡ true → (a && b) ≡ true
+pub both_true : (a b : Bool) → a ≡ true → b ≡ true → (a && b) ≡ true
 both_true true b p q = q
 both_true false b p q = p
 

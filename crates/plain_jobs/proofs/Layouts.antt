@@ -11,10 +11,10 @@ use Rattle.tla_meaning.specs.declared.place.Place.{Place}
 use Rattle.tla_meaning.specs.BooleanLayout.{IsBooleanModule, behind, branch_trees, conjunct_text, conjunct_tree, conjunct_trees, conjunction_tree, declarations, gives_each, init_line, is_branch, is_guard, job_of, leaf, operand, operator, place_at, tree}
 use Rattle.plain_jobs.specs.Layout.{said_by}
 use Rattle.plain_jobs.specs.Parts.{all_conjuncts, branches_of, conjuncts_of, each_conjuncts, part}
-use Rattle.plain_jobs.specs.Plain.{GivesEach, IsBranch, IsPlain, gives, is_boolean, is_item}
+use Rattle.plain_jobs.specs.Plain.{GivesEach, IsBranch, IsPlain, gives, is_item, is_variable}
 use Rattle.plain_jobs.specs.declared.parts.Part.{Part}
 use Rattle.plain_jobs.specs.declared.parts.Part.TheVariants.{Conjuncts}
-use Rattle.plain_jobs.proofs.Counts.{as_counted, counted}
+use Rattle.plain_jobs.proofs.Counts.{as_counted, both_true, counted}
 use Rattle.plain_jobs.proofs.Trees.{part-roll}
 
 -- ---- trees
@@ -95,12 +95,8 @@ are_items n i primed (c ∷ cs) h =
     let here : c.var ≡ i = eqb-true c.var i firsts.0 in
     let rest = are_items n (i + 1) primed cs parts.1 in
     let le : i + 1 ≤ n = rest.0 in
-    (omega arith, both (nat_lt c.var n && (if primed then c.primed else not c.primed)) _ (both (nat_lt c.var n) _ (below c.var n (omega arith)) firsts.1) rest.1)
+    (omega arith, both_true (nat_lt c.var n && (if primed then c.primed else not c.primed)) _ (both_true (nat_lt c.var n) _ (below c.var n (omega arith)) firsts.1) rest.1)
   where
-    both : (a b : Bool) → a ≡ true → b ≡ true → (a && b) ≡ true
-    both true b p q = q
-    both false b p q = p
-
     below : (a b : ℕ) → a < b → nat_lt a b ≡ true
     below a b lt = grind (arith, lt)
 
@@ -165,7 +161,7 @@ some_of_branches n (b ∷ bs) some h =
     let parts = and_parts (is_branch n b) (list_all (is_branch n) bs) h in
     All-cons (λ (c : List Conjunct). 0 < length c) b bs (some_of_branch n b some parts.0) (some_of_branches n bs some parts.1)
 
-declared : (line : ℕ) (xs : List (List ℕ)) → (length xs ≡ length (declarations line xs)) × (list_all is_boolean (declarations line xs) ≡ true)
+declared : (line : ℕ) (xs : List (List ℕ)) → (length xs ≡ length (declarations line xs)) × (list_all is_variable (declarations line xs) ≡ true)
 declared line [] = (refl, refl)
 declared line (x ∷ xs) = let rest = declared (line + 2) xs in (ap (λ (n : ℕ). suc n) rest.0, rest.1)
 
@@ -176,7 +172,7 @@ layout_said file m wf =
       said = record {
         vars = names.0;
         some = subst (λ (n : ℕ). 0 < n) names.0 wf.some;
-        booleans = names.1;
+        variables = names.1;
         cinit = part-roll _;
         assume = part-roll _;
         init = ap conjuncts_of (conjunction_part m.vars (place_at (init_line m) 9) m.init (some_items (length m.vars) false m.init wf.some wf.init));

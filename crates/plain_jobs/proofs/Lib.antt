@@ -1,6 +1,8 @@
 pub mod Counts
 pub mod JobLaws
+pub mod EachTyping
 pub mod Layouts
-pub mod Notes
+pub mod LayoutTypes
 pub mod Trees
 pub mod Truths
+pub mod Typable

@@ -1,5 +1,5 @@
 -- The equations of the trees.
-use Rattle.std.proofs.Common.{◌≡◌, List, ℕ, map, ◌∙◌, ap, sym}
+use Rattle.std.proofs.Common.{◌≡◌, List, map, ◌∙◌, ap, sym}
 use Rattle.tla_meaning.specs.declared.expr.Expr.{Expr, out-Expr, roll-Expr}
 use Rattle.tla_meaning.specs.declared.expr.Expr.TheOpen.{Expr-F}
 use Rattle.tla_meaning.specs.declared.expr.Expr.TheFolds.{fold-roll-Expr, fold_out-Expr}

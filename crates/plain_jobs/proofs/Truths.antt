@@ -29,7 +29,7 @@ use Rattle.tla_meaning.specs.Operators.{yes_no}
 use Rattle.tla_meaning.specs.Scopes.{Denotation}
 use Rattle.tla_meaning.proofs.MeaningLemmas.{belongs-out, val-roll, denotation-roll}
 use Rattle.plain_jobs.specs.Holds.{all_hold_in, asks_for, holds_in, some_hold_in, value_at}
-use Rattle.plain_jobs.specs.Parts.{part, part_at, all_conjuncts, each_conjuncts, conjunction, disjunction, element, equal, noted}
+use Rattle.plain_jobs.specs.Parts.{part, part_at, all_conjuncts, each_conjuncts, conjunction, disjunction, element, equal}
 use Rattle.plain_jobs.specs.declared.parts.Part.{Part}
 use Rattle.plain_jobs.specs.declared.parts.Part.TheVariants.{Variable, Truth, TruthValues, Conjuncts, Branches, Other}
 use Rattle.plain_jobs.proofs.Trees.{part-roll}
@@ -105,10 +105,10 @@ element_effect w m p xs es s t = simp (denotation-roll, val-roll)
 pub some_same : {X : Type 0} (x y : X) → Some x ≡ Some y → x ≡ y
 some_same {X = X} x y e = ap (λ (o : Option X). elim o as (λ _. X) [ None ↦ x | Some z ↦ z ]) e
 
-abbrev Split : Part → List Part → List Conjunct → Type 0
+abbrev pub Split : Part → List Part → List Conjunct → Type 0
 Split q ps cs = (front : List Conjunct) × (rest : List Conjunct) × (q ≡ Conjuncts front) × (all_conjuncts ps ≡ Some rest) × (front ++ rest ≡ cs)
 
-split_conjuncts : (q : Part) (ps : List Part) (cs : List Conjunct) → all_conjuncts (q ∷ ps) ≡ Some cs → Split q ps cs
+pub split_conjuncts : (q : Part) (ps : List Part) (cs : List Conjunct) → all_conjuncts (q ∷ ps) ≡ Some cs → Split q ps cs
 split_conjuncts (Conjuncts front) ps cs e = by (all_conjuncts ps) refl e
   where
     by : (o : Option (List Conjunct)) → all_conjuncts ps ≡ o → option_map (λ ds. front ++ ds) o ≡ Some cs → Split (Conjuncts front) ps cs
@@ -120,10 +120,10 @@ split_conjuncts TruthValues ps cs e = absurd (cc)
 split_conjuncts (Branches bs) ps cs e = absurd (cc)
 split_conjuncts Other ps cs e = absurd (cc)
 
-abbrev SplitEach : Part → List Part → List (List Conjunct) → Type 0
+abbrev pub SplitEach : Part → List Part → List (List Conjunct) → Type 0
 SplitEach q ps bs = (front : List Conjunct) × (rest : List (List Conjunct)) × (q ≡ Conjuncts front) × (each_conjuncts ps ≡ Some rest) × (front ∷ rest ≡ bs)
 
-split_branches : (q : Part) (ps : List Part) (bs : List (List Conjunct)) → each_conjuncts (q ∷ ps) ≡ Some bs → SplitEach q ps bs
+pub split_branches : (q : Part) (ps : List Part) (bs : List (List Conjunct)) → each_conjuncts (q ∷ ps) ≡ Some bs → SplitEach q ps bs
 split_branches (Conjuncts front) ps bs e = by (each_conjuncts ps) refl e
   where
     by : (o : Option (List (List Conjunct))) → each_conjuncts ps ≡ o → option_map (λ rest. front ∷ rest) o ≡ Some bs → SplitEach (Conjuncts front) ps bs
@@ -152,11 +152,11 @@ effects_and_more false c es rest = refl
 effects_or_more : (b c : Bool) (es : List Effect) → effects_or es ≡ sure c → effects_or (sure b ∷ es) ≡ sure (b || c)
 effects_or_more b c es rest = ap (λ (r : Effect). record { holds = b || r.holds; fault = r.fault }) rest
 
-all_front : {X : Type 0} (P : X → Type 0) (xs ys : List X) → All P (xs ++ ys) → All P xs
+pub all_front : {X : Type 0} (P : X → Type 0) (xs ys : List X) → All P (xs ++ ys) → All P xs
 all_front P [] ys all = All-nil P
 all_front P (x ∷ xs) ys all = All-cons P x xs (All-head P x (xs ++ ys) all) (all_front P xs ys (All-tail P x (xs ++ ys) all))
 
-all_back : {X : Type 0} (P : X → Type 0) (xs ys : List X) → All P (xs ++ ys) → All P ys
+pub all_back : {X : Type 0} (P : X → Type 0) (xs ys : List X) → All P (xs ++ ys) → All P ys
 all_back P [] ys all = all
 all_back P (x ∷ xs) ys all = all_back P xs ys (All-tail P x (xs ++ ys) all)
 

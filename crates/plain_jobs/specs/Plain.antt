@@ -1,7 +1,10 @@
--- Which jobs are checked so far: those of Boolean variables, whose parts are conjunctions of `x = TRUE`, `x = FALSE` and
--- `x \in BOOLEAN`.
+-- Which jobs are checked so far: those whose names are variables that have the type Bool, and whose parts are
+-- conjunctions of `x = TRUE`, `x = FALSE` and `x \in BOOLEAN`.
 use Rattle.std.specs.Prelude.{◌≡◌, ℕ, ◌<◌, Bool, true, false, not, ◌&&◌, ◌||◌, List, [], ◌∷◌, length, codes, Some, nat_lt, nat_eq, is_some, IsTrue, All, count_by, if◌then◌else◌}
-use Rattle.std.specs.List.{list_all, starts_with}
+use Rattle.std.specs.List.{list_all}
+use Rattle.snowcat_rows.specs.declared.types.Ty.{Ty, out-Ty}
+use Rattle.snowcat_rows.specs.declared.types.Ty.TheOpen as layer
+use Rattle.snowcat_rows.specs.declared.types.Typed.{Typed}
 use Rattle.tla_meaning.specs.declared.boolean.Conjunct.{Conjunct}
 use Rattle.tla_meaning.specs.declared.expr.Decl.{Decl}
 use Rattle.tla_meaning.specs.declared.expr.Expr.{Expr}
@@ -46,20 +49,14 @@ pub record IsWhole (m : Plain) : Type 0 where
 
 -- ---- jobs
 
--- somewhere in the bytes
-abbrev pub has_text : List ℕ → List ℕ → Bool
-has_text text [] = starts_with nat_eq [] text
-has_text text (b ∷ bytes) = starts_with nat_eq (b ∷ bytes) text || has_text text bytes
-
--- a variable whose annotation says that it is Boolean
-abbrev pub is_boolean : Decl → Bool
-is_boolean d = not d.constant && has_text (codes "@type: Bool;") d.note
+abbrev pub is_variable : Decl → Bool
+is_variable d = not d.constant
 
 -- the job has no constants and assumes nothing, and its parts say this
 pub record IsSaid (job : Job) (m : Plain) : Type 0 where
   pub vars : m.vars ≡ length job.names
   pub some : 0 < length job.names
-  pub booleans : IsTrue (list_all is_boolean job.names)
+  pub variables : IsTrue (list_all is_variable job.names)
   pub cinit : part job.cinit ≡ Truth true
   pub assume : part job.assume ≡ Truth true
   pub init : conjuncts_of (part job.init) ≡ Some m.init
@@ -72,3 +69,13 @@ pub record IsSaid (job : Job) (m : Plain) : Type 0 where
 pub record IsPlain (job : Job) (m : Plain) : Type 0 where
   pub said : IsSaid job m
   pub whole : IsWhole m
+
+-- ---- types
+
+abbrev pub is_boolean : Ty → Bool
+is_boolean t = elim (out-Ty t) as (λ _. Bool) [ layer.Bool ↦ true | _ ↦ false ]
+
+-- this is what the job says, and all these types of names are Bool
+pub record IsPlainBy (job : Job) (t : Typed) (m : Plain) : Type 0 where
+  pub plain : IsPlain job m
+  pub booleans : IsTrue (list_all is_boolean t.names)

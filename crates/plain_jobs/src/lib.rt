@@ -9,4 +9,7 @@ mod theorems;
 
 pub use parts::Part;
 pub use plain::{Plain, plain_of};
-pub use theorems::{jobs_mean_what_they_say, layouts_are_plain};
+pub use theorems::{
+    jobs_mean_what_they_say, layouts_are_plain, plain_jobs_are_plain_by_each_typing,
+    plain_jobs_are_typable,
+};

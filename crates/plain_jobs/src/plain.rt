@@ -3,11 +3,12 @@ ghost use Rattle.std.specs.Prelude.{◌≡◌, ◌↔◌, ◌<◌, ◌&&◌, ◌
 ghost use Rattle.std.specs.List.{list_all};
 ghost use Rattle.tla_meaning.specs.declared.expr.Expr.{Expr as Tree};
 ghost use Rattle.plain_jobs.specs.Parts.{branches_of, conjuncts_of, part};
-ghost use Rattle.plain_jobs.specs.Plain.{GivesEach, IsBranch, IsPlain, IsSaid, IsStart, IsWhole, gives, has_text, is_boolean, is_guard, is_item};
+ghost use Rattle.plain_jobs.specs.Plain.{GivesEach, IsBranch, IsPlain, IsSaid, IsPlainBy, IsStart, IsWhole, gives, is_boolean, is_guard, is_item, is_variable};
 ghost use Rattle.plain_jobs.specs.declared.parts.Part.TheVariants.{Truth};
 ghost use Rattle.plain_jobs.specs.declared.plain.Plain.{Plain as Source};
 
 use crate::parts::{Part, part_of};
+use snowcat_rows::{Ty, Typed};
 use std::alloc::{AllocError, Global};
 use tla_meaning::{Conjunct, Decl, Expr, Job};
 use tla_values::List;
@@ -23,11 +24,14 @@ pub struct Plain {
     pub inv: List<Conjunct>,
 }
 
-/// What the job says, where it is one of those that are checked so far.
-pub fn plain_of(alloc: Global, job: &Job) -> Result<Option<Plain>, AllocError>
-    ensures plain { IfOk result (λ o. IfSome o (IsPlain job.now)) }
-    ensures none { IfOk result (λ o. IfNone o ((m : Source) → IsPlain job.now m → ⊥)) }
+/// What the job of these types says, where it is one of those that are checked so far.
+pub fn plain_of(alloc: Global, job: &Job, typed: &Typed) -> Result<Option<Plain>, AllocError>
+    ensures plain { IfOk result (λ o. IfSome o (IsPlainBy job.now typed.now)) }
+    ensures none { IfOk result (λ o. IfNone o ((m : Source) → IsPlainBy job.now typed.now m → ⊥)) }
 {
+    if !are_boolean(typed.names.as_slice()) {
+        return Ok(None);
+    }
     let Some(source) = said(alloc, job)? else {
         return Ok(None);
     };
@@ -41,10 +45,11 @@ pub fn plain_of(alloc: Global, job: &Job) -> Result<Option<Plain>, AllocError>
 // What the parts of the job say, whether or not they are whole.
 fn said(alloc: Global, job: &Job) -> Result<Option<Plain>, AllocError>
     ensures said { IfOk result (λ o. IfSome o (IsSaid job.now)) }
-    ensures only { IfOk result (λ o. IfSome o (λ m. (other : Source) → IsSaid job.now other → other ≡ m)) }
+    ensures only { IfOk result (λ o. IfSome o (λ m. (other : Source)
+        → IsSaid job.now other → other ≡ m)) }
     ensures none { IfOk result (λ o. IfNone o ((m : Source) → IsSaid job.now m → ⊥)) }
 {
-    if !has_booleans(job) || !is_truth(alloc, &job.cinit)? || !is_truth(alloc, &job.assume)? {
+    if !has_variables(job) || !is_truth(alloc, &job.cinit)? || !is_truth(alloc, &job.assume)? {
         return Ok(None);
     }
     let Some(invariant) = invariant_of(job) else {
@@ -67,36 +72,31 @@ fn said(alloc: Global, job: &Job) -> Result<Option<Plain>, AllocError>
     }))
 }
 
-// Whether there are names, all of Boolean variables.
-fn has_booleans(job: &Job) -> bool
-    ensures { IsTrue result ↔ ((0 < length job.now.names) × IsTrue (list_all is_boolean job.now.names)) }
+// Whether there are names, all of variables.
+fn has_variables(job: &Job) -> bool
+    ensures { IsTrue result
+        ↔ ((0 < length job.now.names) × IsTrue (list_all is_variable job.now.names)) }
 {
     let names = job.names.as_slice();
-    0 < names.len() && are_boolean(names)
+    0 < names.len() && are_variables(names)
 }
 
-fn are_boolean(names: &[Decl]) -> bool
-    ensures { result ≡ list_all is_boolean names.now }
+fn are_variables(names: &[Decl]) -> bool
+    ensures { result ≡ list_all is_variable names.now }
 {
-    names.iter().all(|name| is_boolean(name))
+    names.iter().all(|name| !name.constant)
 }
 
-fn is_boolean(name: &Decl) -> bool
-    ensures { result ≡ is_boolean name.now }
+fn are_boolean(types: &[Ty]) -> bool
+    ensures { result ≡ list_all is_boolean types.now }
 {
-    !name.constant && has_text(b"@type: Bool;", name.note.bytes())
+    types.iter().all(|t| is_boolean(t))
 }
 
-// Whether the text stands somewhere in the bytes.
-fn has_text(text: &[u8], bytes: &[u8]) -> bool
-    ensures { result ≡ has_text text.now bytes.now }
+fn is_boolean(t: &Ty) -> bool
+    ensures { result ≡ is_boolean t.now }
 {
-    for i in 0..bytes.len() {
-        if bytes[i..].starts_with(text) {
-            return true;
-        }
-    }
-    text.is_empty()
+    matches!(t, Ty::Bool)
 }
 
 // Whether the tree is TRUE.

@@ -3,8 +3,14 @@ use Rattle.std.specs.Prelude.{ℕ, List, [], ◌∷◌, ◌++◌, flat_map, code
 use Rattle.std.specs.Fmt.{decimal}
 use Rattle.op_inliner.specs.declared.parts.InlineFault.{InlineFault}
 use Rattle.op_inliner.specs.declared.parts.InlineFault.TheVariants as inline
+use Rattle.snowcat_rows.specs.Numbered.{numbered_together}
+use Rattle.snowcat_rows.specs.Texts.{type_text}
+use Rattle.snowcat_rows.specs.declared.types.Ty.{Ty}
+use Rattle.snowcat_types.specs.declared.faults.TypeFault.{TypeFault}
+use Rattle.snowcat_types.specs.declared.faults.TypeFault.TheVariants as types
 use Rattle.tla_lexer.specs.declared.fault.LexFault.{LexFault}
 use Rattle.tla_lexer.specs.declared.fault.LexFault.TheVariants as lex
+use Rattle.tla_meaning.specs.declared.place.Place.{Place}
 use Rattle.tla_meaning.specs.declared.op.Form.{Form}
 use Rattle.tla_meaning.specs.declared.op.Form.TheVariants as form
 use Rattle.tla_modules.specs.declared.fault.ModuleFault.{ModuleFault}
@@ -99,3 +105,27 @@ inline_text files (inline.Memory e) = []
 
 abbrev pub inline_line : List (List ℕ) → InlineFault → List ℕ
 inline_line files fault = (codes "refused: " ++ inline_text files fault) ++ codes "\n"
+
+-- ---- why a job has no typing; want of memory is told in other words
+
+-- two types, with one letter for each of their variables
+abbrev pub two_types : Ty × Ty → List ℕ
+two_types p = codes "types " ++ (type_text p.0 ++ (codes " and " ++ type_text p.1))
+
+abbrev pub behind_place : List (List ℕ) → Place → List ℕ
+behind_place files p = codes ", " ++ place_text files p
+
+-- the places of the nodes that took their default
+abbrev pub defaults_text : List (List ℕ) → List Place → List ℕ
+defaults_text files [] = []
+defaults_text files (p ∷ ps) = (codes "; defaults at " ++ place_text files p) ++ flat_map (behind_place files) ps
+
+abbrev pub type_fault_text : List (List ℕ) → TypeFault → List ℕ
+type_fault_text files (types.NotAnnotated x p) = codes "name " ++ (x ++ codes " has no type")
+type_fault_text files (types.BadAnnotation p) = codes "bad type at " ++ place_text files p
+type_fault_text files (types.Clash p a b ds) =
+    (two_types (numbered_together a b) ++ (codes " clash at " ++ place_text files p)) ++ defaults_text files ds
+type_fault_text files (types.Memory e) = []
+
+abbrev pub type_line : List (List ℕ) → TypeFault → List ℕ
+type_line files fault = (codes "refused: " ++ type_fault_text files fault) ++ codes "\n"

@@ -1,15 +1,18 @@
 // The job that the modules of a file make.
 ghost use Rattle.std.specs.Prelude.{◌≡◌, ◌∷◌, [], ℕ, List as Items, Option, IfOk, IsTrue};
 ghost use Rattle.op_inliner.specs.Known.{are_known};
+ghost use Rattle.snowcat_types.specs.Answers.{is_typable};
 ghost use Rattle.tla_meaning.specs.declared.modules.Flat.{Flat as Joined};
 ghost use Rattle.tla_modules.specs.Answers.{IsFlatModule, IsTold};
 ghost use Rattle.tla_modules.specs.Refusals.{IsCounted, IsOutside, IsRefused};
 ghost use Rattle.tool_outside.specs.Outside.{Folder};
 ghost use Rattle.plain_modules.specs.Jobs.{IsSource};
-ghost use Rattle.plain_modules.specs.inner.Judging.{IsJudged, IsOnlyFlat, IsUnmadeSo};
+ghost use Rattle.plain_modules.specs.inner.Judging.{IsJudged, IsJudgedBy, IsOnlyFlat, IsUnmadeSo, IsUntypedSo};
 
 use op_inliner::{InlineFault, is_known, job_of};
 use plain_jobs::{Plain, plain_of};
+use snowcat_rows::Typed;
+use snowcat_types::{TypeFault, is_typable, typing};
 use std::alloc::{AllocError, Global};
 use tla_meaning::{Flat, Job};
 use tla_modules::{ModuleFault, ModuleRefusal, resolve};
@@ -23,14 +26,16 @@ pub enum Source {
     Unjoined(ModuleRefusal),
     /// A flat module, in the files of these names, that makes no job.
     Unmade(List<Text>, InlineFault),
+    /// A job, in the files of these names, that has no typing.
+    Untyped(List<Text>, TypeFault),
     /// A flat module that makes no job of a form that is checked so far.
     NotBuilt,
     /// This job, whose parts say this.
     Said(Job, Plain),
 }
 
-/// Reads the modules of the root in this file, and joins and expands them. (Lamport, Specifying Systems, chapters 4 and
-/// 17.)
+/// Reads the modules of the root in this file, joins and expands them, and types the job that they make. (Lamport,
+/// Specifying Systems, chapters 4 and 17; the Apalache manual, "Type System 1.2".)
 pub fn read_job<F: Files>(alloc: Global, root: &str, files: &mut F) -> Result<Source, AllocError>
     ensures keeps { F.held files.new ≡ F.held files.old }
     ensures source { IfOk result (IsSource (F.held files.old) (F.faults files.old) (F.faults files.new) root.now) }
@@ -93,7 +98,39 @@ fn unmade(files: List<Text>, fault: InlineFault) -> Result<Source, AllocError>
 fn of_job(alloc: Global, job: Job) -> Result<Source, AllocError>
     ensures { IfOk result (IsJudged job) }
 {
-    match plain_of(alloc, &job)? {
+    if is_typable(alloc, &job)? {
+        of_typable(alloc, job)
+    } else {
+        Ok(Source::NotBuilt)
+    }
+}
+
+// And it can be typed.
+fn of_typable(alloc: Global, job: Job) -> Result<Source, AllocError>
+    requires { IsTrue (is_typable job) }
+    ensures { IfOk result (IsJudged job) }
+{
+    match typing(alloc, &job) {
+        Ok(typed) => of_typed(alloc, job, &typed),
+        Err(fault) => untyped(job.files, fault),
+    }
+}
+
+// Where it has no typing.
+fn untyped(files: List<Text>, fault: TypeFault) -> Result<Source, AllocError>
+    ensures { IfOk result (IsUntypedSo files fault) }
+{
+    match fault {
+        TypeFault::Memory(fail) => Err(fail),
+        fault => Ok(Source::Untyped(files, fault)),
+    }
+}
+
+// Where these are its types.
+fn of_typed(alloc: Global, job: Job, typed: &Typed) -> Result<Source, AllocError>
+    ensures { IfOk result (IsJudgedBy job typed.now) }
+{
+    match plain_of(alloc, &job, typed)? {
         Some(plain) => Ok(Source::Said(job, plain)),
         None => Ok(Source::NotBuilt),
     }

@@ -143,7 +143,12 @@ fn add_inline_fault(
 }
 
 // Adds words and a place.
-fn add_placed(words: &[u8], at: Place, files: &[Text], out: &mut Vec<u8>) -> Result<(), AllocError>
+pub(crate) fn add_placed(
+    words: &[u8],
+    at: Place,
+    files: &[Text],
+    out: &mut Vec<u8>,
+) -> Result<(), AllocError>
     ensures { OnOk result (out.new.items ≡ out.old.items ++ (words.now ++ place_text files.now at)) }
 {
     out.extend_from_slice(words)?;
@@ -174,7 +179,12 @@ fn add_words(first: &[u8], second: &[u8], out: &mut Vec<u8>) -> Result<(), Alloc
 }
 
 // Adds a name between words.
-fn add_name(before: &[u8], name: &Text, behind: &[u8], out: &mut Vec<u8>) -> Result<(), AllocError>
+pub(crate) fn add_name(
+    before: &[u8],
+    name: &Text,
+    behind: &[u8],
+    out: &mut Vec<u8>,
+) -> Result<(), AllocError>
     ensures { OnOk result (out.new.items ≡ out.old.items ++ (before.now ++ (name.now ++ behind.now))) }
 {
     out.extend_from_slice(before)?;

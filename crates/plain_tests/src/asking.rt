@@ -3,9 +3,9 @@
 // The expected parts are written by hand, from what the text says (Specifying Systems, sections 2.2 and 17.1).
 ghost use Rattle.std.specs.Prelude.{◌≤◌, length, IfSome};
 
-use crate::cases::{MODULES, NOT_PLAIN, PLAIN, WITHOUT_JOB};
+use crate::cases::{BADLY_TYPED, MODULES, NOT_PLAIN, PLAIN, WITHOUT_JOB};
 use crate::showing::put_plain;
-use plain_modules::{Source, inline_line, module_line, read_job};
+use plain_modules::{Source, inline_line, module_line, read_job, type_line};
 use std::alloc::{AllocError, Global};
 use std::test::Fail;
 use tla_values::List;
@@ -29,6 +29,7 @@ fn said(alloc: Global, source: &Source) -> Result<Vec<u8>, AllocError> {
         Source::NotBuilt => Vec::from_slice(alloc, b"not plain"),
         Source::Unjoined(refusal) => told(alloc, &module_line(alloc, refusal)?),
         Source::Unmade(files, fault) => told(alloc, &inline_line(alloc, files.as_slice(), fault)?),
+        Source::Untyped(files, fault) => told(alloc, &type_line(alloc, files.as_slice(), fault)?),
     }
 }
 
@@ -43,7 +44,8 @@ fn told(alloc: Global, line: &[u8]) -> Result<Vec<u8>, AllocError> {
     Vec::from_slice(alloc, line.strip_prefix(b"refused: ").unwrap_or(line))
 }
 
-// The module of these units: `;` stands for a line feed, `$` and `%` for notes on the types Bool and Int.
+// The module of these units: `;` stands for a line feed, `$` and `%` for notes on the types Bool and Int, `^` for a note
+// on a type that is none.
 fn module_of(alloc: Global, units: &[u8]) -> Result<Vec<u8>, AllocError> {
     let mut text = Vec::from_slice(alloc, b"---- MODULE M ----\n")?;
     for byte in units {
@@ -51,6 +53,7 @@ fn module_of(alloc: Global, units: &[u8]) -> Result<Vec<u8>, AllocError> {
             b';' => text.push(b'\n')?,
             b'$' => text.extend_from_slice(b"(* @type: Bool; *)")?,
             b'%' => text.extend_from_slice(b"(* @type: Int; *)")?,
+            b'^' => text.extend_from_slice(b"(* @type: Intt; *)")?,
             other => text.push(other)?,
         }
     }
@@ -105,8 +108,15 @@ fn plain_modules_say_their_parts(rt: HostRuntime) -> Result<(), Fail> {
 }
 
 #[test]
-fn other_trees_and_notes_are_not_plain(rt: HostRuntime) -> Result<(), Fail> {
+fn other_trees_and_constants_are_not_plain(rt: HostRuntime) -> Result<(), Fail> {
     let report = differing(rt.alloc(), NOT_PLAIN)?;
+    assert_eq!(rt; report.as_slice(), b"".as_slice());
+    Ok(())
+}
+
+#[test]
+fn jobs_without_types_are_refused(rt: HostRuntime) -> Result<(), Fail> {
+    let report = differing(rt.alloc(), BADLY_TYPED)?;
     assert_eq!(rt; report.as_slice(), b"".as_slice());
     Ok(())
 }

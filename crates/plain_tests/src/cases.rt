@@ -63,7 +63,7 @@ Next == x' = TRUE
 Inv == x = TRUE
 ====
 "#,
-        "not plain",
+        "name x has no type",
     ),
 ];
 
@@ -95,8 +95,7 @@ EXTENDS Naturals; VARIABLE $ x; Init == x = TRUE; Next == x' = TRUE; Inv == x = 
 VARIABLE $ x; Init == x = TRUE; Next == x' = TRUE; Inv == x = TRUE; THEOREM TRUE => 1: 0=T; 0'=T; 0=T
 VARIABLE $ x; ASSUME TRUE; Init == x = TRUE; Next == x' = TRUE; Inv == x = TRUE => 1: 0=T; 0'=T; 0=T"#;
 
-/// Jobs that are not plain: an item that is missing or stands twice, another tree, a name that is no variable's, a type
-/// that is not Bool.
+/// Jobs that are not plain: an item that is missing or stands twice, another tree, a constant.
 pub(crate) const NOT_PLAIN: &str =
     r#"VARIABLE $ x; Init == x = TRUE /\ x = TRUE; Next == x' = TRUE; Inv == x = TRUE => not plain
 VARIABLE $ x; Init == x = TRUE; Next == x' = TRUE /\ x' = FALSE; Inv == x = TRUE => not plain
@@ -124,14 +123,22 @@ VARIABLE $ x; Init == x = TRUE \/ x = FALSE; Next == x' = TRUE; Inv == x = TRUE 
 VARIABLE $ x; Init == x = TRUE; Next == x = TRUE /\ (x' = TRUE \/ x' = FALSE); Inv == x = TRUE => not plain
 VARIABLE $ x; Init == x = TRUE; Next == x' = TRUE \/ (x' = FALSE \/ x' = TRUE); Inv == x = TRUE => not plain
 CONSTANT $ x; Init == x = TRUE; Next == x' = TRUE; Inv == x = TRUE => not plain
-VARIABLE x; Init == x = TRUE; Next == x' = TRUE; Inv == x = TRUE => not plain
-VARIABLE % x; Init == x = TRUE; Next == x' = TRUE; Inv == x = TRUE => not plain
-VARIABLES $ x, y; Init == x = TRUE /\ y = TRUE; Next == x' = TRUE /\ y' = TRUE; Inv == x = TRUE => not plain
-VARIABLES $ x, % y; Init == x = TRUE /\ y = TRUE; Next == x' = TRUE /\ y' = TRUE; Inv == x = TRUE => not plain
 VARIABLE $ x; Init == x = TRUE; Next == UNCHANGED x; Inv == x = TRUE => not plain
 VARIABLE $ x; Init == x = TRUE; Next == IF x = TRUE THEN x' = FALSE ELSE x' = TRUE; Inv == x = TRUE => not plain
 VARIABLE $ x; VARIABLE $ y; Init == x = TRUE; Next == x' = TRUE; Inv == x = TRUE => not plain
 VARIABLE $ x; ASSUME ~FALSE; Init == x = TRUE; Next == x' = TRUE; Inv == x = TRUE => not plain"#;
+
+/// Jobs that have no typing: a name without annotation, an annotation that is no type, two types that clash.
+pub(crate) const BADLY_TYPED: &str =
+    r#"VARIABLE x; Init == x = TRUE; Next == x' = TRUE; Inv == x = TRUE => name x has no type
+VARIABLES $ x, y; Init == x = TRUE /\ y = TRUE; Next == x' = TRUE /\ y' = TRUE; Inv == x = TRUE => name y has no type
+CONSTANT c; VARIABLE $ x; Init == x = TRUE; Next == x' = TRUE; Inv == x = TRUE => name c has no type
+VARIABLE ^ x; Init == x = TRUE; Next == x' = TRUE; Inv == x = TRUE => bad type at M:2:29
+VARIABLE % x; Init == x = TRUE; Next == x' = TRUE; Inv == x = TRUE => types Int and Bool clash at M:3:12
+VARIABLES $ x, % y; Init == x = TRUE /\ y = TRUE; Next == x' = TRUE /\ y' = TRUE; Inv == x = TRUE => types Int and Bool clash at M:3:24
+VARIABLE $ x; % Init == x = TRUE; Next == x' = TRUE; Inv == x = TRUE => types Int and Bool clash at M:3:20
+VARIABLE $ x; Init == x = TRUE; Next == x' = TRUE; Inv == x = 1 => types Bool and Int clash at M:5:11
+VARIABLE $ x; Init == x = TRUE; Next == x' = TRUE; Inv == x \in {1} => types Bool and Int clash at M:5:11"#;
 
 /// Modules that make no job: a name that stands for two things or for none, an operator that is not there or has
 /// parameters, a form that is reached.

@@ -1,5 +1,5 @@
 -- Why an answer is given.
-use Rattle.std.proofs.Common.{◌≡◌, ℕ, ◌≤◌, inl, inr, false, List, [], ◌∷◌, length, Option, Some, None, refl, sym, ◌∙◌, ap, subst, arith}
+use Rattle.std.proofs.Common.{◌≡◌, ℕ, ◌≤◌, inl, inr, false, List, length, Option, Some, None, refl, sym, ◌∙◌, ap, subst, arith}
 use Rattle.std.specs.Prelude.{IfSome}
 use Rattle.tool_outside.specs.Causes.{Holds, HandedOut, IsCut, IsLong}
 use Rattle.tool_outside.specs.Outside.{Folder, Changes, Rose, file_at}
@@ -17,17 +17,17 @@ use Rattle.plain_jobs.specs.declared.plain.Plain.{Plain}
 use Rattle.tla_meaning.specs.declared.job.Job.{Job}
 use Rattle.trace_text.specs.declared.verdict.Verdict.{Verdict}
 use Rattle.symbolic_mc.specs.declared.answer.Answer.{Answer}
-use Rattle.symbolic_mc.specs.declared.answer.Answer.TheVariants.{Unjoined, Unmade, NotBuilt, WriteFault, Checked, NoCertificate, Rechecked}
-use Rattle.plain_modules.specs.Jobs.{IsOnlyPlainJob, IsSource, IsUnjoined, is_want}
+use Rattle.symbolic_mc.specs.declared.answer.Answer.TheVariants.{Unjoined, Unmade, Untyped, NotBuilt, WriteFault, Checked, NoCertificate, Rechecked}
+use Rattle.plain_modules.specs.Jobs.{IsOnlyPlainJob, IsSource, IsTypedPlain, IsUnjoined, is_want}
 use Rattle.plain_modules.specs.declared.reading.Source.TheVariants as source
 use Rattle.symbolic_mc.specs.Naming.{certificate_name}
-use Rattle.symbolic_mc.specs.Top.{Checks, IsAnswer, ReadFailed, IsTooLong, NotJoined, NotMade, NotPlain, WriteFailed, Found, NoFile, Reread, Saves, SavesPart, Touches, certificate_limit}
+use Rattle.symbolic_mc.specs.Top.{Checks, IsAnswer, ReadFailed, IsTooLong, NotJoined, NotMade, NotTyped, NotPlain, WriteFailed, Found, NoFile, Reread, Saves, SavesPart, Touches, certificate_limit}
 use Rattle.op_inliner.specs.declared.parts.InlineFault.{InlineFault}
+use Rattle.snowcat_types.specs.declared.faults.TypeFault.{TypeFault}
 use Rattle.tla_modules.specs.Refusals.{IsCounted}
 use Rattle.tla_modules.specs.declared.fault.ModuleFault.{ModuleFault}
 use Rattle.tla_modules.specs.declared.fault.ModuleFault.TheVariants as modules
 use Rattle.tla_modules.specs.declared.fault.ModuleRefusal.{ModuleRefusal}
-use Rattle.symbolic_mc.specs.Report.{unjoined_status}
 use Rattle.symbolic_mc.specs.Verdicts.{IsChecked}
 use Rattle.symbolic_mc.specs.Words.{Command}
 use Rattle.symbolic_mc.specs.inner.Told.{IsCalm, IsJobRead, IsReadFault, requests}
@@ -79,6 +79,10 @@ module _ (file : List ℕ) (longest : ℕ) (budget : Option ℕ) (again : Option
       → IsAnswer (requests file longest budget again) old new before now (Unmade files fault)
   not_made files fault unmade = NotMade file longest budget files fault refl unmade.0 stay
 
+  pub not_typed : (files : List (List ℕ)) (fault : TypeFault) → IsSource old before now file (source.Untyped files fault)
+      → IsAnswer (requests file longest budget again) old new before now (Untyped files fault)
+  not_typed files fault untyped = NotTyped file longest budget files fault refl untyped.0 stay
+
   pub not_plain : IsSource old before now file source.NotBuilt → IsAnswer (requests file longest budget again) old new before now NotBuilt
   not_plain not = NotPlain file longest budget refl not.0 stay
 
@@ -95,10 +99,10 @@ pub unjoined_calm : (held : Option Folder) (before now : ℕ) (file : List ℕ) 
 unjoined_calm held before now file refusal unjoined = counted_calm before now refusal.files refusal.fault unjoined.counted unjoined.no_want
 
 -- the job was read where no fault was counted and no file changed
-pub job_read : (old held : Option Folder) (file : List ℕ) (job : Job) (m : Plain) → held ≡ old → IsOnlyPlainJob old file job → IsPlain job m
+pub job_read : (old held : Option Folder) (file : List ℕ) (job : Job) (m : Plain) → held ≡ old → IsOnlyPlainJob old file job → IsTypedPlain job m
     → IsJobRead held file job m
 job_read old held file job m stay form plain =
-    record { form = subst (λ (h : Option Folder). IsOnlyPlainJob h file job) (sym stay) form; plain = plain }
+    record { form = subst (λ (h : Option Folder). IsOnlyPlainJob h file job) (sym stay) form; plain = plain.plain.plain }
 
 -- ---- a module that was checked
 

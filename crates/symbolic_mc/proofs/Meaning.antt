@@ -20,7 +20,7 @@ use Rattle.tla_meaning.specs.Numbers.{Width}
 use Rattle.tla_meaning.specs.Operators.{yes_no}
 use Rattle.tla_meaning.specs.Executions.{start, next, invariant, is_yes, IsYes, IsState, AreSteps, IsExecution, last_of}
 use Rattle.plain_jobs.specs.declared.plain.Plain.{Plain}
-use Rattle.plain_jobs.specs.Plain.{IsPlain, is_boolean}
+use Rattle.plain_jobs.specs.Plain.{IsPlain, is_variable}
 use Rattle.plain_jobs.specs.Holds.{asks_for, holds_in, all_hold_in, some_hold_in, value_at}
 use Rattle.plain_jobs.proofs.JobLaws.{means_so}
 use Rattle.symbolic_mc.specs.inner.Boolean.{allows, holds_at, all_hold, some_holds, init_holds, next_holds, inv_holds, RunsOn, IsRun}
@@ -91,11 +91,11 @@ is_yes_as o b e t = ap is_yes e ∙ yes_or_no b ∙ t
 abbrev constants : List Decl → ℕ
 constants ds = length (filter (λ (d : Decl). d.constant) ds)
 
-no_constants : (ds : List Decl) → IsTrue (list_all is_boolean ds) → constants ds ≡ 0
-no_constants [] booleans = refl
-no_constants (d ∷ ds) booleans =
-    let parts = and_parts (is_boolean d) (list_all is_boolean ds) booleans in
-    passed d.constant (and_parts (not d.constant) _ parts.0).0 (no_constants ds parts.1)
+no_constants : (ds : List Decl) → IsTrue (list_all is_variable ds) → constants ds ≡ 0
+no_constants [] variables = refl
+no_constants (d ∷ ds) variables =
+    let parts = and_parts (is_variable d) (list_all is_variable ds) variables in
+    passed d.constant parts.0 (no_constants ds parts.1)
   where
     passed : (b : Bool) → not b ≡ true → constants ds ≡ 0 → length (if b then d ∷ filter (λ (x : Decl). x.constant) ds else filter (λ (x : Decl). x.constant) ds) ≡ 0
     passed true e none = absurd cc
@@ -119,7 +119,7 @@ steps_are : (w : Width) (job : Job) (m : Plain) (now : List Bool) (rest : List (
     → AreSteps w job (state_of now) (map state_of rest)
 steps_are w job m now [] plain size run = tt
 steps_are w job m now (later ∷ rest) plain size run =
-    let none = no_constants job.names plain.said.booleans in (
+    let none = no_constants job.names plain.said.variables in (
       record {
         state = state_is job m later plain run.0;
         keeps = ap (λ (n : ℕ). take n (state_of now).vals) none ∙ sym (ap (λ (n : ℕ). take n (state_of later).vals) none);

@@ -17,7 +17,7 @@ use Rattle.trace_text.specs.declared.verdict.Verdict.TheVariants.{Clean, Inducti
 use Rattle.trace_text.specs.declared.verdict.Where.TheVariants.{Level, Typed}
 use Rattle.symbolic_mc.specs.declared.answer.Answer.{Answer}
 use Rattle.symbolic_mc.specs.Report.{status_of, unjoined_status, verdict_status, report_of, memory_line}
-use Rattle.symbolic_mc.specs.Top.{IsAnswer, NoCommand, NotJoined, NotMade, NotPlain, WriteFailed, Found, ReadFailed, IsTooLong, NoFile, Reread, AsksForPlainJob, AsksToRecheck, IsStatus, IsVerdictStatus, IsCutStatus, Tells, TellsPart, WritesError, WritesClean, WritesSpent, WritesAccepted, certificate_limit}
+use Rattle.symbolic_mc.specs.Top.{IsAnswer, NoCommand, NotJoined, NotMade, NotTyped, NotPlain, WriteFailed, Found, ReadFailed, IsTooLong, NoFile, Reread, AsksForPlainJob, AsksToRecheck, IsStatus, IsVerdictStatus, IsCutStatus, Tells, TellsPart, WritesError, WritesClean, WritesSpent, WritesAccepted, certificate_limit}
 use Rattle.symbolic_mc.specs.Verdicts.{IsVerdict}
 use Rattle.symbolic_mc.specs.Words.{Command, Request}
 use Rattle.std.proofs.lemmas.Bool.{true≢false}
@@ -62,6 +62,7 @@ answer_status c old new before now _ (ReadFailed cert asked rose stay) = (inr (i
 answer_status c old new before now _ (IsTooLong cert asked long stay) = (inr (inr (inr (inr (inl refl)))), omega arith)
 answer_status c old new before now _ (NotJoined file longest budget refusal asked unjoined stay) = unjoined_answer (unjoined_status refusal.fault) (unjoined_either refusal.fault)
 answer_status c old new before now _ (NotMade file longest budget files fault asked unmade stay) = (inr (inr (inl refl)), omega arith)
+answer_status c old new before now _ (NotTyped file longest budget files fault asked untyped stay) = (inr (inr (inl refl)), omega arith)
 answer_status c old new before now _ (NotPlain file longest budget asked not stay) = (inr (inr (inl refl)), omega arith)
 answer_status c old new before now _ (WriteFailed verdict sections k rose saved) = (inr (inr (inr (inr (inr (inl refl))))), omega arith)
 answer_status c old new before now _ (Found verdict sections k saved) =
@@ -120,6 +121,8 @@ form_answer c old new before now _ apart form stayed (NotJoined file longest bud
     (unjoined.apart (is_told c old form) form.job (job_made c old file longest budget asked form)) stayed)
 form_answer c old new before now _ apart form stayed (NotMade file longest budget files fault asked unmade stay) =
     absurd (unmade.none (is_told c old form) form.job (job_made c old file longest budget asked form))
+form_answer c old new before now _ apart form stayed (NotTyped file longest budget files fault asked untyped stay) =
+    absurd (untyped.none (is_told c old form) form.job (job_made c old file longest budget asked form))
 form_answer c old new before now _ apart form stayed (NotPlain file longest budget asked not stay) =
     absurd (not.none (is_told c old form) form.job (job_made c old file longest budget asked form))
 form_answer c old new before now _ apart form stayed (ReadFailed cert asked rose stay) = absurd (apart _ _ form.asked asked)
@@ -134,6 +137,7 @@ cert_answer : (c : Command) (old new : Option Folder) (before now : ℕ) (answer
 cert_answer c old new before now _ apart form stayed (NoCommand none again stay) = absurd (none_some (sym again ∙ form.asked))
 cert_answer c old new before now _ apart form stayed (NotJoined file longest budget refusal asked unjoined stay) = absurd (apart _ _ asked form.asked)
 cert_answer c old new before now _ apart form stayed (NotMade file longest budget files fault asked unmade stay) = absurd (apart _ _ asked form.asked)
+cert_answer c old new before now _ apart form stayed (NotTyped file longest budget files fault asked untyped stay) = absurd (apart _ _ asked form.asked)
 cert_answer c old new before now _ apart form stayed (NotPlain file longest budget asked not stay) = absurd (apart _ _ asked form.asked)
 cert_answer c old new before now _ apart form stayed (ReadFailed cert asked rose stay) = absurd (omega arith)
 cert_answer c old new before now _ apart form stayed (IsTooLong cert asked long stay) =
@@ -151,6 +155,7 @@ usage_answer : (c : Command) (old new : Option Folder) (before now : ℕ) (answe
 usage_answer c old new before now _ none again (NoCommand check recheck stay) = refl
 usage_answer c old new before now _ none again (NotJoined file longest budget refusal asked unjoined stay) = absurd (none_some (sym none ∙ asked))
 usage_answer c old new before now _ none again (NotMade file longest budget files fault asked unmade stay) = absurd (none_some (sym none ∙ asked))
+usage_answer c old new before now _ none again (NotTyped file longest budget files fault asked untyped stay) = absurd (none_some (sym none ∙ asked))
 usage_answer c old new before now _ none again (NotPlain file longest budget asked not stay) = absurd (none_some (sym none ∙ asked))
 usage_answer c old new before now _ none again (ReadFailed cert asked rose stay) = absurd (none_some (sym again ∙ asked))
 usage_answer c old new before now _ none again (IsTooLong cert asked long stay) = absurd (none_some (sym again ∙ asked))
@@ -169,6 +174,7 @@ error_answer c old new before now was is _ coded added (IsTooLong cert asked lon
 error_answer c old new before now was is _ coded added (NotJoined file longest budget refusal asked unjoined stay) =
     absurd (unjoined_not refusal.fault 12 coded (λ e. omega (e, arith)) (λ e. omega (e, arith)))
 error_answer c old new before now was is _ coded added (NotMade file longest budget files fault asked unmade stay) = absurd (omega arith)
+error_answer c old new before now was is _ coded added (NotTyped file longest budget files fault asked untyped stay) = absurd (omega arith)
 error_answer c old new before now was is _ coded added (NotPlain file longest budget asked not stay) = absurd (omega arith)
 error_answer c old new before now was is _ coded added (WriteFailed verdict sections k rose saved) = absurd (omega arith)
 error_answer c old new before now was is _ coded added (Found (Error n fault trace) sections k saved) =
@@ -191,6 +197,7 @@ clean_answer c old new before now was is _ coded added (IsTooLong cert asked lon
 clean_answer c old new before now was is _ coded added (NotJoined file longest budget refusal asked unjoined stay) =
     absurd (unjoined_not refusal.fault 0 coded (λ e. omega (e, arith)) (λ e. omega (e, arith)))
 clean_answer c old new before now was is _ coded added (NotMade file longest budget files fault asked unmade stay) = absurd (omega arith)
+clean_answer c old new before now was is _ coded added (NotTyped file longest budget files fault asked untyped stay) = absurd (omega arith)
 clean_answer c old new before now was is _ coded added (NotPlain file longest budget asked not stay) = absurd (omega arith)
 clean_answer c old new before now was is _ coded added (WriteFailed verdict sections k rose saved) = absurd (omega arith)
 clean_answer c old new before now was is _ coded added (Found (Clean n) sections k saved) =
@@ -214,6 +221,7 @@ spent_answer c old new before now was is _ coded added (IsTooLong cert asked lon
 spent_answer c old new before now was is _ coded added (NotJoined file longest budget refusal asked unjoined stay) =
     absurd (unjoined_not refusal.fault 21 coded (λ e. omega (e, arith)) (λ e. omega (e, arith)))
 spent_answer c old new before now was is _ coded added (NotMade file longest budget files fault asked unmade stay) = absurd (omega arith)
+spent_answer c old new before now was is _ coded added (NotTyped file longest budget files fault asked untyped stay) = absurd (omega arith)
 spent_answer c old new before now was is _ coded added (NotPlain file longest budget asked not stay) = absurd (omega arith)
 spent_answer c old new before now was is _ coded added (WriteFailed verdict sections k rose saved) = absurd (omega arith)
 spent_answer c old new before now was is _ coded added (Found (Spent n (Level l)) sections k saved) =

@@ -1,5 +1,5 @@
 -- What the top call answers.
-use Rattle.std.specs.Prelude.{◌≡◌, ◌⊎◌, ℕ, ◌≤◌, List, [], ◌∷◌, length, Option, None, Some}
+use Rattle.std.specs.Prelude.{◌≡◌, ◌⊎◌, ℕ, ◌≤◌, List, length, Option, None, Some}
 use Rattle.std.specs.Io.KnownBytes.{Appends}
 use Rattle.refutation_checker.specs.declared.answers.Recheck.{Recheck}
 use Rattle.refutation_checker.specs.declared.answers.Recheck.TheVariants.{Accepted}
@@ -16,10 +16,11 @@ use Rattle.trace_text.specs.declared.verdict.Verdict.{Verdict}
 use Rattle.trace_text.specs.declared.verdict.Verdict.TheVariants.{Clean, Error, Spent}
 use Rattle.trace_text.specs.declared.verdict.Where.TheVariants.{Level}
 use Rattle.symbolic_mc.specs.declared.answer.Answer.{Answer}
-use Rattle.symbolic_mc.specs.declared.answer.Answer.TheVariants.{Usage, ReadFault, TooLong, Unjoined, Unmade, NotBuilt, WriteFault, Checked, NoCertificate, Rechecked}
+use Rattle.symbolic_mc.specs.declared.answer.Answer.TheVariants.{Usage, ReadFault, TooLong, Unjoined, Unmade, Untyped, NotBuilt, WriteFault, Checked, NoCertificate, Rechecked}
 use Rattle.op_inliner.specs.declared.parts.InlineFault.{InlineFault}
+use Rattle.snowcat_types.specs.declared.faults.TypeFault.{TypeFault}
 use Rattle.tla_modules.specs.declared.fault.ModuleRefusal.{ModuleRefusal}
-use Rattle.plain_modules.specs.Jobs.{IsNotPlain, IsOnlyPlainJob, IsPlainJob, IsUnjoined, IsUnmade}
+use Rattle.plain_modules.specs.Jobs.{IsNotPlain, IsOnlyPlainJob, IsPlainJob, IsUnjoined, IsUnmade, IsUntyped}
 use Rattle.symbolic_mc.specs.Naming.{certificate_name}
 use Rattle.symbolic_mc.specs.Report.{recheck_report, report_of, status_of}
 use Rattle.symbolic_mc.specs.Verdicts.{IsChecked}
@@ -61,6 +62,9 @@ pub data IsAnswer (c : Command) (old new : Option Folder) (before now : ℕ) : A
   -- their flat module makes no job
   NotMade : (file : List ℕ) (longest : ℕ) (budget : Option ℕ) (files : List (List ℕ)) (fault : InlineFault) → c.0 ≡ Some (file, longest, budget)
       → IsUnmade old file files fault → new ≡ old → IsAnswer c old new before now (Unmade files fault)
+  -- the job that it makes has no typing
+  NotTyped : (file : List ℕ) (longest : ℕ) (budget : Option ℕ) (files : List (List ℕ)) (fault : TypeFault) → c.0 ≡ Some (file, longest, budget)
+      → IsUntyped old file files fault → new ≡ old → IsAnswer c old new before now (Untyped files fault)
   -- what it makes is in no form that is checked so far
   NotPlain : (file : List ℕ) (longest : ℕ) (budget : Option ℕ) → c.0 ≡ Some (file, longest, budget)
       → IsNotPlain old file → new ≡ old → IsAnswer c old new before now NotBuilt

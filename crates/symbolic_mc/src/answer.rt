@@ -3,8 +3,9 @@ ghost use Rattle.std.specs.Prelude.{◌≡◌, ◌++◌, codes, IfOk};
 ghost use Rattle.symbolic_mc.specs.Report.{status_of, report_of, unjoined_status, verdict_status, recheck_status, recheck_report};
 
 use op_inliner::InlineFault;
-use plain_modules::{inline_line, module_line};
+use plain_modules::{inline_line, module_line, type_line};
 use refutation_checker::Recheck;
+use snowcat_types::TypeFault;
 use std::alloc::{AllocError, Global};
 use tla_meaning::Decl;
 use tla_modules::{ModuleFault, ModuleRefusal};
@@ -24,6 +25,8 @@ pub(crate) enum Answer {
     Unjoined(ModuleRefusal),
     /// Their flat module, in the files of these names, makes no job.
     Unmade(List<Text>, InlineFault),
+    /// The job that it makes, in the files of these names, has no typing.
+    Untyped(List<Text>, TypeFault),
     /// What it makes is in no form that is checked so far.
     NotBuilt,
     /// The certificate of this name could not be written.
@@ -46,7 +49,7 @@ impl Answer {
             Answer::ReadFault(_) | Answer::TooLong(_) => 40,
             Answer::WriteFault(_) => 41,
             Answer::Unjoined(refusal) => unjoined_status(&refusal.fault),
-            Answer::Unmade(_, _) | Answer::NotBuilt => 30,
+            Answer::Unmade(_, _) | Answer::Untyped(_, _) | Answer::NotBuilt => 30,
             Answer::Checked(_, _, verdict) => verdict_status(verdict),
             Answer::NoCertificate => 14,
             Answer::Rechecked(answer) => recheck_status(answer),
@@ -67,6 +70,7 @@ impl Answer {
             Answer::WriteFault(file) => line(alloc, "write fault: ", file, "\n"),
             Answer::Unjoined(refusal) => module_line(alloc, refusal),
             Answer::Unmade(files, fault) => inline_line(alloc, files.as_slice(), fault),
+            Answer::Untyped(files, fault) => type_line(alloc, files.as_slice(), fault),
             Answer::NotBuilt => Vec::from_slice(alloc, b"refused: form is not built\n"),
             Answer::Checked(names, files, verdict) => report_text(alloc, verdict, names, files),
             Answer::NoCertificate => Vec::from_slice(alloc, b"certificate refused: no file\n"),

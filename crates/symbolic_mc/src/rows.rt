@@ -142,6 +142,43 @@ fn names_and_forms_are_refused_at_their_places(rt: HostRuntime) -> Result<(), Fa
     Ok(())
 }
 
+// The text of `Row.tla` whose variable stands behind this line.
+fn annotated(alloc: Global, note: &str) -> Result<String, AllocError> {
+    let lines = "  x\nInit == x = 1 /\\ x = 2\nNext == x' = x\nInv == FALSE\n====\n";
+    let mut text = String::from_str(alloc, "---- MODULE Row ----\nEXTENDS Integers\nVARIABLE\n")?;
+    text.push_str(note)?;
+    text.push_str(lines)?;
+    Ok(text)
+}
+
+#[test]
+fn jobs_without_types_are_refused(rt: HostRuntime) -> Result<(), Fail> {
+    for (note, line) in [
+        ("", "refused: name x has no type\n"),
+        ("  \\* @type: Intt;\n", "refused: bad type at Row:5:3\n"),
+    ] {
+        let text = annotated(rt.alloc(), note)?;
+        agrees(&rt, &[("Row.tla", &text)], 30, line)?;
+    }
+    for (lines, line) in [
+        (
+            "Init == x = 0\nNext == x' = x\nInv == x = TRUE\n",
+            "refused: types Int and Bool clash at Row:8:10\n",
+        ),
+        (
+            "Init == x = 0\nNext == x' = x\nInv == {1, \"a\"} = {}\n",
+            "refused: types Int and Str clash at Row:8:8\n",
+        ),
+        (
+            "Init == x = 0\nNext == x' = x\nInv == <<1, 2>> = <<1, \"a\">>\n",
+            "refused: types Int and Str clash at Row:8:19; defaults at Row:8:8\n",
+        ),
+    ] {
+        refuses(&rt, lines, line)?;
+    }
+    Ok(())
+}
+
 #[test]
 fn modules_that_cannot_be_joined_are_refused(rt: HostRuntime) -> Result<(), Fail> {
     let root = "---- MODULE Row ----\nEXTENDS A\n====\n";

@@ -94,6 +94,7 @@ fn check_file<F: Files>(
     match read_job(alloc, request.file, files)? {
         Source::Unjoined(refusal) => Ok(Answer::Unjoined(refusal)),
         Source::Unmade(files, fault) => Ok(Answer::Unmade(files, fault)),
+        Source::Untyped(files, fault) => Ok(Answer::Untyped(files, fault)),
         Source::NotBuilt => Ok(Answer::NotBuilt),
         Source::Said(job, plain) => check_job(alloc, request, job, &plain, files),
     }

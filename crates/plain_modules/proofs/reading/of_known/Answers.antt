@@ -1,4 +1,4 @@
-use Rattle.std.proofs.Common.{List, ℕ, Option, None, Ok, Err, subst, ◌≡◌}
+use Rattle.std.proofs.Common.{List, ℕ, None, Ok, Err, subst}
 use Rattle.std.specs.Prelude.{codes}
 use Rattle.op_inliner.specs.Answers.{IsAnswered, job_answer}
 use Rattle.plain_modules.proofs.Making.{judged, on_ok, unmade}

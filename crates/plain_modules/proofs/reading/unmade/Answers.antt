@@ -1,4 +1,4 @@
-use Rattle.std.proofs.Common.{refl, sym, subst}
+use Rattle.std.proofs.Common.{refl}
 use Rattle.plain_modules.proofs.Making.{not_inline_want}
 use Rattle.plain_modules.proofs.reading.unmade.Goals as goal
 
