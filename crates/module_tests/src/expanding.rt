@@ -52,7 +52,7 @@ fn is_told(alloc: Global, text: &[u8], flat: &Flat, tree: &Expr) -> Result<bool,
 }
 
 // The text without the line feed at its end, and without that of the line behind it.
-fn trimmed(text: &[u8]) -> &[u8] {
+pub(crate) fn trimmed(text: &[u8]) -> &[u8] {
     let text = text.strip_suffix(b"\n").unwrap_or(text);
     text.strip_suffix(b"\n").unwrap_or(text)
 }
@@ -156,7 +156,7 @@ fn is_made(
 }
 
 // The words from the fourth on.
-fn invariants_of(alloc: Global, rest: &str) -> Result<List<Text>, AllocError> {
+pub(crate) fn invariants_of(alloc: Global, rest: &str) -> Result<List<Text>, AllocError> {
     let mut invariants = Vec::new(alloc);
     for word in rest.split_whitespace().skip(3) {
         invariants.push(Text::from_vec(Vec::from_slice(alloc, word.as_bytes())?))?;
@@ -181,7 +181,7 @@ fn makes_so(alloc: Global, part: &Part, flat: &Flat) -> Result<bool, AllocError>
 // ---- sets
 
 // The flat module of a set, where there is one.
-fn flat_of(alloc: Global, case: &Case) -> Result<Option<Flat>, Fail> {
+pub(crate) fn flat_of(alloc: Global, case: &Case) -> Result<Option<Flat>, Fail> {
     let mut files = case.files(alloc)?;
     let root = case.root(alloc)?;
     Ok(resolve(alloc, root.as_str(), &mut files).ok())

@@ -1,8 +1,10 @@
-//! Tests of the modules of a root: which flat module they make, and why they make none.
+//! Tests of the modules of a root: which flat module, which job and which types they make, and why they make none.
 #![tactic(auto)]
 
 #[cfg(test)]
 mod asking;
+#[cfg(test)]
+mod badly_typed_cases;
 #[cfg(test)]
 mod expanding;
 #[cfg(test)]
@@ -29,5 +31,9 @@ mod sources_cases;
 mod tree_tokens;
 #[cfg(test)]
 mod trees;
+#[cfg(test)]
+mod typed;
+#[cfg(test)]
+mod typed_cases;
 #[cfg(test)]
 mod users_cases;

@@ -17,6 +17,7 @@
 //   >flat           `constant c P`, `variable x P`, then `define NAME/PARAMETERS P`, then `assume P`. A name that no text
 //                   spells is `!!`, and a place `-` is not compared.
 //   >expand, >job   what expansion gives; they are not read here
+//   >types          what typing gives; it is not read here
 use std::alloc::{AllocError, Global};
 use std::test::Fail;
 use tla_values::List;

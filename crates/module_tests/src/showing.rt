@@ -103,7 +103,7 @@ fn put_cycle(names: &[Text], out: &mut Vec<u8>) -> Result<(), AllocError> {
     Ok(())
 }
 
-fn put_words(parts: &[&[u8]], out: &mut Vec<u8>) -> Result<(), AllocError> {
+pub(crate) fn put_words(parts: &[&[u8]], out: &mut Vec<u8>) -> Result<(), AllocError> {
     for part in parts {
         out.extend_from_slice(part)?;
     }

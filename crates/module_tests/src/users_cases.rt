@@ -13,13 +13,15 @@ Inv == x = CHOOSE y \in {0}: TRUE
 ====
 >job Init Next - Inv
 refused: CHOOSE is reached at Row:8:12
+>types Init Next - Inv
+refused: CHOOSE is reached at Row:8:12
 >job Init Next -
 cinit TRUE
 assume TRUE
 init (Eq $x 0)
 next (Eq $x' $x)
 
->case a PlusCal translation (04 section 9, Plus)
+>case a PlusCal translation
 >file Plus
 ---- MODULE Plus ----
 EXTENDS Integers, TLC
@@ -68,12 +70,15 @@ assume TRUE
 init (And%12:9 (Eq $x 0) (Eq $pc (Lambda%13:17 {self} (Range%10:14 1 2) "a")))
 next (Or%21:12 (Exists%20:10 {self} (Range%20:23 1 2) (And%14:12 (Eq (Apply%14:17 $pc self%20:30) "a") (Eq $x'%15:15 (Add $x 1)) (Eq $pc'%16:15 (Except%16:21 [1] {@} $pc self%20:30 "Done")))) (And%18:16 (Forall {self} (Range%10:14 1 2) (Eq (Apply $pc self%18:43) "Done")) (And (Eq $pc'%9:12 $pc%9:12) (Eq $x'%9:16 $x%9:16))))
 inv Inv (Le $x 2)
+>types Init Next - Inv
+pc: Int -> Str
+x: Int
 >expand Spec start
 refused: TEMPORAL is reached at Plus:22:17
 >expand Termination inv
 refused: TEMPORAL is reached at Plus:23:16
 
->case definitions with parameters in a protocol (04 section 9, TwoPhase)
+>case definitions with parameters in a protocol
 >file TwoPhase
 ---- MODULE TwoPhase ----
 VARIABLES
