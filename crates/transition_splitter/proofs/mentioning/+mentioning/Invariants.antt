@@ -1,0 +1,9 @@
+use Rattle.std.proofs.Common.{◌≡◌, drop}
+use Rattle.std.specs.List.{list_any}
+use Rattle.kernel_trees.specs.Paths.{mentions}
+use Rattle.transition_splitter.specs.inner.Routes.{marks}
+use Rattle.transition_splitter.proofs.mentioning.+mentioning.Given as goal
+
+abbrev pub invariant-any_mentions-loop-k : goal.invariant-any_mentions-loop-k
+invariant-any_mentions-loop-k l =
+    list_any (mentions (marks l.marked)) l.ks ≡ list_any (mentions (marks l.marked)) (drop l.k-index l.ks)

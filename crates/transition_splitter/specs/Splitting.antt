@@ -1,0 +1,44 @@
+-- When an action is taken apart into its paths, and when it has too many. Source: Konnov, Kukovec and Tran, "TLA+ Model
+-- Checking Made Symbolic", OOPSLA 2019, on symbolic transitions.
+use Rattle.std.specs.Prelude.{ℕ, ◌≡◌, ◌<◌, ◌≤◌, ◌^◌, min, List, length, filter, Result, Ok, Err, ⊤}
+use Rattle.tla_meaning.specs.declared.actions.Assignable.{Assignable}
+use Rattle.tla_meaning.specs.declared.actions.Assignable.TheVariants as assignable
+use Rattle.tla_meaning.specs.declared.expr.Decl.{Decl}
+use Rattle.kernel_trees.specs.declared.kernel.Ker.{Ker}
+use Rattle.kernel_trees.specs.declared.path.KerPath.{KerPath}
+use Rattle.kernel_trees.specs.Paths.{Marks, marks_below, paths}
+use Rattle.transition_splitter.specs.declared.action_kind.ActionKind.{ActionKind}
+use Rattle.transition_splitter.specs.declared.action_kind.ActionKind.TheVariants as action
+use Rattle.transition_splitter.specs.declared.split_fault.SplitFault.{SplitFault}
+use Rattle.transition_splitter.specs.declared.split_fault.SplitFault.TheVariants.{TooManyPaths, Memory}
+
+-- ---- the names that an action may assign
+
+-- how many names are constants, which stand first
+abbrev pub constants : List Decl → ℕ
+constants names = length (filter (λ (d : Decl). d.constant) names)
+
+-- behind so many constants
+abbrev pub assignable_in : ActionKind → ℕ → Assignable
+assignable_in action.Constants n = assignable.Constants n
+assignable_in action.Start n = assignable.Variables n
+assignable_in action.Step n = assignable.PrimedVariables n
+
+abbrev pub marks_of : ActionKind → List Decl → Marks
+marks_of kind names = marks_below (length names) (assignable_in kind (constants names))
+
+-- ---- the answer
+
+abbrev pub most_paths : ℕ
+most_paths = 4096
+
+-- it stands for every greater number
+abbrev pub greatest_number : ℕ
+greatest_number = 10 ^ 12
+
+-- the paths of an action from left to right, at most so many; else how many there are
+abbrev pub IsSplit : ActionKind → List Decl → Ker → Result (List KerPath) SplitFault → Type 0
+IsSplit kind names part (Ok ps) = (ps ≡ paths (marks_of kind names) part) × (length ps ≤ most_paths)
+IsSplit kind names part (Err (TooManyPaths n)) =
+    let number = length (paths (marks_of kind names) part) in (n ≡ min number greatest_number) × (most_paths < number)
+IsSplit kind names part (Err (Memory e)) = ⊤

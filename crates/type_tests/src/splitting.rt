@@ -1,0 +1,310 @@
+// Paths of small actions, and of large ones that are refused.
+//
+// An action is written in postfix notation, a byte a step, and each node stands at its byte's column, from 1. `T`, `F`,
+// `N`: TRUE, FALSE, no case; `c`: the constant; `x`, `y`, `X`, `Y`: the two variables, and primed; `s`: a set; `~`, `&`,
+// `|`, `?`: Not, And, Or and If of the last; `E`, `D`: an `\E` over the last with one set or two; `A`, `O`: And and Or of
+// all so far.
+
+use kernel_trees::{Ker, KerOp, KerPath, PathStep};
+use snowcat_rows::Ty;
+use std::alloc::{AllocError, Global};
+use std::mem;
+use std::test::Fail;
+use tla_meaning::{Decl, Place};
+use tla_values::{List, Text, Value};
+use transition_splitter::{ActionKind, SplitFault, split};
+
+fn at(col: u32) -> Place {
+    Place {
+        file: 0,
+        line: 1,
+        col,
+    }
+}
+
+#[derive(Drop)]
+struct Postfix {
+    alloc: Global,
+    trees: Vec<Ker>,
+}
+
+impl Postfix {
+    // The last trees, so many.
+    fn last(&mut self, count: usize) -> Result<List<Ker>, AllocError> {
+        let mut found = Vec::new(self.alloc);
+        for _ in 0..count {
+            if let Some(k) = self.trees.pop() {
+                found.insert(0, k)?;
+            }
+        }
+        Ok(List::from_vec(found))
+    }
+
+    fn all(&mut self) -> List<Ker> {
+        List::from_vec(mem::replace(&mut self.trees, Vec::new(self.alloc)))
+    }
+
+    fn step(&mut self, byte: u8, col: u32) -> Result<(), AllocError> {
+        let binds = binds_of(self.alloc, byte)?;
+        let args = match byte {
+            b'~' => self.last(1)?,
+            b'&' | b'|' | b'E' => self.last(2)?,
+            b'?' | b'D' => self.last(3)?,
+            b'A' | b'O' => self.all(),
+            _ => List::new(self.alloc),
+        };
+        self.trees.push(Ker {
+            place: at(col),
+            ty: Ty::Bool,
+            op: op_of(byte),
+            args,
+            binds,
+        })?;
+        Ok(())
+    }
+}
+
+fn binds_of(alloc: Global, byte: u8) -> Result<List<u32>, AllocError> {
+    let mut binds = List::new(alloc);
+    if byte == b'E' || byte == b'D' {
+        binds.push(1)?;
+    }
+    if byte == b'D' {
+        binds.push(2)?;
+    }
+    Ok(binds)
+}
+
+fn op_of(byte: u8) -> KerOp {
+    match byte {
+        b'F' => KerOp::Const(Value::Bool(false)),
+        b'N' => KerOp::NoCase,
+        b'c' => KerOp::Name(0, false),
+        b'x' => KerOp::Name(1, false),
+        b'y' => KerOp::Name(2, false),
+        b'X' => KerOp::Name(1, true),
+        b'Y' => KerOp::Name(2, true),
+        b's' => KerOp::SetOf,
+        b'~' => KerOp::Not,
+        b'&' | b'A' => KerOp::And,
+        b'|' | b'O' => KerOp::Or,
+        b'?' => KerOp::If,
+        b'E' | b'D' => KerOp::Some,
+        _ => KerOp::Const(Value::Bool(true)),
+    }
+}
+
+fn action(alloc: Global, text: &[u8]) -> Result<Ker, AllocError> {
+    let mut p = Postfix {
+        alloc,
+        trees: Vec::new(alloc),
+    };
+    let mut col: u32 = 0;
+    for byte in text {
+        col = col.saturating_add(1);
+        p.step(*byte, col)?;
+    }
+    let whole = p.trees.pop();
+    match whole {
+        Some(k) => Ok(k),
+        None => Ok(Ker {
+            place: at(0),
+            ty: Ty::Bool,
+            op: KerOp::NoCase,
+            args: List::new(alloc),
+            binds: List::new(alloc),
+        }),
+    }
+}
+
+fn declared(alloc: Global, constant: bool) -> Decl {
+    Decl {
+        name: Text::from_vec(Vec::new(alloc)),
+        place: at(0),
+        constant,
+        note: Text::from_vec(Vec::new(alloc)),
+    }
+}
+
+// A constant and two variables.
+fn names(alloc: Global) -> Result<List<Decl>, AllocError> {
+    let mut names = List::new(alloc);
+    names.push(declared(alloc, true))?;
+    names.push(declared(alloc, false))?;
+    names.push(declared(alloc, false))?;
+    Ok(names)
+}
+
+// A guard as its column behind `+` or, where it is to be FALSE, `-`; a pick as its numbers and the columns of its sets.
+fn show_step(alloc: Global, step: &PathStep, out: &mut Vec<u8>) -> Result<(), AllocError> {
+    match step {
+        PathStep::Guard(k, wanted) => {
+            let sign = if *wanted { "+" } else { "-" };
+            let text = format!(in alloc; "{sign}{}", k.place.col)?;
+            out.extend_from_slice(text.as_bytes())?;
+        }
+        PathStep::Pick(sets) => {
+            for (number, set) in sets.as_slice() {
+                let text = format!(in alloc; "!{number}:{}", set.place.col)?;
+                out.extend_from_slice(text.as_bytes())?;
+            }
+        }
+    }
+    Ok(())
+}
+
+fn show_paths(alloc: Global, paths: &[KerPath]) -> Result<Vec<u8>, AllocError> {
+    let mut out = Vec::new(alloc);
+    for path in paths {
+        let text = format!(in alloc; "{}", path.place.col)?;
+        out.extend_from_slice(text.as_bytes())?;
+        for step in path.steps.as_slice() {
+            show_step(alloc, step, &mut out)?;
+        }
+        out.push(b';')?;
+    }
+    Ok(out)
+}
+
+fn shown(alloc: Global, kind: ActionKind, text: &str) -> Result<Vec<u8>, AllocError> {
+    let part = action(alloc, text.as_bytes())?;
+    let names = names(alloc)?;
+    match split(alloc, &part, &names, kind) {
+        Ok(paths) => show_paths(alloc, paths.as_slice()),
+        Err(SplitFault::TooManyPaths(_)) => Ok(Vec::new(alloc)),
+        Err(SplitFault::Memory(e)) => Err(e),
+    }
+}
+
+const NEXT: [(&str, &str); 18] = [
+    // one operand
+    ("x", "1+1;"),
+    // FALSE /\ (x' \/ y') ends at FALSE
+    ("FXY|&", "5+1;"),
+    ("XY|x&", "1+1+4;2+2+4;"),
+    // the first operand's paths in order, each with the second's in order
+    ("XY|XY|&", "4+1+4;5+1+5;4+2+4;5+2+5;"),
+    ("XY|XY||", "1+1;2+2;4+4;5+5;"),
+    // IF x THEN x' ELSE FALSE, alone and before y'
+    ("xXF?", "2+1+2;3-1+3;"),
+    ("xXF?Y&", "2+1+2+5;3-1+3;"),
+    // what holds no primed name is one operand
+    ("xy|", "3+3;"),
+    ("xyT?", "4+4;"),
+    ("Xxy|&", "5+1+4;"),
+    // so is what stands under a negation
+    ("X~Y&", "4+2+3;"),
+    // \E: both paths behind one choice, of one set and of two
+    ("sXY|E", "2!1:1+2;3!1:1+3;"),
+    ("ssXD", "4!1:1!2:2+3;"),
+    ("sXEY&", "5!1:1+2+4;"),
+    // x' \/ (~x /\ no case), alone and before y'
+    ("Xx~N&|", "1+1;5+3+4;"),
+    ("Xx~N&|Y&", "1+1+7;5+3+4;"),
+    // a conjunction of nothing, and a disjunction of nothing
+    ("A", "1;"),
+    ("O", "1+1;"),
+];
+
+// How many are answered otherwise.
+fn count_wrong(
+    alloc: Global,
+    kind: ActionKind,
+    cases: &[(&str, &str)],
+) -> Result<usize, AllocError> {
+    let mut wrong: usize = 0;
+    for (text, wanted) in cases {
+        let found = shown(alloc, kind, text)?;
+        if found.as_slice() != wanted.as_bytes() {
+            wrong = wrong.saturating_add(1);
+        }
+    }
+    Ok(wrong)
+}
+
+#[test]
+fn actions_have_their_paths(rt: HostRuntime) -> Result<(), Fail> {
+    let wrong = count_wrong(rt.alloc(), ActionKind::Step, &NEXT)?;
+    assert_eq!(rt; wrong, 0);
+    Ok(())
+}
+
+const CINIT: [(&str, &str); 2] = [("cc|", "1+1;2+2;"), ("xy|", "3+3;")];
+
+const INIT: [(&str, &str); 2] = [("xy|", "1+1;2+2;"), ("cc|", "3+3;")];
+
+#[test]
+fn each_kind_assigns_its_names(rt: HostRuntime) -> Result<(), Fail> {
+    let in_cinit = count_wrong(rt.alloc(), ActionKind::Constants, &CINIT)?;
+    let in_init = count_wrong(rt.alloc(), ActionKind::Start, &INIT)?;
+    assert_eq!(rt; in_cinit, 0);
+    assert_eq!(rt; in_init, 0);
+    Ok(())
+}
+
+// The text, so many times, between the first and the last byte.
+fn repeated(
+    alloc: Global,
+    first: &str,
+    text: &str,
+    count: u32,
+    last: u8,
+) -> Result<Vec<u8>, AllocError> {
+    let mut whole = Vec::from_slice(alloc, first.as_bytes())?;
+    for _ in 0..count {
+        whole.extend_from_slice(text.as_bytes())?;
+    }
+    whole.push(last)?;
+    Ok(whole)
+}
+
+// How many paths are answered, and how many a refusal tells.
+fn numbers(alloc: Global, text: &[u8]) -> Result<(usize, u64), AllocError> {
+    let part = action(alloc, text)?;
+    let names = names(alloc)?;
+    match split(alloc, &part, &names, ActionKind::Step) {
+        Ok(paths) => Ok((paths.len(), 0)),
+        Err(SplitFault::TooManyPaths(n)) => Ok((0, n)),
+        Err(SplitFault::Memory(e)) => Err(e),
+    }
+}
+
+fn numbers_of(
+    alloc: Global,
+    first: &str,
+    text: &str,
+    count: u32,
+    last: u8,
+) -> Result<(usize, u64), AllocError> {
+    let text = repeated(alloc, first, text, count, last)?;
+    numbers(alloc, text.as_slice())
+}
+
+#[test]
+fn more_than_4096_paths_are_refused(rt: HostRuntime) -> Result<(), Fail> {
+    let alloc = rt.alloc();
+    assert_eq!(rt; numbers_of(alloc, "", "X", 4096, b'O')?, (4096, 0));
+    assert_eq!(rt; numbers_of(alloc, "", "X", 4097, b'O')?, (0, 4097));
+    assert_eq!(rt; numbers_of(alloc, "", "XY|", 12, b'A')?, (4096, 0));
+    assert_eq!(rt; numbers_of(alloc, "", "XY|", 13, b'A')?, (0, 8192));
+    Ok(())
+}
+
+#[test]
+fn numbers_are_told_up_to_a_greatest(rt: HostRuntime) -> Result<(), Fail> {
+    let alloc = rt.alloc();
+    assert_eq!(rt; numbers_of(alloc, "", "XY|", 39, b'A')?, (0, 549755813888));
+    assert_eq!(rt; numbers_of(alloc, "", "XY|", 40, b'A')?, (0, 1000000000000));
+    assert_eq!(rt;
+        numbers_of(alloc, "", "XY|", 200, b'A')?,
+        (0, 1000000000000)
+    );
+    Ok(())
+}
+
+// What stands behind FALSE is not taken apart.
+#[test]
+fn nothing_follows_an_end(rt: HostRuntime) -> Result<(), Fail> {
+    assert_eq!(rt; numbers_of(rt.alloc(), "F", "XY|", 200, b'A')?, (1, 0));
+    Ok(())
+}
