@@ -6,7 +6,7 @@ use Rattle.kernel_trees.specs.declared.kernel.Ker.{Ker}
 use Rattle.kernel_trees.specs.declared.path.KerPath.{KerPath}
 use Rattle.kernel_trees.specs.Paths.{Marks, marks_below, path_of, paths, ways}
 use Rattle.transition_splitter.specs.declared.action_kind.ActionKind.{ActionKind}
-use Rattle.transition_splitter.specs.declared.action_kind.Marked.{Marked}
+use Rattle.transition_splitter.specs.declared.action_kind.AssignableNames.{AssignableNames}
 use Rattle.transition_splitter.specs.declared.counts.Tally.{Tally}
 use Rattle.transition_splitter.specs.Splitting.{assignable_in, constants, greatest_number, marks_of, most_paths}
 use Rattle.transition_splitter.specs.inner.Counts.{cut, number_of, tally}
@@ -14,7 +14,7 @@ use Rattle.transition_splitter.specs.inner.Routes.{marks}
 use Rattle.transition_splitter.proofs.Tallying.{tally_total}
 
 -- the marks by which paths are counted and made
-pub same_marks : (m : Marked) (kind : ActionKind) (as' names : List Decl) → as' ≡ names → m.declared ≡ length as' →
+pub same_marks : (m : AssignableNames) (kind : ActionKind) (as' names : List Decl) → as' ≡ names → m.declared ≡ length as' →
     m.assignable ≡ assignable_in kind (constants as') → marks m ≡ marks_of kind names
 same_marks m kind as' names e h i =
     ap₂ marks_below h i ∙ ap (λ (names : List Decl). marks_of kind names) e
@@ -22,7 +22,7 @@ same_marks m kind as' names e h i =
 -- `before` are the marks by which the paths were counted and made
 module _ (before m : Marks) (k : Ker) (t : Tally) (n : ℕ) (same : before ≡ m) (counted : t ≡ tally (ways before k))
     (told : n ≡ number_of t) where
-  number_is : n ≡ min (length (paths m k)) greatest_number
+  pub number_is : n ≡ min (length (paths m k)) greatest_number
   number_is =
       told
       ∙ ap number_of counted

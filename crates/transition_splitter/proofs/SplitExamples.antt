@@ -1,5 +1,5 @@
 -- Small actions and a large one, by computing.
-use Rattle.std.proofs.Common.{◌≡◌, ℕ, zero, suc, ◌<◌, Bool, true, false, List, [], ◌∷◌, map, length, refl, sym, ◌∙◌}
+use Rattle.std.proofs.Common.{◌≡◌, ℕ, zero, suc, ◌<◌, ◌≤◌, Bool, true, false, List, [], ◌∷◌, map, length, refl, sym, ◌∙◌}
 use Rattle.std.proofs.Common.{ap, arith, Err, Ok, lit<}
 use Rattle.tla_values.specs.declared.value.Value.TheVariants as value
 use Rattle.tla_meaning.specs.declared.expr.Decl.{Decl}
@@ -15,12 +15,13 @@ use Rattle.kernel_trees.specs.Paths.{ends_at, paths, ways}
 use Rattle.kernel_trees.specs.Ways.{all_of}
 use Rattle.kernel_trees.proofs.Trees.{mentions-roll}
 use Rattle.kernel_trees.proofs.LawOfPaths.{ways-roll}
+use Rattle.transition_splitter.specs.declared.action_kind.ActionKind.{ActionKind}
 use Rattle.transition_splitter.specs.declared.action_kind.ActionKind.TheVariants as action
 use Rattle.transition_splitter.specs.declared.counts.Tally.{Tally}
 use Rattle.transition_splitter.specs.declared.split_fault.SplitFault.TheVariants.{TooManyPaths}
 use Rattle.transition_splitter.specs.Splitting.{IsSplit, constants, marks_of, most_paths}
 use Rattle.transition_splitter.specs.inner.Counts.{behind, number_of, tally}
-use Rattle.transition_splitter.proofs.Answering.{refused}
+use Rattle.transition_splitter.proofs.Answering.{answered, number_is, refused}
 use Rattle.transition_splitter.proofs.NodeWays.{ways_and}
 use Rattle.transition_splitter.proofs.Tallying.{tally_each}
 
@@ -62,6 +63,17 @@ constant_in_next = refl
 
 undeclared_in_next : marks_of action.Step names 3 true ≡ false
 undeclared_in_next = refl
+
+-- ---- answers
+
+-- an action that has its paths does not have too many
+exclusive : (kind : ActionKind) (ds : List Decl) (part : Ker) (ps : List KerPath) (n : ℕ) →
+    IsSplit kind ds part (Ok ps) → IsSplit kind ds part (Err (TooManyPaths n)) → ⊥
+exclusive kind ds part ps n h i =
+    let l = h.1 in
+    let m = i.1 in
+    let e : length ps ≡ length (paths (marks_of kind ds) part) = ap length h.0 in
+    omega (arith, m, l, e)
 
 -- ---- actions
 
@@ -144,7 +156,7 @@ module _ (a : Ty) where
       true ∷ []) ∷ []
   choices_steps = simp (ways-roll, mentions-roll)
 
-  -- ---- a refusal
+  -- ---- answers at the limit and behind it
 
   abbrev pair : Ker
   pair = tree 3 ker.Or (name 2 1 true ∷ name 4 2 true ∷ [])
@@ -181,11 +193,28 @@ module _ (a : Ty) where
       ∙ ap tally (ways_and (marks_of action.Step names) (conjunction n) (pairs n) (sym (ap (λ x. x.args) out))
       (ap (λ x. x.op) out))
 
+  -- all its paths, where the number is not above the limit
+  answered_as : (n number : ℕ) → number ≡ number_of (doubled n) → number ≤ most_paths →
+      IsSplit action.Step names (conjunction n) (Ok (paths (marks_of action.Step names) (conjunction n)))
+  answered_as n number e h =
+      answered (marks_of action.Step names) (marks_of action.Step names) (conjunction n) (doubled n) number refl
+      (its_tally n) e (paths (marks_of action.Step names) (conjunction n)) h refl
+
   refused_as : (n number : ℕ) → number ≡ number_of (doubled n) → most_paths < number →
       IsSplit action.Step names (conjunction n) (Err (TooManyPaths number))
   refused_as n number e h =
       refused (marks_of action.Step names) (marks_of action.Step names) (conjunction n) (doubled n) number refl
       (its_tally n) e h
+
+  -- 12 have 4,096 paths, the most that are answered
+  at_the_limit : IsSplit action.Step names (conjunction 12) (Ok (paths (marks_of action.Step names) (conjunction 12)))
+  at_the_limit = answered_as 12 4096 refl (omega arith)
+
+  their_number : length (paths (marks_of action.Step names) (conjunction 12)) ≡ 4096
+  their_number =
+      let e = number_is (marks_of action.Step names) (marks_of action.Step names) (conjunction 12) (doubled 12) 4096 refl
+      (its_tally 12) refl in
+      omega (arith, e)
 
   -- 13 have 8,192 paths, and 40 more than the greatest number
   refusal : IsSplit action.Step names (conjunction 13) (Err (TooManyPaths 8192))
@@ -195,8 +224,4 @@ module _ (a : Ty) where
   greatest = refused_as 40 1000000000000 refl (lit< tt)
 
   no_answer : (ps : List KerPath) → IsSplit action.Step names (conjunction 13) (Ok ps) → ⊥
-  no_answer ps h =
-      let n = refusal.1 in
-      let l = h.1 in
-      let e : length ps ≡ length (paths (marks_of action.Step names) (conjunction 13)) = ap length h.0 in
-      omega (arith, n, l, e)
+  no_answer ps h = exclusive action.Step names (conjunction 13) ps 8192 h refusal

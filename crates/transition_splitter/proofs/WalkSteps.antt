@@ -9,7 +9,7 @@ use Rattle.kernel_trees.specs.Paths.{Marks, Step, ends_at, ways}
 use Rattle.kernel_trees.specs.Ways.{Way, after_each, after, all_of, any_of, branch, has_ended, one_after}
 use Rattle.transition_splitter.specs.declared.counts.Tally.{Tally}
 use Rattle.transition_splitter.specs.inner.Counts.{behind, both, tally}
-use Rattle.transition_splitter.specs.declared.routes.Lent.{Lent}
+use Rattle.transition_splitter.specs.declared.routes.LentStep.{LentStep}
 use Rattle.transition_splitter.specs.declared.routes.Route.{Route}
 use Rattle.transition_splitter.specs.inner.Routes.{has_way_ended, rooted, step_lent, way, ways_by}
 use Rattle.transition_splitter.proofs.Following.{last_ends, all_more, all_stops, any_more, each_append}
@@ -93,15 +93,14 @@ each_more as' bs a =
     each_append as' (a ∷ []) bs
     ∙ ap (λ (ys : Ways). after_each ends_at as' bs ++ ys) (append-nil (after ends_at a bs))
 
-pub each_after_more : (firsts : List Route) (i : ℕ) (first : Route) (bs ys new : Ways) → i < length firsts →
-    first ≡ get_or firsts i first →
-    ys ≡ after_each ends_at (ways_by (take i firsts)) bs → new ≡ ys ++ after ends_at (way first) bs →
-    new ≡ after_each ends_at (ways_by (take (i + 1) firsts)) bs
-each_after_more firsts i first bs ys new h e a c =
+pub each_after_more : (done : List Route) (first : Route) (bs ys new : Ways) →
+    ys ≡ after_each ends_at (ways_by done) bs → new ≡ ys ++ after ends_at (way first) bs →
+    new ≡ after_each ends_at (ways_by (done ++ first ∷ [])) bs
+each_after_more done first bs ys new a c =
     c
     ∙ ap (λ (ys : Ways). ys ++ after ends_at (way first) bs) a
-    ∙ sym (each_more (ways_by (take i firsts)) bs (way first))
-    ∙ sym (ap (λ (as' : Ways). after_each ends_at as' bs) (map_more way firsts i first h e))
+    ∙ sym (each_more (ways_by done) bs (way first))
+    ∙ sym (ap (λ (as' : Ways). after_each ends_at as' bs) (map-append way done (first ∷ [])))
 
 -- ---- routes
 
@@ -116,12 +115,12 @@ pub all_have_ended : (xs as' : List Route) (b : Bool) → as' ≡ xs → b ≡ l
 all_have_ended xs as' b e h t =
     all_lent xs ∙ sym (ap (λ (rs : List Route). list_all (λ r. has_way_ended (way r)) rs) e) ∙ sym h ∙ t
 
-pub last_lent : (xs as' front : List Lent) (x : Lent) → as' ≡ xs → as' ≡ front ++ x ∷ [] →
+pub last_lent : (xs as' front : List LentStep) (x : LentStep) → as' ≡ xs → as' ≡ front ++ x ∷ [] →
     ends_at (step_lent x) ≡ has_ended ends_at (map step_lent xs)
 last_lent xs as' front x e h =
     sym (last_ends (map step_lent front) (step_lent x))
     ∙ sym (ap (has_ended ends_at) (map-append step_lent front (x ∷ [])))
-    ∙ ap (λ (xs : List Lent). has_ended ends_at (map step_lent xs)) (sym h ∙ e)
+    ∙ ap (λ (xs : List LentStep). has_ended ends_at (map step_lent xs)) (sym h ∙ e)
 
 -- one list of paths behind the other
 pub made_of_one : (f g : Way Step) (none ys zs one : Ways) → none ≡ [] → f ≡ g → ys ≡ zs →

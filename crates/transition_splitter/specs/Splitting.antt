@@ -1,6 +1,7 @@
 -- When an action is taken apart into its paths, and when it has too many. Source: Konnov, Kukovec and Tran, "TLA+ Model
 -- Checking Made Symbolic", OOPSLA 2019, on symbolic transitions.
-use Rattle.std.specs.Prelude.{ℕ, ◌≡◌, ◌<◌, ◌≤◌, ◌^◌, min, List, length, filter, Result, Ok, Err, ⊤}
+use Rattle.std.specs.Prelude.{ℕ, ◌≡◌, ◌<◌, ◌≤◌, ◌^◌, min, List, length, filter, Result}
+use Rattle.std.specs.Prelude.{Ok, Err, ⊤}
 use Rattle.tla_meaning.specs.declared.actions.Assignable.{Assignable}
 use Rattle.tla_meaning.specs.declared.actions.Assignable.TheVariants as assignable
 use Rattle.tla_meaning.specs.declared.expr.Decl.{Decl}
@@ -14,7 +15,7 @@ use Rattle.transition_splitter.specs.declared.split_fault.SplitFault.TheVariants
 
 -- ---- the names that an action may assign
 
--- how many names are constants, which stand first
+-- how many names are constants; these stand first in a job
 abbrev pub constants : List Decl → ℕ
 constants names = length (filter (λ (d : Decl). d.constant) names)
 
@@ -40,5 +41,6 @@ greatest_number = 10 ^ 12
 abbrev pub IsSplit : ActionKind → List Decl → Ker → Result (List KerPath) SplitFault → Type 0
 IsSplit kind names part (Ok ps) = (ps ≡ paths (marks_of kind names) part) × (length ps ≤ most_paths)
 IsSplit kind names part (Err (TooManyPaths n)) =
-    let number = length (paths (marks_of kind names) part) in (n ≡ min number greatest_number) × (most_paths < number)
+    let number = length (paths (marks_of kind names) part) in
+    (n ≡ min number greatest_number) × (most_paths < number)
 IsSplit kind names part (Err (Memory e)) = ⊤

@@ -19,12 +19,12 @@ pub enum ActionKind {
 
 // The number of declared names, and which of them an action may assign.
 #[derive(Clone, Copy, Drop)]
-pub(crate) struct Marked {
+pub(crate) struct AssignableNames {
     pub(crate) declared: usize,
     pub(crate) assignable: Assignable,
 }
 
-impl Marked {
+impl AssignableNames {
     // Whether the action may assign this name.
     pub(crate) fn holds(self, name: usize, primed: bool) -> bool
         ensures { result ≡ marks_below self.declared self.assignable name primed }
@@ -52,7 +52,7 @@ fn count_of_constants(names: &[Decl]) -> usize
 }
 
 // The names that an action of this kind may assign.
-pub(crate) fn marks_of(names: &[Decl], kind: ActionKind) -> Marked
+pub(crate) fn marks_of(names: &[Decl], kind: ActionKind) -> AssignableNames
     ensures declared { result.declared ≡ length names.now }
     ensures assignable { result.assignable ≡ assignable_in kind (constants names.now) }
 {
@@ -62,7 +62,7 @@ pub(crate) fn marks_of(names: &[Decl], kind: ActionKind) -> Marked
         ActionKind::Start => Assignable::Variables(count),
         ActionKind::Step => Assignable::PrimedVariables(count),
     };
-    Marked {
+    AssignableNames {
         declared: names.len(),
         assignable,
     }

@@ -6,7 +6,7 @@ ghost use Rattle.transition_splitter.specs.Splitting.{greatest_number};
 ghost use Rattle.transition_splitter.specs.inner.Counts.{behind, both, number_of, tally};
 ghost use Rattle.transition_splitter.specs.inner.Routes.{branch_ways, marks, rooted, some_ways};
 
-use crate::action_kind::Marked;
+use crate::action_kind::AssignableNames;
 use crate::mentioning::{any_mentions, is_end};
 use kernel_trees::{Ker, KerOp};
 
@@ -68,7 +68,7 @@ fn cut_product(a: u64, b: u64) -> u64
 }
 
 // One operand.
-fn lone(k: &Ker) -> Tally
+fn one_operand(k: &Ker) -> Tally
     ensures { result ≡ tally (alone (Holds k.now)) }
 {
     if is_end(&k.op) {
@@ -86,7 +86,7 @@ fn lone(k: &Ker) -> Tally
 
 // The paths of an action.
 #[cycle(counts)]
-pub(crate) fn count(marked: Marked, k: &Ker) -> Tally
+pub(crate) fn count(marked: AssignableNames, k: &Ker) -> Tally
     ensures { result ≡ tally (ways (marks marked) k.now) }
 {
     let args = k.args.as_slice();
@@ -96,24 +96,24 @@ pub(crate) fn count(marked: Marked, k: &Ker) -> Tally
             if any_mentions(marked, args) {
                 count_any(marked, args)
             } else {
-                lone(k)
+                one_operand(k)
             }
         }
         KerOp::If => {
             if any_mentions(marked, args) {
                 count_branches(marked, k)
             } else {
-                lone(k)
+                one_operand(k)
             }
         }
         KerOp::Some => count_choice(marked, k),
-        _ => lone(k),
+        _ => one_operand(k),
     }
 }
 
 // Of a conjunction.
 #[cycle(counts)]
-fn count_all(marked: Marked, ks: &[Ker]) -> Tally
+fn count_all(marked: AssignableNames, ks: &[Ker]) -> Tally
     ensures { result ≡ tally (all_of ends_at (map (ways (marks marked)) ks.now)) }
 {
     let mut whole = Tally {
@@ -128,7 +128,7 @@ fn count_all(marked: Marked, ks: &[Ker]) -> Tally
 
 // Of a disjunction.
 #[cycle(counts)]
-fn count_any(marked: Marked, ks: &[Ker]) -> Tally
+fn count_any(marked: AssignableNames, ks: &[Ker]) -> Tally
     ensures { result ≡ tally (any_of (map (rooted (marks marked)) ks.now)) }
 {
     let mut whole = Tally {
@@ -143,22 +143,24 @@ fn count_any(marked: Marked, ks: &[Ker]) -> Tally
 
 // Of an IF, by its guard.
 #[cycle(counts)]
-fn count_branches(marked: Marked, k: &Ker) -> Tally
+fn count_branches(marked: AssignableNames, k: &Ker) -> Tally
     ensures { result ≡ tally (branch_ways (marks marked) k.now) }
 {
     let [_, yes, no] = k.args.as_slice() else {
-        return lone(k);
+        return one_operand(k);
     };
-    count(marked, yes).or(count(marked, no))
+    let first = count(marked, yes);
+    let second = count(marked, no);
+    first.or(second)
 }
 
 // Of an `\E`, by its body.
 #[cycle(counts)]
-fn count_choice(marked: Marked, k: &Ker) -> Tally
+fn count_choice(marked: AssignableNames, k: &Ker) -> Tally
     ensures { result ≡ tally (some_ways (marks marked) k.now) }
 {
     let Some(body) = k.args.as_slice().get(k.binds.len()) else {
-        return lone(k);
+        return one_operand(k);
     };
     count(marked, body)
 }

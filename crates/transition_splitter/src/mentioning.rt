@@ -4,12 +4,12 @@ ghost use Rattle.std.specs.List.{list_any};
 ghost use Rattle.kernel_trees.specs.Paths.{is_end, mentions};
 ghost use Rattle.transition_splitter.specs.inner.Routes.{marks};
 
-use crate::action_kind::Marked;
+use crate::action_kind::AssignableNames;
 use kernel_trees::{Ker, KerOp};
 use tla_values::Value;
 
 #[cycle(mentioning)]
-fn mentions(marked: Marked, k: &Ker) -> bool
+fn mentions(marked: AssignableNames, k: &Ker) -> bool
     ensures { result ≡ mentions (marks marked) k.now }
 {
     match &k.op {
@@ -27,7 +27,7 @@ fn mentions(marked: Marked, k: &Ker) -> bool
 
 // Whether one of these trees holds a name that may be assigned.
 #[cycle(mentioning)]
-pub(crate) fn any_mentions(marked: Marked, ks: &[Ker]) -> bool
+pub(crate) fn any_mentions(marked: AssignableNames, ks: &[Ker]) -> bool
     ensures { result ≡ list_any (mentions (marks marked)) ks.now }
 {
     for k in ks {

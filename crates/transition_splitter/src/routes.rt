@@ -6,7 +6,7 @@ ghost use Rattle.kernel_trees.specs.Ways.{after, after_each, all_of, alone, any_
 ghost use Rattle.transition_splitter.specs.inner.Routes.{Adds, branch_ways, has_way_ended, marks, rooted};
 ghost use Rattle.transition_splitter.specs.inner.Routes.{some_ways, step_lent, way, ways_by};
 
-use crate::action_kind::Marked;
+use crate::action_kind::AssignableNames;
 use crate::mentioning::{any_mentions, is_end};
 use kernel_trees::{Ker, KerOp};
 use std::alloc::{AllocError, Global};
@@ -14,7 +14,7 @@ use tla_meaning::Place;
 
 // A step whose trees stay where they are.
 #[derive(Clone, Copy, Drop)]
-pub(crate) enum Lent<'a> {
+pub(crate) enum LentStep<'a> {
     // An operand.
     Holds(&'a Ker),
     // The guard of an IF at this place, with the truth value that leads on.
@@ -27,17 +27,17 @@ pub(crate) enum Lent<'a> {
 #[derive(Drop)]
 pub(crate) struct Route<'a> {
     pub(crate) taken: Option<Place>,
-    pub(crate) steps: Vec<Lent<'a>>,
+    pub(crate) steps: Vec<LentStep<'a>>,
 }
 
-impl<'a> Lent<'a> {
+impl<'a> LentStep<'a> {
     fn ends(&self) -> bool
         ensures { result ≡ ends_at (step_lent self.now) }
     {
         match self {
-            Lent::Holds(k) => is_end(&k.op),
-            Lent::Branch(_, _, _) => false,
-            Lent::Choice(_) => false,
+            LentStep::Holds(k) => is_end(&k.op),
+            LentStep::Branch(_, _, _) => false,
+            LentStep::Choice(_) => false,
         }
     }
 }
@@ -50,16 +50,6 @@ impl<'a> Route<'a> {
             Some((last, _)) => last.ends(),
             None => false,
         }
-    }
-
-    fn copy(&self, alloc: Global) -> Result<Route<'a>, AllocError>
-        ensures { IfOk result (λ r. way r ≡ way self.now) }
-    {
-        let steps = Vec::from_slice(alloc, self.steps.as_slice())?;
-        Ok(Route {
-            taken: self.taken,
-            steps,
-        })
     }
 }
 
@@ -78,7 +68,7 @@ fn no_step<'a>(alloc: Global) -> Result<Vec<Route<'a>>, AllocError>
 fn one_step<'a>(
     alloc: Global,
     taken: Option<Place>,
-    step: Lent<'a>,
+    step: LentStep<'a>,
 ) -> Result<Route<'a>, AllocError>
     ensures { IfOk result (λ r. way r ≡ record { taken = taken; steps = step_lent step.entry ∷ [] }) }
 {
@@ -115,30 +105,43 @@ fn push_behind<'a>(
     Ok(())
 }
 
-// Adds the first route where it has ended, else each of the second behind it.
+// The route goes on with another.
+fn extended<'a>(mut first: Route<'a>, second: &Route<'a>) -> Result<Route<'a>, AllocError>
+    ensures { IfOk result (λ r. way r ≡ one_after (way first.entry) (way second.now)) }
+{
+    first.steps.extend_from_slice(second.steps.as_slice())?;
+    first.taken = second.taken.or(first.taken);
+    Ok(first)
+}
+
+// Adds the first route where it has ended, else each of the second behind it. It is copied only where there are several.
 fn push_after<'a>(
     alloc: Global,
-    first: &Route<'a>,
+    first: Route<'a>,
     seconds: &[Route<'a>],
     made: &mut Vec<Route<'a>>,
 ) -> Result<(), AllocError>
-    ensures { OnOk result (Adds made.old.items made.new.items (after ends_at (way first.now) (ways_by seconds.now))) }
+    ensures { OnOk result (Adds made.old.items made.new.items (after ends_at (way first.entry) (ways_by seconds.now))) }
 {
     if first.has_ended() {
-        let route = first.copy(alloc)?;
+        made.push(first)?;
+        return Ok(());
+    }
+    if let [second] = seconds {
+        let route = extended(first, second)?;
         made.push(route)?;
         return Ok(());
     }
-    push_behind(alloc, first, seconds, made)
+    push_behind(alloc, &first, seconds, made)
 }
 
 // Each of the first routes, and behind one that goes on each of the second.
 fn each_after<'a>(
     alloc: Global,
-    firsts: &[Route<'a>],
+    firsts: Vec<Route<'a>>,
     seconds: &[Route<'a>],
 ) -> Result<Vec<Route<'a>>, AllocError>
-    ensures { IfOk result (λ rs. ways_by rs.items ≡ after_each ends_at (ways_by firsts.now) (ways_by seconds.now)) }
+    ensures { IfOk result (λ rs. ways_by rs.items ≡ after_each ends_at (ways_by firsts.entry.items) (ways_by seconds.now)) }
 {
     let mut made = Vec::new(alloc);
     for first in firsts {
@@ -154,10 +157,10 @@ fn all_ended(routes: &[Route]) -> bool
 }
 
 // One operand.
-fn lone<'a>(alloc: Global, k: &'a Ker) -> Result<Vec<Route<'a>>, AllocError>
+fn one_operand<'a>(alloc: Global, k: &'a Ker) -> Result<Vec<Route<'a>>, AllocError>
     ensures { IfOk result (λ rs. ways_by rs.items ≡ alone (Holds k.now)) }
 {
-    let route = one_step(alloc, None, Lent::Holds(k))?;
+    let route = one_step(alloc, None, LentStep::Holds(k))?;
     let mut made = Vec::new(alloc);
     made.push(route)?;
     Ok(made)
@@ -167,7 +170,7 @@ fn lone<'a>(alloc: Global, k: &'a Ker) -> Result<Vec<Route<'a>>, AllocError>
 #[cycle(routes)]
 pub(crate) fn routes<'a>(
     alloc: Global,
-    marked: Marked,
+    marked: AssignableNames,
     k: &'a Ker,
 ) -> Result<Vec<Route<'a>>, AllocError>
     ensures { IfOk result (λ rs. ways_by rs.items ≡ ways (marks marked) k.now) }
@@ -179,24 +182,28 @@ pub(crate) fn routes<'a>(
             if any_mentions(marked, args) {
                 of_any(alloc, marked, args)
             } else {
-                lone(alloc, k)
+                one_operand(alloc, k)
             }
         }
         KerOp::If => {
             if any_mentions(marked, args) {
                 of_branches(alloc, marked, k)
             } else {
-                lone(alloc, k)
+                one_operand(alloc, k)
             }
         }
         KerOp::Some => of_choice(alloc, marked, k),
-        _ => lone(alloc, k),
+        _ => one_operand(alloc, k),
     }
 }
 
 // Of a conjunction, from the left; where all have ended, what follows is not taken apart.
 #[cycle(routes)]
-fn of_all<'a>(alloc: Global, marked: Marked, ks: &'a [Ker]) -> Result<Vec<Route<'a>>, AllocError>
+fn of_all<'a>(
+    alloc: Global,
+    marked: AssignableNames,
+    ks: &'a [Ker],
+) -> Result<Vec<Route<'a>>, AllocError>
     ensures { IfOk result (λ rs. ways_by rs.items ≡ all_of ends_at (map (ways (marks marked)) ks.now)) }
 {
     let mut made = no_step(alloc)?;
@@ -205,14 +212,19 @@ fn of_all<'a>(alloc: Global, marked: Marked, ks: &'a [Ker]) -> Result<Vec<Route<
             return Ok(made);
         }
         let found = routes(alloc, marked, k)?;
-        made = each_after(alloc, made.as_slice(), found.as_slice())?;
+        let seconds = found.as_slice();
+        made = each_after(alloc, made, seconds)?;
     }
     Ok(made)
 }
 
 // Of a disjunction.
 #[cycle(routes)]
-fn of_any<'a>(alloc: Global, marked: Marked, ks: &'a [Ker]) -> Result<Vec<Route<'a>>, AllocError>
+fn of_any<'a>(
+    alloc: Global,
+    marked: AssignableNames,
+    ks: &'a [Ker],
+) -> Result<Vec<Route<'a>>, AllocError>
     ensures { IfOk result (λ rs. ways_by rs.items ≡ any_of (map (rooted (marks marked)) ks.now)) }
 {
     let mut made = Vec::new(alloc);
@@ -222,40 +234,61 @@ fn of_any<'a>(alloc: Global, marked: Marked, ks: &'a [Ker]) -> Result<Vec<Route<
             taken: Some(k.place),
             steps: Vec::new(alloc),
         };
-        push_behind(alloc, &front, found.as_slice(), &mut made)?;
+        let seconds = found.as_slice();
+        push_behind(alloc, &front, seconds, &mut made)?;
     }
     Ok(made)
 }
 
 // Of an IF, by its guard.
 #[cycle(routes)]
-fn of_branches<'a>(alloc: Global, marked: Marked, k: &'a Ker) -> Result<Vec<Route<'a>>, AllocError>
+fn of_branches<'a>(
+    alloc: Global,
+    marked: AssignableNames,
+    k: &'a Ker,
+) -> Result<Vec<Route<'a>>, AllocError>
     ensures { IfOk result (λ rs. ways_by rs.items ≡ branch_ways (marks marked) k.now) }
 {
-    let [guard, yes, no] = k.args.as_slice() else {
-        return lone(alloc, k);
+    let args = k.args.as_slice();
+    let [guard, yes, no] = args else {
+        return one_operand(alloc, k);
     };
     let mut made = Vec::new(alloc);
     let found = routes(alloc, marked, yes)?;
-    let front = one_step(alloc, Some(yes.place), Lent::Branch(k.place, guard, true))?;
-    push_behind(alloc, &front, found.as_slice(), &mut made)?;
+    let front = one_step(
+        alloc,
+        Some(yes.place),
+        LentStep::Branch(k.place, guard, true),
+    )?;
+    let seconds = found.as_slice();
+    push_behind(alloc, &front, seconds, &mut made)?;
     let others = routes(alloc, marked, no)?;
-    let other_front = one_step(alloc, Some(no.place), Lent::Branch(k.place, guard, false))?;
-    push_behind(alloc, &other_front, others.as_slice(), &mut made)?;
+    let other_front = one_step(
+        alloc,
+        Some(no.place),
+        LentStep::Branch(k.place, guard, false),
+    )?;
+    let other_seconds = others.as_slice();
+    push_behind(alloc, &other_front, other_seconds, &mut made)?;
     Ok(made)
 }
 
 // Of an `\E`, by its body.
 #[cycle(routes)]
-fn of_choice<'a>(alloc: Global, marked: Marked, k: &'a Ker) -> Result<Vec<Route<'a>>, AllocError>
+fn of_choice<'a>(
+    alloc: Global,
+    marked: AssignableNames,
+    k: &'a Ker,
+) -> Result<Vec<Route<'a>>, AllocError>
     ensures { IfOk result (λ rs. ways_by rs.items ≡ some_ways (marks marked) k.now) }
 {
     let Some(body) = k.args.as_slice().get(k.binds.len()) else {
-        return lone(alloc, k);
+        return one_operand(alloc, k);
     };
     let found = routes(alloc, marked, body)?;
-    let front = one_step(alloc, None, Lent::Choice(k))?;
+    let front = one_step(alloc, None, LentStep::Choice(k))?;
+    let seconds = found.as_slice();
     let mut made = Vec::new(alloc);
-    push_behind(alloc, &front, found.as_slice(), &mut made)?;
+    push_behind(alloc, &front, seconds, &mut made)?;
     Ok(made)
 }

@@ -7,8 +7,9 @@ use std::alloc::AllocError;
 /// Why an action is not taken apart.
 #[derive(Drop)]
 pub enum SplitFault {
-    /// It has more than 4,096 paths: so many, where 1,000,000,000,000 stands for every greater number.
+    /// The number of its paths, from 4,097 to 1,000,000,000,000; the last stands for every greater number too.
     TooManyPaths(u64),
+    /// No memory was left.
     Memory(AllocError),
 }
 

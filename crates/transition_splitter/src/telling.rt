@@ -3,7 +3,7 @@ ghost use Rattle.std.specs.Prelude.{◌≡◌, IfOk, map, zip};
 ghost use Rattle.kernel_trees.specs.Paths.{path_of, place_or, step_of};
 ghost use Rattle.transition_splitter.specs.inner.Routes.{step_lent, way, ways_by};
 
-use crate::routes::{Lent, Route};
+use crate::routes::{LentStep, Route};
 use kernel_trees::{Ker, KerPath, PathStep, copy_ker};
 use std::alloc::{AllocError, Global};
 use tla_values::List;
@@ -19,20 +19,20 @@ fn copy_choice(alloc: Global, numbers: &[u32], sets: &[Ker]) -> Result<List<(u32
     Ok(List::from_vec(picks))
 }
 
-fn copy_lent(alloc: Global, step: &Lent) -> Result<PathStep, AllocError>
+fn copy_lent(alloc: Global, step: &LentStep) -> Result<PathStep, AllocError>
     ensures { IfOk result (λ s. s ≡ step_of (step_lent step.now)) }
 {
     match step {
-        Lent::Holds(k) => Ok(PathStep::Guard(copy_ker(alloc, k)?, true)),
-        Lent::Branch(_, guard, wanted) => Ok(PathStep::Guard(copy_ker(alloc, guard)?, *wanted)),
-        Lent::Choice(k) => {
+        LentStep::Holds(k) => Ok(PathStep::Guard(copy_ker(alloc, k)?, true)),
+        LentStep::Branch(_, guard, wanted) => Ok(PathStep::Guard(copy_ker(alloc, guard)?, *wanted)),
+        LentStep::Choice(k) => {
             let picks = copy_choice(alloc, k.binds.as_slice(), k.args.as_slice())?;
             Ok(PathStep::Pick(picks))
         }
     }
 }
 
-fn copy_steps(alloc: Global, steps: &[Lent]) -> Result<List<PathStep>, AllocError>
+fn copy_steps(alloc: Global, steps: &[LentStep]) -> Result<List<PathStep>, AllocError>
     ensures { IfOk result (λ ss. ss ≡ map step_of (map step_lent steps.now)) }
 {
     let mut copied = Vec::new(alloc);
@@ -44,7 +44,7 @@ fn copy_steps(alloc: Global, steps: &[Lent]) -> Result<List<PathStep>, AllocErro
 }
 
 // The path by this route through an action.
-fn told(alloc: Global, action: &Ker, route: &Route) -> Result<KerPath, AllocError>
+fn path_by(alloc: Global, action: &Ker, route: &Route) -> Result<KerPath, AllocError>
     ensures { IfOk result (λ p. p ≡ path_of action.now (way route.now)) }
 {
     let steps = copy_steps(alloc, route.steps.as_slice())?;
@@ -64,7 +64,7 @@ pub(crate) fn tell_all(
 {
     let mut paths = Vec::new(alloc);
     for route in routes {
-        let path = told(alloc, action, route)?;
+        let path = path_by(alloc, action, route)?;
         paths.push(path)?;
     }
     Ok(List::from_vec(paths))

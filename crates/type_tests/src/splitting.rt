@@ -171,12 +171,12 @@ fn shown(alloc: Global, kind: ActionKind, text: &str) -> Result<Vec<u8>, AllocEr
     let names = names(alloc)?;
     match split(alloc, &part, &names, kind) {
         Ok(paths) => show_paths(alloc, paths.as_slice()),
-        Err(SplitFault::TooManyPaths(_)) => Ok(Vec::new(alloc)),
+        Err(SplitFault::TooManyPaths(_)) => Vec::from_slice(alloc, b"many"),
         Err(SplitFault::Memory(e)) => Err(e),
     }
 }
 
-const NEXT: [(&str, &str); 18] = [
+const NEXT: [(&str, &str); 27] = [
     // one operand
     ("x", "1+1;"),
     // FALSE /\ (x' \/ y') ends at FALSE
@@ -185,11 +185,21 @@ const NEXT: [(&str, &str); 18] = [
     // the first operand's paths in order, each with the second's in order
     ("XY|XY|&", "4+1+4;5+1+5;4+2+4;5+2+5;"),
     ("XY|XY||", "1+1;2+2;4+4;5+5;"),
+    // (FALSE \/ x') /\ y' ends at FALSE in its first path alone; TRUE is no end
+    ("FX|Y&", "1+1;2+2+4;"),
+    ("TXY|&", "2+1+2;3+1+3;"),
     // IF x THEN x' ELSE FALSE, alone and before y'
     ("xXF?", "2+1+2;3-1+3;"),
     ("xXF?Y&", "2+1+2+5;3-1+3;"),
+    // a primed name in the guard alone, a disjunction in a branch, a branch that is one operand; FALSE ends no path as a
+    // guard
+    ("Xxy?", "2+1+2;3-1+3;"),
+    ("xXY|X?", "2+1+2;3+1+3;5-1+5;"),
+    ("xyxy?X?", "5+1+5;6-1+6;"),
+    ("FXT?Y&", "2+1+2+5;3-1+3+5;"),
     // what holds no primed name is one operand
     ("xy|", "3+3;"),
+    ("cc|", "3+3;"),
     ("xyT?", "4+4;"),
     ("Xxy|&", "5+1+4;"),
     // so is what stands under a negation
@@ -198,6 +208,8 @@ const NEXT: [(&str, &str); 18] = [
     ("sXY|E", "2!1:1+2;3!1:1+3;"),
     ("ssXD", "4!1:1!2:2+3;"),
     ("sXEY&", "5!1:1+2+4;"),
+    ("sxE", "3!1:1+2;"),
+    ("XsyE|", "1+1;4!1:2+3;"),
     // x' \/ (~x /\ no case), alone and before y'
     ("Xx~N&|", "1+1;5+3+4;"),
     ("Xx~N&|Y&", "1+1+7;5+3+4;"),
@@ -302,9 +314,25 @@ fn numbers_are_told_up_to_a_greatest(rt: HostRuntime) -> Result<(), Fail> {
     Ok(())
 }
 
+// Each operand x' \/ FALSE ends one path more.
+#[test]
+fn ends_add_up(rt: HostRuntime) -> Result<(), Fail> {
+    let alloc = rt.alloc();
+    assert_eq!(rt; numbers_of(alloc, "", "XF|", 100, b'A')?, (101, 0));
+    assert_eq!(rt; numbers_of(alloc, "", "XF|", 4096, b'A')?, (0, 4097));
+    Ok(())
+}
+
+const TWELVE_AND_FALSE: &str = "XY|XY|XY|XY|XY|XY|XY|XY|XY|XY|XY|XY|F";
+
 // What stands behind FALSE is not taken apart.
 #[test]
 fn nothing_follows_an_end(rt: HostRuntime) -> Result<(), Fail> {
-    assert_eq!(rt; numbers_of(rt.alloc(), "F", "XY|", 200, b'A')?, (1, 0));
+    let alloc = rt.alloc();
+    assert_eq!(rt; numbers_of(alloc, "F", "XY|", 200, b'A')?, (1, 0));
+    assert_eq!(rt;
+        numbers_of(alloc, TWELVE_AND_FALSE, "XY|", 200, b'A')?,
+        (4096, 0)
+    );
     Ok(())
 }

@@ -5,15 +5,15 @@ use Rattle.kernel_trees.specs.declared.kernel.Ker.{Ker, out-Ker}
 use Rattle.kernel_trees.specs.Paths.{Marks, Parted, Step, Holds, Branch, Choice, choice_ways, ends_at, if_ways}
 use Rattle.kernel_trees.specs.Paths.{marks_below, ways}
 use Rattle.kernel_trees.specs.Ways.{Way, has_ended}
-use Rattle.transition_splitter.specs.declared.action_kind.Marked.{Marked}
-use Rattle.transition_splitter.specs.declared.routes.Lent.{Lent}
-use Rattle.transition_splitter.specs.declared.routes.Lent.TheVariants as lent
+use Rattle.transition_splitter.specs.declared.action_kind.AssignableNames.{AssignableNames}
+use Rattle.transition_splitter.specs.declared.routes.LentStep.{LentStep}
+use Rattle.transition_splitter.specs.declared.routes.LentStep.TheVariants as lent
 use Rattle.transition_splitter.specs.declared.routes.Route.{Route}
 
-abbrev pub marks : Marked → Marks
+abbrev pub marks : AssignableNames → Marks
 marks m = marks_below m.declared m.assignable
 
-abbrev pub step_lent : Lent → Step
+abbrev pub step_lent : LentStep → Step
 step_lent (lent.Holds k) = Holds k.now
 step_lent (lent.Branch p k b) = Branch p k.now b
 step_lent (lent.Choice k) = Choice (out-Ker k.now).place (zip (out-Ker k.now).binds (out-Ker k.now).args)

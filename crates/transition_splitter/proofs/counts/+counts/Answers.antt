@@ -26,7 +26,7 @@ count-returns-then-any_mentions t c =
 
 pub count-returns-else-any_mentions : goal.count-returns-else-any_mentions
 count-returns-else-any_mentions t c =
-    c.lone.ensures
+    c.one_operand.ensures
     ∙ ap tally (ways_plain_or (marks c.args.marked) c.args.k.now c.as_slice-args.result.now c.as_slice-args.ensures
     c.in-Or.is
     (sym c.any_mentions.ensures ∙ c.if-any_mentions.false))
@@ -39,7 +39,7 @@ count-returns-then-any_mentions-2 t c =
 
 pub count-returns-else-any_mentions-2 : goal.count-returns-else-any_mentions-2
 count-returns-else-any_mentions-2 t c =
-    c.lone-else-any_mentions-2.ensures
+    c.one_operand-else-any_mentions-2.ensures
     ∙ ap tally (ways_plain_if (marks c.args.marked) c.args.k.now c.as_slice-args.result.now c.as_slice-args.ensures
     c.in-If.is
     (sym c.any_mentions-in-If.ensures ∙ c.if-any_mentions-2.false))
@@ -50,7 +50,7 @@ count-returns-in-Some t c =
 
 pub count-returns-in_default : goal.count-returns-in_default
 count-returns-in_default t c =
-    c.lone-in_default.ensures
+    c.one_operand-in_default.ensures
     ∙ ap tally (ways_plain (marks c.args.marked) c.args.k.now (record {
       no_and = c.in_default.not-And;
       no_or = c.in_default.not-Or;
@@ -73,7 +73,7 @@ count_any-loop-k-preserved t c =
 pub count_branches-returns-in_default : goal.count_branches-returns-in_default
 count_branches-returns-in_default t c =
     let e : length c.as_slice.result.now ≡ length (out-Ker c.args.k.now).args = ap length c.as_slice.ensures in
-    c.lone.ensures
+    c.one_operand.ensures
     ∙ sym (ap tally (not_three (marks c.args.marked) c.args.k.now (out-Ker c.args.k.now).place
     (out-Ker c.args.k.now).args
     (elim c.in_default.branch [
@@ -84,7 +84,7 @@ count_branches-returns-in_default t c =
 pub count_branches-returns : goal.count_branches-returns
 count_branches-returns t c =
     c.or.ensures
-    ∙ ap₂ both c.count.ensures c.count-2.ensures
+    ∙ ap₂ both c.count-first.ensures c.count-second.ensures
     ∙ tally_branches (marks c.args.marked) c.args.k.now (out-Ker c.args.k.now).place c.as_slice.result.now
     c.yes-item.result c.no-item.result
     c.in-len3.len_at_least c.in-len3.len_below c.yes-item.is c.no-item.is
