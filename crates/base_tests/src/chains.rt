@@ -91,6 +91,73 @@ fn agrees(list: &[Link], plain: &[(usize, Link)], code: usize) -> bool {
     rest.next().is_none()
 }
 
+// Whether each list has the links of its code in the plain list.
+fn all_agree(
+    alloc: Global,
+    chains: &WatchChains,
+    plain: &[(usize, Link)],
+    codes: usize,
+) -> Result<bool, AllocError>
+    requires { codes ≡ length chains.now.lists }
+{
+    for code in 0..codes {
+        let list = contents(alloc, chains, code)?;
+        if !agrees(&list, plain, code) {
+            return Ok(false);
+        }
+    }
+    Ok(true)
+}
+
+// Links or takes out each link in turn, in the list of 5, as `apply` does: the first step after which the list has other
+// links than these, or another list has some.
+fn first_wrong(
+    alloc: Global,
+    chains: &mut WatchChains,
+    plain: &mut Vec<(usize, Link)>,
+    steps: &[(Link, usize, &[Link])],
+) -> Result<Option<usize>, AllocError>
+    requires codes { length chains.old.lists ≡ 6 }
+    requires room { chains.old.room ≡ 3 }
+{
+    'steps: for i in 0..steps.len() {
+        let (l, at, expected) = steps[i];
+        if l.clause >= 3 || l.slot >= 2 || !apply(alloc, chains, plain, 6, 5, l, at)? {
+            return Ok(Some(i));
+        }
+        let list = contents(alloc, chains, 5)?;
+        if list.as_slice() != expected || !all_agree(alloc, chains, plain, 6)? {
+            return Ok(Some(i));
+        }
+    }
+    Ok(None)
+}
+
+const C0: Link = Link { clause: 0, slot: 0 };
+
+const C1: Link = Link { clause: 1, slot: 1 };
+
+const C2: Link = Link { clause: 2, slot: 0 };
+
+// The link to link, or the place to take out, and the list afterwards.
+const STEPS: [(Link, usize, &[Link]); 6] = [
+    (C0, 0, &[C0]),
+    (C1, 0, &[C1, C0]),
+    (C2, 0, &[C2, C1, C0]),
+    (C0, 1, &[C2, C0]),
+    (C0, 1, &[C2]),
+    (C2, 0, &[]),
+];
+
+#[test]
+fn links_go_to_the_front_and_come_out_behind_another(rt: HostRuntime) -> Result<(), Fail> {
+    let mut chains = made(rt.alloc(), 6, 3)?;
+    let mut plain = Vec::new(rt.alloc());
+    let wrong = first_wrong(rt.alloc(), &mut chains, &mut plain, &STEPS)?;
+    assert_eq!(rt; wrong, None);
+    Ok(())
+}
+
 // The next number of a pseudo-random sequence.
 fn draw(state: &mut u64) -> usize {
     *state = state
@@ -99,55 +166,35 @@ fn draw(state: &mut u64) -> usize {
     (*state >> 33) as usize
 }
 
-#[test]
-fn links_go_to_the_front_and_come_out_behind_another(rt: HostRuntime) -> Result<(), Fail> {
-    let c0 = Link { clause: 0, slot: 0 };
-    let c1 = Link { clause: 1, slot: 1 };
-    let c2 = Link { clause: 2, slot: 0 };
-    let mut chains = made(rt.alloc(), 6, 3)?;
-    let mut plain = Vec::new(rt.alloc());
-    // The link to link, or the place to take out, and the list of 5 afterwards.
-    let steps: [(Link, usize, &[Link]); 6] = [
-        (c0, 0, &[c0]),
-        (c1, 0, &[c1, c0]),
-        (c2, 0, &[c2, c1, c0]),
-        (c0, 1, &[c2, c0]),
-        (c0, 1, &[c2]),
-        (c2, 0, &[]),
-    ];
-    'steps: for (l, at, expected) in steps {
-        assert!(rt; l.clause < 3 && l.slot < 2);
-        assert!(rt; apply(rt.alloc(), &mut chains, &mut plain, 6, 5, l, at)?);
-        let list = contents(rt.alloc(), &chains, 5)?;
-        assert!(rt; list.as_slice() == expected);
-        assert!(rt; chains.first(4).is_none());
+// The first of so many random calls after which the chains and the plain list differ.
+fn first_difference(
+    alloc: Global,
+    chains: &mut WatchChains,
+    plain: &mut Vec<(usize, Link)>,
+    count: u64,
+) -> Result<Option<u64>, AllocError>
+    requires codes { length chains.old.lists ≡ 3 }
+    requires room { chains.old.room ≡ 6 }
+{
+    let mut state = 1;
+    'calls: for call in 0..count {
+        let code = draw(&mut state) % 3;
+        let clause = draw(&mut state) % 6;
+        let slot = (draw(&mut state) % 2) as u8;
+        let at = draw(&mut state) % 5;
+        let right = apply(alloc, chains, plain, 3, code, Link { clause, slot }, at)?;
+        if !right || !all_agree(alloc, chains, plain, 3)? {
+            return Ok(Some(call));
+        }
     }
-    Ok(())
+    Ok(None)
 }
 
 #[test]
 fn thousands_of_random_calls_agree_with_a_plain_list(rt: HostRuntime) -> Result<(), Fail> {
     let mut chains = made(rt.alloc(), 3, 6)?;
     let mut plain = Vec::new(rt.alloc());
-    let mut state = 1;
-    'calls: for call in 0..4000 {
-        let code = draw(&mut state) % 3;
-        let l = Link {
-            clause: draw(&mut state) % 6,
-            slot: (draw(&mut state) % 2) as u8,
-        };
-        let at = draw(&mut state) % 5;
-        assert!(rt;
-            apply(rt.alloc(), &mut chains, &mut plain, 3, code, l, at)?,
-            "call {call}"
-        );
-        for code in 0..3 {
-            let list = contents(rt.alloc(), &chains, code)?;
-            assert!(rt;
-                agrees(&list, &plain, code),
-                "list {code} after call {call}"
-            );
-        }
-    }
+    let difference = first_difference(rt.alloc(), &mut chains, &mut plain, 4000)?;
+    assert_eq!(rt; difference, None);
     Ok(())
 }

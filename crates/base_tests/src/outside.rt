@@ -1,86 +1,127 @@
+//! Files and sinks, in memory and of the system: calls in turn, each with what it is to answer.
+
 use std::test::Fail;
 use std::{fs, io};
 use tla_values::List;
 use tool_outside::{FileFail, Files, HostFiles, HostSink, MemoryFiles, MemorySink, Sink, SinkFail};
 
+// A call on files, of a name.
+#[derive(Drop, Clone, Copy)]
+enum Call<'a> {
+    /// The most bytes that it takes.
+    Read(&'a str, u64),
+    Create(&'a str),
+    Append(&'a str, &'a [u8]),
+}
+
+// What a call answers.
+#[derive(Drop, Clone, Copy)]
+enum Told<'a> {
+    Bytes(&'a [u8]),
+    Missing,
+    Done,
+    Failed,
+    TooLong,
+}
+
+fn is_fault(fail: &FileFail, told: Told) -> bool {
+    match fail {
+        FileFail::Failed => matches!(told, Told::Failed),
+        FileFail::TooLong => matches!(told, Told::TooLong),
+        FileFail::Memory(_) => false,
+    }
+}
+
+fn is_done(answer: Result<(), FileFail>, told: Told) -> bool {
+    match answer {
+        Ok(()) => matches!(told, Told::Done),
+        Err(fail) => is_fault(&fail, told),
+    }
+}
+
+fn is_content(content: &[u8], told: Told) -> bool {
+    match told {
+        Told::Bytes(bytes) => content == bytes,
+        _ => false,
+    }
+}
+
+// Whether the call answers this.
+fn answers<F: Files>(rt: &HostRuntime, files: &mut F, call: Call, told: Told) -> bool {
+    match call {
+        Call::Read(name, limit) => match files.read(rt.alloc(), name, limit) {
+            Ok(Some(bytes)) => is_content(bytes.as_slice(), told),
+            Ok(None) => matches!(told, Told::Missing),
+            Err(fail) => is_fault(&fail, told),
+        },
+        Call::Create(name) => is_done(files.create(rt.alloc(), name), told),
+        Call::Append(name, bytes) => is_done(files.append(rt.alloc(), name, bytes), told),
+    }
+}
+
+// The first of the calls that answers something else, from 0.
+fn first_wrong<F: Files>(rt: &HostRuntime, files: &mut F, calls: &[(Call, Told)]) -> Option<usize> {
+    for i in 0..calls.len() {
+        let (call, told) = calls[i];
+        if !answers(rt, files, call, told) {
+            return Some(i);
+        }
+    }
+    None
+}
+
 fn numbers(rt: &HostRuntime, listed: &[u64]) -> Result<List<u64>, Fail> {
     Ok(List::from_vec(listed.to_vec(rt.alloc())?))
 }
 
-// What a read answered.
-fn read<F: Files>(rt: &HostRuntime, files: &mut F, name: &str, limit: u64) -> &'static str {
-    match files.read(rt.alloc(), name, limit) {
-        Ok(Some(_)) => "bytes",
-        Ok(None) => "none",
-        Err(fail) => file_fail(&fail),
-    }
+// Files of which the calls with these numbers fail, with one file of five bytes.
+fn in_memory(rt: &HostRuntime, failing: &[u64]) -> Result<MemoryFiles, Fail> {
+    let mut files = MemoryFiles::new(rt.alloc(), numbers(rt, failing)?);
+    files.put("a", b"old")?;
+    files.put("a", b"12345")?;
+    Ok(files)
 }
 
-fn file_fail(fail: &FileFail) -> &'static str {
-    match fail {
-        FileFail::Failed => "failed",
-        FileFail::TooLong => "too long",
-        FileFail::Memory(_) => "memory",
-    }
-}
-
-// What a create or an append answered.
-fn done(answer: Result<(), FileFail>) -> &'static str {
-    match answer {
-        Ok(()) => "done",
-        Err(fail) => file_fail(&fail),
-    }
-}
-
-fn save<F: Files>(rt: &HostRuntime, files: &mut F, name: &str) -> Result<(), FileFail> {
-    files.create(rt.alloc(), name)?;
-    files.append(rt.alloc(), name, b"first ")?;
-    files.append(rt.alloc(), name, b"second")
-}
-
-fn write_two<K: Sink>(sink: &mut K) -> Result<(), SinkFail> {
-    sink.write(b"one\n")?;
-    sink.write(b"two\n")
-}
+const IN_MEMORY: [(Call<'static>, Told<'static>); 14] = [
+    (Call::Read("a", 5), Told::Bytes(b"12345")),
+    (Call::Read("a", 5), Told::Failed),
+    (Call::Read("a", 4), Told::TooLong),
+    (Call::Read("b", 0), Told::Missing),
+    (Call::Read("b", 0), Told::Failed),
+    (Call::Append("b", b"in "), Told::Done),
+    (Call::Append("b", b"lost "), Told::Failed),
+    (Call::Append("b", b"full"), Told::Done),
+    (Call::Read("b", 7), Told::Bytes(b"in full")),
+    (Call::Create("b"), Told::Done),
+    (Call::Append("b", b"first "), Told::Done),
+    (Call::Append("b", b"second"), Told::Done),
+    (Call::Read("b", 12), Told::Bytes(b"first second")),
+    (Call::Read("c", 12), Told::Missing),
+];
 
 #[test]
 fn files_in_memory_fail_at_the_listed_calls(rt: HostRuntime) -> Result<(), Fail> {
-    let mut files = MemoryFiles::new(rt.alloc(), numbers(&rt, &[1, 4, 6])?);
-    files.put("a", b"old")?;
-    files.put("a", b"12345")?;
-    // The number of the call, the name, the limit, and the answer.
-    for (call, name, limit, answer) in [
-        (0, "a", 5, "bytes"),
-        (1, "a", 5, "failed"),
-        (2, "a", 4, "too long"),
-        (3, "b", 0, "none"),
-        (4, "b", 0, "failed"),
-    ] {
-        assert_eq!(rt; read(&rt, &mut files, name, limit), answer, "call {call}");
-    }
-    assert_eq!(rt; done(files.append(rt.alloc(), "b", b"in ")), "done");
-    assert_eq!(rt; done(files.append(rt.alloc(), "b", b"lost ")), "failed");
-    assert_eq!(rt; done(files.append(rt.alloc(), "b", b"full")), "done");
-    assert!(rt; files.get("b") == Some(b"in full".as_slice()));
-    save(&rt, &mut files, "b")?;
-    assert!(rt; files.get("b") == Some(b"first second".as_slice()));
+    let mut files = in_memory(&rt, &[1, 4, 6])?;
+    assert_eq!(rt; first_wrong(&rt, &mut files, &IN_MEMORY), None);
     assert!(rt; files.get("a") == Some(b"12345".as_slice()));
+    assert!(rt; files.get("b") == Some(b"first second".as_slice()));
     assert!(rt; files.get("c").is_none());
-    let bytes = files.read(rt.alloc(), "a", 5)?;
-    assert!(rt; bytes.is_some_and(|bytes| bytes.as_slice() == b"12345".as_slice()));
     Ok(())
 }
 
+const CREATES: [(Call<'static>, Told<'static>); 6] = [
+    (Call::Create("a"), Told::Failed),
+    (Call::Read("a", 5), Told::Bytes(b"12345")),
+    (Call::Create("a"), Told::Done),
+    (Call::Read("a", 5), Told::Bytes(b"")),
+    (Call::Create("b"), Told::Failed),
+    (Call::Read("b", 5), Told::Missing),
+];
+
 #[test]
 fn a_failed_create_in_memory_keeps_the_file(rt: HostRuntime) -> Result<(), Fail> {
-    let mut files = MemoryFiles::new(rt.alloc(), numbers(&rt, &[0, 2])?);
-    files.put("a", b"old")?;
-    assert_eq!(rt; done(files.create(rt.alloc(), "a")), "failed");
-    assert!(rt; files.get("a") == Some(b"old".as_slice()));
-    assert_eq!(rt; done(files.create(rt.alloc(), "a")), "done");
-    assert!(rt; files.get("a") == Some(b"".as_slice()));
-    assert_eq!(rt; done(files.create(rt.alloc(), "b")), "failed");
-    assert!(rt; files.get("b").is_none());
+    let mut files = in_memory(&rt, &[0, 4])?;
+    assert_eq!(rt; first_wrong(&rt, &mut files, &CREATES), None);
     Ok(())
 }
 
@@ -101,64 +142,64 @@ fn a_sink_in_memory_fails_at_the_listed_writes(rt: HostRuntime) -> Result<(), Fa
     Ok(())
 }
 
-#[test]
-fn files_and_standard_output_of_the_system(rt: HostRuntime) -> Result<(), Fail> {
-    let mut files = HostFiles::new(&rt);
-    assert_eq!(rt; read(&rt, &mut files, "saved.txt", 12), "none");
-    save(&rt, &mut files, "saved.txt")?;
-    let saved = files.read(rt.alloc(), "saved.txt", 12)?;
-    assert!(rt; saved.is_some_and(|bytes| bytes.as_slice() == b"first second".as_slice()));
-    assert_eq!(rt; read(&rt, &mut files, "saved.txt", 11), "too long");
-    assert_eq!(rt; done(files.create(rt.alloc(), "saved.txt")), "done");
-    assert_eq!(rt; read(&rt, &mut files, "saved.txt", 0), "bytes");
-    assert_eq!(rt; read(&rt, &mut files, "/", 12), "failed");
-    assert_eq!(rt; done(files.append(rt.alloc(), "/", b"lost")), "failed");
-    write_two(&mut HostSink::new(fs::create(&rt, "saved.txt")?))?;
-    let written = files.read(rt.alloc(), "saved.txt", 8)?;
-    assert!(rt; written.is_some_and(|bytes| bytes.as_slice() == b"one\ntwo\n".as_slice()));
-    fs::remove_file(&rt, "saved.txt")?;
-    assert_eq!(rt; read(&rt, &mut files, "saved.txt", 8), "none");
-    write_two(&mut HostSink::new(io::writer(&rt)))?;
-    Ok(())
-}
+// What the system refuses is failed, and never taken for a missing file or for a success: a name below a plain file, a
+// folder that is not there, a device without an end, and a full one.
+const OF_THE_SYSTEM: [(Call<'static>, Told<'static>); 26] = [
+    (Call::Read("saved.txt", 12), Told::Missing),
+    (Call::Create("saved.txt"), Told::Done),
+    (Call::Append("saved.txt", b"first "), Told::Done),
+    (Call::Append("saved.txt", b"second"), Told::Done),
+    (Call::Read("saved.txt", 12), Told::Bytes(b"first second")),
+    (Call::Read("saved.txt", 11), Told::TooLong),
+    (Call::Read("saved.txt/below", 12), Told::Failed),
+    (Call::Create("saved.txt/below"), Told::Failed),
+    (Call::Append("saved.txt/below", b"lost"), Told::Failed),
+    (Call::Read("saved.txt", 12), Told::Bytes(b"first second")),
+    (Call::Create("saved.txt"), Told::Done),
+    (Call::Read("saved.txt", 0), Told::Bytes(b"")),
+    (Call::Read("/", 12), Told::Failed),
+    (Call::Append("/", b"lost"), Told::Failed),
+    (Call::Read("/dev/zero", 10_000), Told::TooLong),
+    (Call::Read("/dev/zero", 0), Told::TooLong),
+    (Call::Read("/dev/null", 0), Told::Bytes(b"")),
+    (Call::Create("/dev/null"), Told::Done),
+    (Call::Append("/dev/null", b"lost"), Told::Done),
+    (Call::Create("/dev/full"), Told::Done),
+    (Call::Append("/dev/full", b"lost"), Told::Failed),
+    (Call::Read("gone/below", 12), Told::Missing),
+    (Call::Create("gone/below"), Told::Failed),
+    (Call::Append("gone/below", b"lost"), Told::Failed),
+    (Call::Append("saved.txt", b"kept"), Told::Done),
+    (Call::Read("saved.txt", 4), Told::Bytes(b"kept")),
+];
 
-// What the system refuses is failed, and never taken for a missing file or for a success.
 #[test]
 fn each_error_of_the_system_is_a_fault(rt: HostRuntime) -> Result<(), Fail> {
     let mut files = HostFiles::new(&rt);
-    save(&rt, &mut files, "plain.txt")?;
-    // A name below a plain file, and a device without an end.
-    for (name, limit, answer) in [
-        ("plain.txt/below", 12, "failed"),
-        ("plain.txt", 12, "bytes"),
-        ("/dev/zero", 10_000, "too long"),
-        ("/dev/zero", 0, "too long"),
-        ("/dev/null", 0, "bytes"),
-        ("gone/below", 12, "none"),
-    ] {
-        assert_eq!(rt; read(&rt, &mut files, name, limit), answer, "read {name}");
-    }
-    // A folder that is not there, a plain file in the place of one, and a full device.
-    for (name, created, appended) in [
-        ("gone/below", "failed", "failed"),
-        ("plain.txt/below", "failed", "failed"),
-        ("/dev/full", "done", "failed"),
-        ("/dev/null", "done", "done"),
-    ] {
-        assert_eq!(rt;
-            done(files.create(rt.alloc(), name)),
-            created,
-            "create {name}"
-        );
-        assert_eq!(rt;
-            done(files.append(rt.alloc(), name, b"lost")),
-            appended,
-            "append {name}"
-        );
-    }
-    let saved = files.read(rt.alloc(), "plain.txt", 12)?;
-    assert!(rt; saved.is_some_and(|bytes| bytes.as_slice() == b"first second".as_slice()));
-    fs::remove_file(&rt, "plain.txt")?;
+    assert_eq!(rt; first_wrong(&rt, &mut files, &OF_THE_SYSTEM), None);
+    fs::remove_file(&rt, "saved.txt")?;
+    assert!(rt; answers(&rt, &mut files, Call::Read("saved.txt", 8), Told::Missing));
+    Ok(())
+}
+
+fn write_two<K: Sink>(sink: &mut K) -> Result<(), SinkFail> {
+    sink.write(b"one\n")?;
+    sink.write(b"two\n")
+}
+
+#[test]
+fn a_sink_of_the_system_writes_to_its_file(rt: HostRuntime) -> Result<(), Fail> {
+    write_two(&mut HostSink::new(fs::create(&rt, "written.txt")?))?;
+    let told = Told::Bytes(b"one\ntwo\n");
+    let mut files = HostFiles::new(&rt);
+    assert!(rt; answers(&rt, &mut files, Call::Read("written.txt", 8), told));
+    fs::remove_file(&rt, "written.txt")?;
+    Ok(())
+}
+
+#[test]
+fn standard_output_is_a_sink(rt: HostRuntime) -> Result<(), Fail> {
+    write_two(&mut HostSink::new(io::writer(&rt)))?;
     Ok(())
 }
 

@@ -1,5 +1,5 @@
 use Rattle.std.proofs.Common.{◌≡◌, length}
-use Rattle.base_tests.proofs.chains.thousands_of_random_calls_agree_with_a_plain_list.Given as goal
+use Rattle.base_tests.proofs.chains.first_difference.Given as goal
 
 abbrev pub invariant-calls : goal.invariant-calls
 invariant-calls g l = record { codes : length l.chains.lists ≡ 3; room : l.chains.room ≡ 6 }
