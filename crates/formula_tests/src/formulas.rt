@@ -2,7 +2,7 @@
 
 ghost use Rattle.std.specs.Prelude.{◌<◌, IfOk};
 
-use sat_formula::{Assignment, Cnf, Formula, Lit, value};
+use sat_formula::{Assignment, Clause, Cnf, Formula, Lit, value};
 use std::alloc::{AllocError, Global};
 use std::test::Fail;
 
@@ -174,38 +174,72 @@ fn gates_add_one_variable_and_few_clauses(rt: HostRuntime) -> Result<(), Fail> {
     Ok(())
 }
 
-#[test]
-fn a_choice_by_a_known_literal_adds_nothing(rt: HostRuntime) -> Result<(), Fail> {
-    let alloc = rt.alloc();
-    let mut f = Formula::new(alloc)?;
+// Whether choices by a known literal, or between one literal, are that literal, and add nothing; then how many variables
+// and clauses there are, and with a known branch, which leaves an `and` or an `or`.
+fn known_choices(f: &mut Formula) -> Result<(bool, [usize; 4]), AllocError> {
     let top = f.top();
     let a = f.fresh()?;
     let b = f.fresh()?;
-    assert_eq!(rt; f.mux(top, a, b)?, a);
-    assert_eq!(rt; f.mux(top.negated(), a, b)?, b);
-    assert_eq!(rt; f.mux(a, b, b)?, b);
-    assert_eq!(rt; (f.vars(), f.clauses().clauses().len()), (3, 1));
-    // A known branch leaves an `and` or an `or`.
+    let first = f.mux(top, a, b)?;
+    let second = f.mux(top.negated(), a, b)?;
+    let alike = f.mux(a, b, b)?;
+    let vars = f.vars();
+    let clauses = f.clauses().clauses().len();
     let both = f.mux(a, b, top.negated())?;
-    assert_eq!(rt; (both.var, f.clauses().clauses().len()), (3, 4));
-    Ok(())
+    let all = f.clauses().clauses().len();
+    Ok((
+        first == a && second == b && alike == b,
+        [vars, clauses, both.var, all],
+    ))
 }
 
 #[test]
-fn a_unit_clause_comes_last(rt: HostRuntime) -> Result<(), Fail> {
-    let alloc = rt.alloc();
-    let mut f = Formula::new(alloc)?;
+fn a_choice_by_a_known_literal_adds_nothing(rt: HostRuntime) -> Result<(), Fail> {
+    let mut f = Formula::new(rt.alloc())?;
+    assert_eq!(rt; known_choices(&mut f)?, (true, [3, 1, 3, 4]));
+    Ok(())
+}
+
+// Two clauses, the second empty, and then a unit clause.
+fn with_unit(alloc: Global, f: &mut Formula) -> Result<Cnf, AllocError> {
     let a = f.fresh()?;
     let b = f.fresh()?;
     f.add(&[a, b.negated()])?;
     f.add(&[])?;
-    let Cnf { vars, clauses } = f.with_unit(alloc, b)?;
+    f.with_unit(alloc, b)
+}
+
+// Whether the clauses are these, which are written as the numbers of their variables behind their signs.
+fn are(clauses: &[Clause], wanted: &[&[(usize, bool)]]) -> bool {
+    if clauses.len() != wanted.len() {
+        return false;
+    }
+    for i in 0..clauses.len() {
+        let lits = clauses[i].lits();
+        if lits.len() != wanted[i].len() {
+            return false;
+        }
+        for j in 0..lits.len() {
+            if (lits[j].var, lits[j].neg) != wanted[i][j] {
+                return false;
+            }
+        }
+    }
+    true
+}
+
+const UNIT_LAST: [&[(usize, bool)]; 4] = [
+    &[(0, false)],
+    &[(1, false), (2, true)],
+    &[],
+    &[(2, false)],
+];
+
+#[test]
+fn a_unit_clause_comes_last(rt: HostRuntime) -> Result<(), Fail> {
+    let mut f = Formula::new(rt.alloc())?;
+    let Cnf { vars, clauses } = with_unit(rt.alloc(), &mut f)?;
     assert_eq!(rt; vars, 3);
-    let listed = clauses.clauses();
-    assert_eq!(rt; listed.len(), 4);
-    assert_eq!(rt; listed[0].lits(), [f.top()].as_slice());
-    assert_eq!(rt; listed[1].lits(), [a, b.negated()].as_slice());
-    assert_eq!(rt; listed[2].lits(), [].as_slice());
-    assert_eq!(rt; listed[3].lits(), [b].as_slice());
+    assert!(rt; are(clauses.clauses(), &UNIT_LAST));
     Ok(())
 }

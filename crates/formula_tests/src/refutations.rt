@@ -52,60 +52,43 @@ fn answer(alloc: Global, first: Step, hints: &[u64]) -> Result<Check, AllocError
     check(alloc, &four(alloc)?, &Log::from_vec(steps))
 }
 
-#[test]
-fn a_refutation_is_accepted(rt: HostRuntime) -> Result<(), Fail> {
-    let alloc = rt.alloc();
-    let right = step(alloc, 5, &[2], &[1, 2])?;
-    assert_eq!(rt; answer(alloc, right, &[5, 3, 4])?, Check::Yes);
-    // a literal that is named twice counts once
-    let twice = step(alloc, 5, &[2, 2], &[1, 2])?;
-    assert_eq!(rt; answer(alloc, twice, &[5, 3, 4])?, Check::Yes);
-    Ok(())
+// A step's number, literals and hints, the hints of the empty clause behind it, and the answer.
+type Case<'a> = (u64, &'a [i32], &'a [u64], &'a [u64], Check);
+
+// The first case that is answered otherwise, from 0.
+fn first_wrong(alloc: Global, cases: &[Case]) -> Result<Option<usize>, AllocError> {
+    for i in 0..cases.len() {
+        let case = &cases[i];
+        let first = step(alloc, case.0, case.1, case.2)?;
+        if answer(alloc, first, case.3)? != case.4 {
+            return Ok(Some(i));
+        }
+    }
+    Ok(None)
 }
 
-#[test]
-fn the_first_wrong_step_is_named(rt: HostRuntime) -> Result<(), Fail> {
-    let alloc = rt.alloc();
-    // negated, not false at the end, its own number, a literal beside its negation, no hints,
-    // number 0, a number that is not the next
-    assert_eq!(rt;
-        answer(alloc, step(alloc, 5, &[-2], &[1, 2])?, &[5, 3, 4])?,
-        Check::No(5)
-    );
-    assert_eq!(rt;
-        answer(alloc, step(alloc, 5, &[2], &[1])?, &[5, 3, 4])?,
-        Check::No(5)
-    );
-    assert_eq!(rt;
-        answer(alloc, step(alloc, 5, &[2], &[1, 5])?, &[5, 3, 4])?,
-        Check::No(5)
-    );
-    assert_eq!(rt;
-        answer(alloc, step(alloc, 5, &[2, -2], &[1, 2])?, &[5, 3, 4])?,
-        Check::No(5)
-    );
-    assert_eq!(rt;
-        answer(alloc, step(alloc, 5, &[2], &[])?, &[5, 3, 4])?,
-        Check::No(5)
-    );
-    assert_eq!(rt;
-        answer(alloc, step(alloc, 5, &[2], &[0, 1, 2])?, &[5, 3, 4])?,
-        Check::No(5)
-    );
-    assert_eq!(rt;
-        answer(alloc, step(alloc, 7, &[2], &[1, 2])?, &[5, 3, 4])?,
-        Check::No(7)
-    );
+const CASES: [Case<'static>; 11] = [
+    // a refutation, and one in which a literal is named twice and counts once
+    (5, &[2], &[1, 2], &[5, 3, 4], Check::Yes),
+    (5, &[2, 2], &[1, 2], &[5, 3, 4], Check::Yes),
+    // negated, not false at the end, its own number, a literal beside its negation, no hints, number 0, a number that is
+    // not the next
+    (5, &[-2], &[1, 2], &[5, 3, 4], Check::No(5)),
+    (5, &[2], &[1], &[5, 3, 4], Check::No(5)),
+    (5, &[2], &[1, 5], &[5, 3, 4], Check::No(5)),
+    (5, &[2, -2], &[1, 2], &[5, 3, 4], Check::No(5)),
+    (5, &[2], &[], &[5, 3, 4], Check::No(5)),
+    (5, &[2], &[0, 1, 2], &[5, 3, 4], Check::No(5)),
+    (7, &[2], &[1, 2], &[5, 3, 4], Check::No(7)),
     // the first hint's clause has two literals that are not false
-    assert_eq!(rt;
-        answer(alloc, step(alloc, 5, &[2], &[1, 2])?, &[3, 5, 3, 4])?,
-        Check::No(6)
-    );
+    (5, &[2], &[1, 2], &[3, 5, 3, 4], Check::No(6)),
     // a hint after the clause that is false
-    assert_eq!(rt;
-        answer(alloc, step(alloc, 5, &[2], &[1, 2])?, &[5, 3, 4, 1])?,
-        Check::No(6)
-    );
+    (5, &[2], &[1, 2], &[5, 3, 4, 1], Check::No(6)),
+];
+
+#[test]
+fn a_refutation_is_accepted_and_the_first_wrong_step_named(rt: HostRuntime) -> Result<(), Fail> {
+    assert_eq!(rt; first_wrong(rt.alloc(), &CASES)?, None);
     Ok(())
 }
 
@@ -195,29 +178,32 @@ fn open_text(
     print_section(alloc, &section)
 }
 
+fn is_printed(
+    alloc: Global,
+    level: u32,
+    typed: bool,
+    query: QueryName,
+    text: &str,
+) -> Result<bool, AllocError> {
+    let printed = open_text(alloc, level, typed, query)?;
+    Ok(printed.as_slice() == text.as_bytes())
+}
+
+const WRONG: &str = "query 4294967295 step-wrong\np cnf 7 1\n-18446744073709551616 0\nlog\nopen\n";
+
+const BIG: &str = "query 10 step-big\np cnf 7 1\n-18446744073709551616 0\nlog\nopen\n";
+
+const INVARIANT: &str = "query typed inv-big\np cnf 7 1\n-18446744073709551616 0\nlog\nopen\n";
+
+const ASSUMPTION: &str = "query typed assume-big\np cnf 7 1\n-18446744073709551616 0\nlog\nopen\n";
+
 #[test]
 fn each_question_has_its_words(rt: HostRuntime) -> Result<(), Fail> {
     let alloc = rt.alloc();
-    let wrong = b"query 4294967295 step-wrong\np cnf 7 1\n-18446744073709551616 0\nlog\nopen\n";
-    assert_eq!(rt;
-        open_text(alloc, u32::MAX, false, QueryName::StepWrong)?.as_slice(),
-        wrong.as_slice()
-    );
-    let big = b"query 10 step-big\np cnf 7 1\n-18446744073709551616 0\nlog\nopen\n";
-    assert_eq!(rt;
-        open_text(alloc, 10, false, QueryName::StepBig)?.as_slice(),
-        big.as_slice()
-    );
-    let invariant = b"query typed inv-big\np cnf 7 1\n-18446744073709551616 0\nlog\nopen\n";
-    assert_eq!(rt;
-        open_text(alloc, 0, true, QueryName::InvBig)?.as_slice(),
-        invariant.as_slice()
-    );
-    let assumption = b"query typed assume-big\np cnf 7 1\n-18446744073709551616 0\nlog\nopen\n";
-    assert_eq!(rt;
-        open_text(alloc, 0, true, QueryName::AssumeBig)?.as_slice(),
-        assumption.as_slice()
-    );
+    assert!(rt; is_printed(alloc, u32::MAX, false, QueryName::StepWrong, WRONG)?);
+    assert!(rt; is_printed(alloc, 10, false, QueryName::StepBig, BIG)?);
+    assert!(rt; is_printed(alloc, 0, true, QueryName::InvBig, INVARIANT)?);
+    assert!(rt; is_printed(alloc, 0, true, QueryName::AssumeBig, ASSUMPTION)?);
     Ok(())
 }
 
