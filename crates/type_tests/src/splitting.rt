@@ -5,14 +5,14 @@
 // `|`, `?`: Not, And, Or and If of the last; `E`, `D`: an `\E` over the last with one set or two; `A`, `O`: And and Or of
 // all so far.
 
-use kernel_trees::{Ker, KerOp, KerPath, PathStep};
+use kernel_trees::{ActionKind, Ker, KerOp, KerPath, PathStep};
 use snowcat_rows::Ty;
 use std::alloc::{AllocError, Global};
 use std::mem;
 use std::test::Fail;
 use tla_meaning::{Decl, Place};
 use tla_values::{List, Text, Value};
-use transition_splitter::{ActionKind, SplitFault, split};
+use transition_splitter::{SplitFault, split};
 
 fn at(col: u32) -> Place {
     Place {
