@@ -2,6 +2,7 @@
 pub mod Trees
 pub mod Ways
 pub mod Paths
+pub mod ActionNames
 pub mod Picks
 pub mod Assignments
 pub mod Scoped

@@ -6,6 +6,7 @@
 //! symbolic transitions.)
 #![tactic(auto)]
 
+mod action_kind;
 mod copy;
 mod faults;
 mod kernel;
@@ -13,10 +14,11 @@ mod path;
 mod system;
 mod theorems;
 
+pub use action_kind::{ActionKind, AssignableNames, marks_of};
 pub use copy::{copy_ker, copy_ker_op, copy_sets, copy_step};
 pub use faults::KerFault;
 pub use kernel::{Ker, KerOp};
-pub use path::{Assigned, AssignedStep, KerPath, PathStep};
+pub use path::{Assigned, AssignedStep, KerPath, PathStep, is_end};
 pub use system::{KerJob, System};
 pub use theorems::{
     actions_go_by_their_paths, faults_read_what_was_assigned, paths_of_sound_trees_are_sound,

@@ -1,7 +1,10 @@
 // The paths of an action.
-use crate::kernel::Ker;
+ghost use Rattle.std.specs.Prelude.{◌≡◌};
+ghost use Rattle.kernel_trees.specs.Paths.{is_end};
+
+use crate::kernel::{Ker, KerOp};
 use tla_meaning::Place;
-use tla_values::List;
+use tla_values::{List, Value};
 
 /// A guard with the truth value that it must have, or the bound numbers of one `\E`, each with its set.
 #[derive(Drop)]
@@ -31,4 +34,15 @@ pub enum AssignedStep {
 pub struct Assigned {
     pub place: Place,
     pub steps: List<AssignedStep>,
+}
+
+/// Whether a path ends at an operand with this operator, as it cannot be TRUE.
+pub fn is_end(op: &KerOp) -> bool
+    ensures { result ≡ is_end op.now }
+{
+    match op {
+        KerOp::Const(Value::Bool(holds)) => !*holds,
+        KerOp::NoCase => true,
+        _ => false,
+    }
 }

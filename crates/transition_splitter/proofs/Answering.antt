@@ -5,12 +5,12 @@ use Rattle.tla_meaning.specs.declared.expr.Decl.{Decl}
 use Rattle.kernel_trees.specs.declared.kernel.Ker.{Ker}
 use Rattle.kernel_trees.specs.declared.path.KerPath.{KerPath}
 use Rattle.kernel_trees.specs.Paths.{Marks, marks_below, path_of, paths, ways}
-use Rattle.transition_splitter.specs.declared.action_kind.ActionKind.{ActionKind}
-use Rattle.transition_splitter.specs.declared.action_kind.AssignableNames.{AssignableNames}
+use Rattle.kernel_trees.specs.declared.action_kind.ActionKind.{ActionKind}
+use Rattle.kernel_trees.specs.declared.action_kind.AssignableNames.{AssignableNames}
+use Rattle.kernel_trees.specs.ActionNames.{assignable_in, constants, marks, marks_of}
 use Rattle.transition_splitter.specs.declared.counts.Tally.{Tally}
-use Rattle.transition_splitter.specs.Splitting.{assignable_in, constants, greatest_number, marks_of, most_paths}
+use Rattle.transition_splitter.specs.Splitting.{greatest_number, most_paths}
 use Rattle.transition_splitter.specs.inner.Counts.{cut, number_of, tally}
-use Rattle.transition_splitter.specs.inner.Routes.{marks}
 use Rattle.transition_splitter.proofs.Tallying.{tally_total}
 
 -- the marks by which paths are counted and made

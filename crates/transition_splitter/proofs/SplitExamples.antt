@@ -15,11 +15,12 @@ use Rattle.kernel_trees.specs.Paths.{ends_at, paths, ways}
 use Rattle.kernel_trees.specs.Ways.{all_of}
 use Rattle.kernel_trees.proofs.Trees.{mentions-roll}
 use Rattle.kernel_trees.proofs.LawOfPaths.{ways-roll}
-use Rattle.transition_splitter.specs.declared.action_kind.ActionKind.{ActionKind}
-use Rattle.transition_splitter.specs.declared.action_kind.ActionKind.TheVariants as action
+use Rattle.kernel_trees.specs.declared.action_kind.ActionKind.{ActionKind}
+use Rattle.kernel_trees.specs.declared.action_kind.ActionKind.TheVariants as action
+use Rattle.kernel_trees.specs.ActionNames.{constants, marks_of}
 use Rattle.transition_splitter.specs.declared.counts.Tally.{Tally}
 use Rattle.transition_splitter.specs.declared.split_fault.SplitFault.TheVariants.{TooManyPaths}
-use Rattle.transition_splitter.specs.Splitting.{IsSplit, constants, marks_of, most_paths}
+use Rattle.transition_splitter.specs.Splitting.{IsSplit, most_paths}
 use Rattle.transition_splitter.specs.inner.Counts.{behind, number_of, tally}
 use Rattle.transition_splitter.proofs.Answering.{answered, number_is, refused}
 use Rattle.transition_splitter.proofs.NodeWays.{ways_and}

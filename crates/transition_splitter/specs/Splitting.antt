@@ -1,32 +1,15 @@
 -- When an action is taken apart into its paths, and when it has too many. Source: Konnov, Kukovec and Tran, "TLA+ Model
 -- Checking Made Symbolic", OOPSLA 2019, on symbolic transitions.
-use Rattle.std.specs.Prelude.{ℕ, ◌≡◌, ◌<◌, ◌≤◌, ◌^◌, min, List, length, filter, Result}
+use Rattle.std.specs.Prelude.{ℕ, ◌≡◌, ◌<◌, ◌≤◌, ◌^◌, min, List, length, Result}
 use Rattle.std.specs.Prelude.{Ok, Err, ⊤}
-use Rattle.tla_meaning.specs.declared.actions.Assignable.{Assignable}
-use Rattle.tla_meaning.specs.declared.actions.Assignable.TheVariants as assignable
 use Rattle.tla_meaning.specs.declared.expr.Decl.{Decl}
 use Rattle.kernel_trees.specs.declared.kernel.Ker.{Ker}
 use Rattle.kernel_trees.specs.declared.path.KerPath.{KerPath}
-use Rattle.kernel_trees.specs.Paths.{Marks, marks_below, paths}
-use Rattle.transition_splitter.specs.declared.action_kind.ActionKind.{ActionKind}
-use Rattle.transition_splitter.specs.declared.action_kind.ActionKind.TheVariants as action
+use Rattle.kernel_trees.specs.ActionNames.{marks_of}
+use Rattle.kernel_trees.specs.Paths.{paths}
+use Rattle.kernel_trees.specs.declared.action_kind.ActionKind.{ActionKind}
 use Rattle.transition_splitter.specs.declared.split_fault.SplitFault.{SplitFault}
 use Rattle.transition_splitter.specs.declared.split_fault.SplitFault.TheVariants.{TooManyPaths, Memory}
-
--- ---- the names that an action may assign
-
--- how many names are constants; these stand first in a job
-abbrev pub constants : List Decl → ℕ
-constants names = length (filter (λ (d : Decl). d.constant) names)
-
--- behind so many constants
-abbrev pub assignable_in : ActionKind → ℕ → Assignable
-assignable_in action.Constants n = assignable.Constants n
-assignable_in action.Start n = assignable.Variables n
-assignable_in action.Step n = assignable.PrimedVariables n
-
-abbrev pub marks_of : ActionKind → List Decl → Marks
-marks_of kind names = marks_below (length names) (assignable_in kind (constants names))
 
 -- ---- the answer
 

@@ -2,13 +2,13 @@
 ghost use Rattle.std.specs.Prelude.{◌≡◌, ◌+◌, ◌*◌, map, min};
 ghost use Rattle.kernel_trees.specs.Paths.{Holds, ends_at, ways};
 ghost use Rattle.kernel_trees.specs.Ways.{all_of, alone, any_of};
+ghost use Rattle.kernel_trees.specs.ActionNames.{marks};
 ghost use Rattle.transition_splitter.specs.Splitting.{greatest_number};
 ghost use Rattle.transition_splitter.specs.inner.Counts.{behind, both, number_of, tally};
-ghost use Rattle.transition_splitter.specs.inner.Routes.{branch_ways, marks, rooted, some_ways};
+ghost use Rattle.transition_splitter.specs.inner.Routes.{branch_ways, rooted, some_ways};
 
-use crate::action_kind::AssignableNames;
-use crate::mentioning::{any_mentions, is_end};
-use kernel_trees::{Ker, KerOp};
+use crate::mentioning::any_mentions;
+use kernel_trees::{AssignableNames, Ker, KerOp, is_end};
 
 // It stands for every greater number.
 const GREATEST_NUMBER: u64 = 1_000_000_000_000;

@@ -3,7 +3,6 @@
 //! (Konnov, Kukovec and Tran, "TLA+ Model Checking Made Symbolic", OOPSLA 2019, on symbolic transitions.)
 #![tactic(auto)]
 
-mod action_kind;
 mod counts;
 mod mentioning;
 mod routes;
@@ -11,6 +10,5 @@ mod split_fault;
 mod splitter;
 mod telling;
 
-pub use action_kind::ActionKind;
 pub use split_fault::SplitFault;
 pub use splitter::split;

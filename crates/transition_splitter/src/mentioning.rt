@@ -1,12 +1,10 @@
-// Whether a tree holds a name that may be assigned, and whether a path ends at it.
+// Whether a tree holds a name that may be assigned.
 ghost use Rattle.std.specs.Prelude.{◌≡◌};
 ghost use Rattle.std.specs.List.{list_any};
-ghost use Rattle.kernel_trees.specs.Paths.{is_end, mentions};
-ghost use Rattle.transition_splitter.specs.inner.Routes.{marks};
+ghost use Rattle.kernel_trees.specs.Paths.{mentions};
+ghost use Rattle.kernel_trees.specs.ActionNames.{marks};
 
-use crate::action_kind::AssignableNames;
-use kernel_trees::{Ker, KerOp};
-use tla_values::Value;
+use kernel_trees::{AssignableNames, Ker, KerOp};
 
 #[cycle(mentioning)]
 fn mentions(marked: AssignableNames, k: &Ker) -> bool
@@ -36,15 +34,4 @@ pub(crate) fn any_mentions(marked: AssignableNames, ks: &[Ker]) -> bool
         }
     }
     false
-}
-
-// Whether a path ends at an operand with this operator, as it cannot be TRUE.
-pub(crate) fn is_end(op: &KerOp) -> bool
-    ensures { result ≡ is_end op.now }
-{
-    match op {
-        KerOp::Const(Value::Bool(holds)) => !*holds,
-        KerOp::NoCase => true,
-        _ => false,
-    }
 }

@@ -3,12 +3,12 @@ ghost use Rattle.std.specs.Prelude.{◌≡◌, ◌++◌, ◌∷◌, [], IfOk, On
 ghost use Rattle.std.specs.List.{list_all};
 ghost use Rattle.kernel_trees.specs.Paths.{Holds, ends_at, ways};
 ghost use Rattle.kernel_trees.specs.Ways.{after, after_each, all_of, alone, any_of, has_ended, one_after};
-ghost use Rattle.transition_splitter.specs.inner.Routes.{Adds, branch_ways, has_way_ended, marks, rooted};
+ghost use Rattle.kernel_trees.specs.ActionNames.{marks};
+ghost use Rattle.transition_splitter.specs.inner.Routes.{Adds, branch_ways, has_way_ended, rooted};
 ghost use Rattle.transition_splitter.specs.inner.Routes.{some_ways, step_lent, way, ways_by};
 
-use crate::action_kind::AssignableNames;
-use crate::mentioning::{any_mentions, is_end};
-use kernel_trees::{Ker, KerOp};
+use crate::mentioning::any_mentions;
+use kernel_trees::{AssignableNames, Ker, KerOp, is_end};
 use std::alloc::{AllocError, Global};
 use tla_meaning::Place;
 

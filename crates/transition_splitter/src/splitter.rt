@@ -1,12 +1,11 @@
 // Taking an action apart into its paths.
 ghost use Rattle.transition_splitter.specs.Splitting.{IsSplit};
 
-use crate::action_kind::{ActionKind, marks_of};
 use crate::counts::count;
 use crate::routes::routes;
 use crate::split_fault::SplitFault;
 use crate::telling::tell_all;
-use kernel_trees::{Ker, KerPath};
+use kernel_trees::{ActionKind, Ker, KerPath, marks_of};
 use std::alloc::Global;
 use tla_meaning::Decl;
 use tla_values::List;

@@ -14,8 +14,6 @@ mod reading;
 #[cfg(test)]
 mod showing;
 #[cfg(test)]
-mod splitting;
-#[cfg(test)]
 mod typable;
 #[cfg(test)]
 mod unifying;

@@ -3,15 +3,11 @@ use Rattle.std.specs.Prelude.{◌≡◌, Bool, List, ◌++◌, map, zip, length,
 use Rattle.tla_meaning.specs.declared.place.Place.{Place}
 use Rattle.kernel_trees.specs.declared.kernel.Ker.{Ker, out-Ker}
 use Rattle.kernel_trees.specs.Paths.{Marks, Parted, Step, Holds, Branch, Choice, choice_ways, ends_at, if_ways}
-use Rattle.kernel_trees.specs.Paths.{marks_below, ways}
+use Rattle.kernel_trees.specs.Paths.{ways}
 use Rattle.kernel_trees.specs.Ways.{Way, has_ended}
-use Rattle.transition_splitter.specs.declared.action_kind.AssignableNames.{AssignableNames}
 use Rattle.transition_splitter.specs.declared.routes.LentStep.{LentStep}
 use Rattle.transition_splitter.specs.declared.routes.LentStep.TheVariants as lent
 use Rattle.transition_splitter.specs.declared.routes.Route.{Route}
-
-abbrev pub marks : AssignableNames → Marks
-marks m = marks_below m.declared m.assignable
 
 abbrev pub step_lent : LentStep → Step
 step_lent (lent.Holds k) = Holds k.now

@@ -3,8 +3,9 @@ use Rattle.std.specs.List.{slice_get}
 use Rattle.std.proofs.lemmas.Option.{slice_get_read}
 use Rattle.kernel_trees.specs.declared.kernel.Ker.{Ker, out-Ker}
 use Rattle.kernel_trees.specs.Paths.{if_ways}
+use Rattle.kernel_trees.specs.ActionNames.{marks}
 use Rattle.transition_splitter.specs.inner.Counts.{both, tally}
-use Rattle.transition_splitter.specs.inner.Routes.{marks, with_ways}
+use Rattle.transition_splitter.specs.inner.Routes.{with_ways}
 use Rattle.transition_splitter.proofs.NodeSteps.{not_three, tally_branches, tally_choice}
 use Rattle.transition_splitter.proofs.NodeWays.{ways_and, ways_if, ways_or, ways_plain, ways_plain_if, ways_plain_or}
 use Rattle.transition_splitter.proofs.NodeWays.{ways_some}

@@ -1,8 +1,9 @@
 use Rattle.std.proofs.Common.{◌≡◌, map, take}
 use Rattle.kernel_trees.specs.Paths.{ends_at, ways}
 use Rattle.kernel_trees.specs.Ways.{all_of, any_of}
+use Rattle.kernel_trees.specs.ActionNames.{marks}
 use Rattle.transition_splitter.specs.inner.Counts.{tally}
-use Rattle.transition_splitter.specs.inner.Routes.{marks, rooted}
+use Rattle.transition_splitter.specs.inner.Routes.{rooted}
 use Rattle.transition_splitter.proofs.counts.+counts.Given as goal
 
 abbrev pub invariant-count_all-loop-k : goal.invariant-count_all-loop-k

@@ -1,7 +1,7 @@
 use Rattle.std.proofs.Common.{◌∙◌, ap, sym}
 use Rattle.std.specs.List.{list_any}
 use Rattle.kernel_trees.specs.Paths.{mentions}
-use Rattle.transition_splitter.specs.inner.Routes.{marks}
+use Rattle.kernel_trees.specs.ActionNames.{marks}
 use Rattle.transition_splitter.proofs.NodeSteps.{or_first, or_second, range_of_none, range_of_one, range_of_two}
 use Rattle.transition_splitter.proofs.NodeWays.{mentions_by, mentions_read}
 use Rattle.transition_splitter.proofs.mentioning.+mentioning.Goals as goal

@@ -1,7 +1,7 @@
 use Rattle.std.proofs.Common.{◌≡◌, drop}
 use Rattle.std.specs.List.{list_any}
 use Rattle.kernel_trees.specs.Paths.{mentions}
-use Rattle.transition_splitter.specs.inner.Routes.{marks}
+use Rattle.kernel_trees.specs.ActionNames.{marks}
 use Rattle.transition_splitter.proofs.mentioning.+mentioning.Given as goal
 
 abbrev pub invariant-any_mentions-loop-k : goal.invariant-any_mentions-loop-k

@@ -5,9 +5,10 @@ use Rattle.std.proofs.lemmas.Result.{IfOk-weaker}
 use Rattle.kernel_trees.specs.declared.kernel.Ker.{Ker, out-Ker}
 use Rattle.kernel_trees.specs.Paths.{ends_at, if_ways}
 use Rattle.kernel_trees.specs.Ways.{after_each, one_after}
+use Rattle.kernel_trees.specs.ActionNames.{marks}
 use Rattle.transition_splitter.specs.declared.routes.LentStep.{LentStep}
 use Rattle.transition_splitter.specs.declared.routes.Route.{Route}
-use Rattle.transition_splitter.specs.inner.Routes.{marks, step_lent, ways_by, with_ways}
+use Rattle.transition_splitter.specs.inner.Routes.{step_lent, ways_by, with_ways}
 use Rattle.transition_splitter.proofs.NodeSteps.{if_parts, with_body}
 use Rattle.transition_splitter.proofs.NodeWays.{ways_and, ways_if, ways_or, ways_plain, ways_plain_if, ways_plain_or}
 use Rattle.transition_splitter.proofs.NodeWays.{ways_some}

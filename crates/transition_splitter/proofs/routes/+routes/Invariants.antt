@@ -1,7 +1,8 @@
 use Rattle.std.proofs.Common.{◌≡◌, map, take}
 use Rattle.kernel_trees.specs.Paths.{ends_at, ways}
 use Rattle.kernel_trees.specs.Ways.{all_of, any_of}
-use Rattle.transition_splitter.specs.inner.Routes.{marks, rooted, ways_by}
+use Rattle.kernel_trees.specs.ActionNames.{marks}
+use Rattle.transition_splitter.specs.inner.Routes.{rooted, ways_by}
 use Rattle.transition_splitter.proofs.routes.+routes.Given as goal
 
 abbrev pub invariant-of_all-loop-k : goal.invariant-of_all-loop-k

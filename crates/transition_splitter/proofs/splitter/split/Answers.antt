@@ -1,7 +1,7 @@
 use Rattle.std.proofs.Common.{◌∙◌, ap, map}
 use Rattle.kernel_trees.specs.Paths.{path_of}
-use Rattle.transition_splitter.specs.Splitting.{marks_of}
-use Rattle.transition_splitter.specs.inner.Routes.{marks, ways_by}
+use Rattle.kernel_trees.specs.ActionNames.{marks, marks_of}
+use Rattle.transition_splitter.specs.inner.Routes.{ways_by}
 use Rattle.transition_splitter.proofs.Answering.{answered, refused, same_marks}
 use Rattle.transition_splitter.proofs.splitter.split.Goals as goal
 

@@ -1,8 +1,7 @@
 // The kinds of actions, and the names that one may assign.
 ghost use Rattle.std.specs.Prelude.{◌≡◌, filter, length};
 ghost use Rattle.tla_meaning.specs.Actions.{counts};
-ghost use Rattle.kernel_trees.specs.Paths.{marks_below};
-ghost use Rattle.transition_splitter.specs.Splitting.{assignable_in, constants};
+ghost use Rattle.kernel_trees.specs.ActionNames.{assignable_in, constants, marks};
 
 use tla_meaning::{Assignable, Decl};
 
@@ -17,17 +16,17 @@ pub enum ActionKind {
     Step,
 }
 
-// The number of declared names, and which of them an action may assign.
+/// The number of declared names, and which of them an action may assign.
 #[derive(Clone, Copy, Drop)]
-pub(crate) struct AssignableNames {
-    pub(crate) declared: usize,
-    pub(crate) assignable: Assignable,
+pub struct AssignableNames {
+    pub declared: usize,
+    pub assignable: Assignable,
 }
 
 impl AssignableNames {
-    // Whether the action may assign this name.
-    pub(crate) fn holds(self, name: usize, primed: bool) -> bool
-        ensures { result ≡ marks_below self.declared self.assignable name primed }
+    /// Whether the action may assign this name.
+    pub fn holds(self, name: usize, primed: bool) -> bool
+        ensures { result ≡ marks self name primed }
     {
         name < self.declared && counts(self.assignable, name, primed)
     }
@@ -51,8 +50,8 @@ fn count_of_constants(names: &[Decl]) -> usize
     names.iter().filter(|name| name.constant).count()
 }
 
-// The names that an action of this kind may assign.
-pub(crate) fn marks_of(names: &[Decl], kind: ActionKind) -> AssignableNames
+/// The names that an action of this kind may assign: the declared ones are those of a job, constants first.
+pub fn marks_of(names: &[Decl], kind: ActionKind) -> AssignableNames
     ensures declared { result.declared ≡ length names.now }
     ensures assignable { result.assignable ≡ assignable_in kind (constants names.now) }
 {
