@@ -56,3 +56,8 @@ pub mod Further
 pub mod Chosen
 pub mod Picked
 pub mod Tied
+pub mod Watched
+pub mod Leaving
+pub mod Turning
+pub mod Nexts
+pub mod GoingOn

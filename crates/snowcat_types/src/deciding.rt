@@ -51,13 +51,20 @@ pub(crate) fn kind_of(subst: &Subst, wait: &Wait) -> Kind
     decision(subst, &deciding)
 }
 
-// The variable to which the type that decides leads; none where it is formed.
-pub(crate) fn variable_of(subst: &Subst, wait: &Wait) -> Option<u32>
-    ensures { IsLead (stands_for subst.now) wait.now result }
+// The variable to which the type leads; none where it is formed.
+fn lead(subst: &Subst, t: &Ty) -> Option<u32>
+    ensures { IsLead (stands_for subst.now) (mean t.now) result }
 {
-    let deciding = deciding_type(wait);
-    match subst.root(&deciding) {
+    match subst.root(t) {
         Ty::Var(variable) => Some(*variable),
         _ => None,
     }
+}
+
+// The variable to which the type that decides leads; none where it is formed.
+pub(crate) fn variable_of(subst: &Subst, wait: &Wait) -> Option<u32>
+    ensures { IsLead (stands_for subst.now) (deciding wait.now) result }
+{
+    let deciding = deciding_type(wait);
+    lead(subst, &deciding)
 }

@@ -1,4 +1,7 @@
 // The order in which waiting nodes take their default: that of their places, and at one place that of their visits.
+ghost use Rattle.std.specs.Prelude.{◌≡◌, IfOk, length, map, slice_index_or, false};
+ghost use Rattle.snowcat_types.specs.inner.Awaited.{AreOrdered, AreTurns, ArePassed, IsNow, turn_of};
+
 use crate::waiting::{Wait, place_of};
 use std::alloc::{AllocError, Global};
 
@@ -11,7 +14,9 @@ pub(crate) struct Turn {
     node: usize,
 }
 
-fn turn_of(node: usize, wait: &Wait) -> Turn {
+fn turn_of(node: usize, wait: &Wait) -> Turn
+    ensures { result ≡ turn_of node wait.now }
+{
     let place = place_of(wait);
     Turn {
         file: place.file,
@@ -21,8 +26,20 @@ fn turn_of(node: usize, wait: &Wait) -> Turn {
     }
 }
 
+fn turns_of(alloc: Global, waits: &[&Wait]) -> Result<Vec<Turn>, AllocError>
+    ensures { IfOk result (λ v. AreTurns (map (λ w. w.now) waits.now) (length waits.now) v.items) }
+{
+    let mut all = Vec::new(alloc);
+    for i in 0..waits.len() {
+        all.push(turn_of(i, waits[i]))?;
+    }
+    Ok(all)
+}
+
 // Whether the mark of that number stands.
-pub(crate) fn is_marked(marks: &[bool], node: usize) -> bool {
+pub(crate) fn is_marked(marks: &[bool], node: usize) -> bool
+    ensures { result ≡ slice_index_or marks.now node false }
+{
     match marks.get(node) {
         Some(mark) => *mark,
         None => false,
@@ -38,18 +55,23 @@ pub(crate) struct Turns {
 }
 
 impl Turns {
-    pub(crate) fn new(alloc: Global, waits: &[&Wait]) -> Result<Turns, AllocError> {
-        let mut all = Vec::new(alloc);
-        for i in 0..waits.len() {
-            all.push(turn_of(i, waits[i]))?;
-        }
+    pub(crate) fn new(alloc: Global, waits: &[&Wait]) -> Result<Turns, AllocError>
+        ensures ordered { IfOk result (λ t. AreOrdered (map (λ w. w.now) waits.now) t.all.items) }
+        ensures none { IfOk result (λ t. t.passed ≡ 0) }
+    {
+        let mut all = turns_of(alloc, waits)?;
         all.sort_unstable();
         Ok(Turns { all, passed: 0 })
     }
 
     // The first node whose mark stands. Marks are only taken away, so what was passed stays so.
-    pub(crate) fn first(&mut self, marks: &[bool]) -> Option<usize> {
-        while self.passed < self.all.len() {
+    pub(crate) fn first(&mut self, marks: &[bool]) -> Option<usize>
+        requires { ArePassed marks.now self.old.all.items self.old.passed }
+        ensures same { self.new.all ≡ self.old.all }
+        ensures passed { ArePassed marks.now self.new.all.items self.new.passed }
+        ensures now { IsNow marks.now self.new result }
+    {
+        'cursor: while self.passed < self.all.len() {
             let node = self.all[self.passed].node;
             if is_marked(marks, node) {
                 return Some(node);

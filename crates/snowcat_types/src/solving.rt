@@ -8,6 +8,7 @@ ghost use Rattle.snowcat_types.specs.Systems.{Asks, Waits};
 ghost use Rattle.snowcat_types.specs.Typings.{decision};
 ghost use Rattle.snowcat_types.specs.Waiting.{deciding, default_kind, place_of};
 ghost use Rattle.snowcat_types.specs.declared.kinds.Kind.TheVariants.{NotFormed};
+ghost use Rattle.snowcat_types.specs.inner.Awaited.{IsLess, IsRunning};
 ghost use Rattle.snowcat_types.specs.inner.Gathered.{AllNamedIn, EntriesNamed, EntryNamed, SystemNamed, entry_of, requirements_of, system_of_built};
 ghost use Rattle.snowcat_types.specs.inner.Runs.{EntryInside, HasReached, HasVisited, IsDecided, IsFault, IsFirstAt, IsFitting, IsPass, IsPlaced, IsTypedBy, IsVisit, NoneDecided, StillWaits};
 ghost use Rattle.snowcat_types.specs.inner.Solved.{AllInside, WaitInside};
@@ -137,22 +138,24 @@ fn go_on(
     system: &System,
     waits: &[&Wait],
     awaiting: &mut Awaiting,
-) -> Result<bool, TypeFault> {
+) -> Result<bool, TypeFault>
+    requires { IsRunning (system_of_built system.now) (map (λ w. w.now) waits.now) awaiting.old subst.old }
+    ensures on { IfOk result (λ _. IsRunning (system_of_built system.now) (map (λ w. w.now) waits.now)
+        awaiting.new subst.new) }
+    ensures less { IfOk result (λ more. IsLess (map (λ w. w.now) waits.now) awaiting.old more awaiting.new) }
+    ensures fault { IfErr result (λ e. IsFault (system_of_built system.now) e) }
+{
     let Some((node, kind)) = awaiting.next(alloc, subst, waits)? else {
         return Ok(false);
     };
+    let wait = waits[node];
     let mark = subst.bound();
-    match choose(alloc, subst, waits[node], kind) {
+    match choose(alloc, subst, wait, kind) {
         Ok(()) => {
             awaiting.release_from(alloc, subst, mark)?;
             Ok(true)
         }
-        Err(fault) => Err(clash_at(
-            alloc,
-            fault,
-            place_of(waits[node]),
-            awaiting.defaults(),
-        )),
+        Err(fault) => Err(clash_at(alloc, fault, place_of(wait), awaiting.defaults())),
     }
 }
 
@@ -192,6 +195,6 @@ pub(crate) fn solve(alloc: Global, system: &System) -> Result<Subst, TypeFault>
     let mut subst = started(alloc, system)?;
     let waits = visit_all(alloc, &mut subst, system)?;
     let mut awaiting = Awaiting::new(alloc, waits.as_slice())?;
-    while go_on(alloc, &mut subst, system, waits.as_slice(), &mut awaiting)? {}
+    'steps: while go_on(alloc, &mut subst, system, waits.as_slice(), &mut awaiting)? {}
     Ok(subst)
 }

@@ -1,4 +1,8 @@
 // Which nodes are looked at: all of them once, and again where a variable is bound to which the type that decides leads.
+ghost use Rattle.std.specs.Prelude.{◌≡◌, ◌<◌, IfOk, IfSome, OnOk, length, take};
+ghost use Rattle.snowcat_rows.specs.Views.{kept_by};
+ghost use Rattle.snowcat_types.specs.inner.Awaited.{AreAlike, HasFrom, Holds, IsReleased, IsTaken, IsWatched};
+
 use snowcat_rows::Subst;
 use std::alloc::{AllocError, Global};
 use std::mem;
@@ -12,13 +16,38 @@ pub(crate) struct Watching {
     agenda: Vec<usize>,
 }
 
+// The numbers below the count, the first of them last.
+fn numbers(alloc: Global, count: usize) -> Result<Vec<usize>, AllocError>
+    ensures { IfOk result (λ v. HasFrom 0 count v.items) }
+{
+    let mut all = Vec::new(alloc);
+    for i in 0..count {
+        all.push(count - 1 - i)?;
+    }
+    Ok(all)
+}
+
+// Room for the variable's list.
+fn reach(
+    alloc: Global,
+    lists: &mut Vec<List<usize>>,
+    variable: usize,
+) -> Result<(), AllocError>
+    ensures reached { OnOk result (variable < length lists.new.items) }
+    ensures alike { OnOk result (AreAlike lists.old.items lists.new.items) }
+{
+    'room: while lists.len() <= variable {
+        lists.push(List::new(alloc))?;
+    }
+    Ok(())
+}
+
 impl Watching {
     // The nodes of the numbers below the count are to be looked at, the first of them first.
-    pub(crate) fn new(alloc: Global, count: usize) -> Result<Watching, AllocError> {
-        let mut agenda = Vec::new(alloc);
-        for i in 0..count {
-            agenda.push(count - 1 - i)?;
-        }
+    pub(crate) fn new(alloc: Global, count: usize) -> Result<Watching, AllocError>
+        ensures { IfOk result (λ g. HasFrom 0 count g.agenda.items) }
+    {
+        let agenda = numbers(alloc, count)?;
         Ok(Watching {
             lists: Vec::new(alloc),
             agenda,
@@ -26,16 +55,11 @@ impl Watching {
     }
 
     // The node that is to be looked at next.
-    pub(crate) fn next(&mut self) -> Option<usize> {
+    pub(crate) fn next(&mut self) -> Option<usize>
+        ensures taken { IsTaken self.old result self.new }
+        ensures fewer { IfSome result (λ i. length self.new.agenda.items < length self.old.agenda.items) }
+    {
         self.agenda.pop()
-    }
-
-    // Makes room for the variable's list.
-    fn reach(&mut self, alloc: Global, variable: usize) -> Result<(), AllocError> {
-        while self.lists.len() <= variable {
-            self.lists.push(List::new(alloc))?;
-        }
-        Ok(())
     }
 
     // The node is looked at again where the variable is bound.
@@ -44,13 +68,18 @@ impl Watching {
         alloc: Global,
         variable: u32,
         node: usize,
-    ) -> Result<(), AllocError> {
-        self.reach(alloc, variable as usize)?;
-        self.lists[variable as usize].push(node)
+    ) -> Result<(), AllocError>
+        ensures { OnOk result (IsWatched self.old variable node self.new) }
+    {
+        reach(alloc, &mut self.lists, variable as usize)?;
+        self.lists[variable as usize].push(node)?;
+        Ok(())
     }
 
     // The nodes on the variable's list are to be looked at.
-    fn release(&mut self, alloc: Global, variable: u32) -> Result<(), AllocError> {
+    fn release(&mut self, alloc: Global, variable: u32) -> Result<(), AllocError>
+        ensures { OnOk result (IsReleased self.old variable self.new) }
+    {
         let place = variable as usize;
         if place < self.lists.len() {
             let list = mem::replace(&mut self.lists[place], List::new(alloc));
@@ -66,7 +95,9 @@ impl Watching {
         alloc: Global,
         subst: &Subst,
         mark: usize,
-    ) -> Result<(), AllocError> {
+    ) -> Result<(), AllocError>
+        ensures { OnOk result (Holds (take mark (kept_by subst.now)) self.old (kept_by subst.now) self.new) }
+    {
         for i in mark..subst.bound() {
             if let Some(variable) = subst.bound_type(i) {
                 self.release(alloc, variable)?;
