@@ -45,11 +45,9 @@ pub mod ToldSteps
 pub mod Fitted
 pub mod Visiting
 pub mod Reaching
-pub mod Firsts
 pub mod Starting
 pub mod Faulting
 pub mod Listed
-pub mod Taking
 pub mod Naming
 pub mod Asked
 pub mod Further

@@ -1,16 +1,14 @@
 // The types of a job, from what it asks: its nodes are visited in order, then each node that waits takes the choice that is
 // decided, and the first of them its default where none is.
-ghost use Rattle.std.specs.Prelude.{◌≡◌, ◌<◌, [], IfErr, IfOk, List as Items, length, map};
+ghost use Rattle.std.specs.Prelude.{◌≡◌, ◌<◌, [], IfErr, IfOk, List as Items, map};
 ghost use Rattle.std.specs.Bool.{MatchBool};
-ghost use Rattle.snowcat_rows.specs.Types.{mean};
-ghost use Rattle.snowcat_rows.specs.Views.{issued_of, kept_by, stands_for};
+ghost use Rattle.snowcat_rows.specs.Views.{issued_of, kept_by};
 ghost use Rattle.snowcat_types.specs.Systems.{Asks, Waits};
-ghost use Rattle.snowcat_types.specs.Typings.{decision};
-ghost use Rattle.snowcat_types.specs.Waiting.{deciding, default_kind, place_of};
+ghost use Rattle.snowcat_types.specs.Waiting.{place_of};
 ghost use Rattle.snowcat_types.specs.declared.kinds.Kind.TheVariants.{NotFormed};
 ghost use Rattle.snowcat_types.specs.inner.Awaited.{IsLess, IsRunning};
 ghost use Rattle.snowcat_types.specs.inner.Gathered.{AllNamedIn, EntriesNamed, EntryNamed, SystemNamed, entry_of, requirements_of, system_of_built};
-ghost use Rattle.snowcat_types.specs.inner.Runs.{EntryInside, HasReached, HasVisited, IsDecided, IsFault, IsFirstAt, IsFitting, IsPass, IsPlaced, IsTypedBy, IsVisit, NoneDecided, StillWaits};
+ghost use Rattle.snowcat_types.specs.inner.Runs.{EntryInside, HasReached, HasVisited, IsFault, IsFitting, IsPlaced, IsTypedBy, IsVisit};
 ghost use Rattle.snowcat_types.specs.inner.Solved.{AllInside, WaitInside};
 
 use crate::asking::ask_all;
@@ -21,7 +19,7 @@ use crate::faults::TypeFault;
 use crate::gathered::{Entry, Requirement, System};
 use crate::kinds::Kind;
 use crate::waiting::{Wait, place_of};
-use snowcat_rows::{Subst, Ty, UnifyFault};
+use snowcat_rows::{Subst, UnifyFault};
 use std::alloc::{AllocError, Global};
 use tla_meaning::Place;
 use tla_values::List;

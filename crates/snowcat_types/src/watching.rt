@@ -1,5 +1,5 @@
 // Which nodes are looked at: all of them once, and again where a variable is bound to which the type that decides leads.
-ghost use Rattle.std.specs.Prelude.{◌≡◌, ◌<◌, IfOk, IfSome, OnOk, length, take};
+ghost use Rattle.std.specs.Prelude.{◌<◌, IfOk, IfSome, OnOk, length, take};
 ghost use Rattle.snowcat_rows.specs.Views.{kept_by};
 ghost use Rattle.snowcat_types.specs.inner.Awaited.{AreAlike, HasFrom, Holds, IsReleased, IsTaken, IsWatched};
 
