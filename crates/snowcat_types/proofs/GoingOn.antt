@@ -1,5 +1,5 @@
 -- The node that goes on takes its choice, and the run ends where nothing waits.
-use Rattle.std.proofs.Common.{◌≡◌, ℕ, ◌++◌, List, [], ◌∷◌, Bool, true, false, inl, inr, ◌<◌, Option, Some, arith, length, map, refl, ap, sym, ◌∙◌, subst, take}
+use Rattle.std.proofs.Common.{◌≡◌, ℕ, ◌++◌, List, [], ◌∷◌, Bool, true, false, inl, inr, ◌<◌, Option, Some, arith, length, map, ap, sym, ◌∙◌, subst, take}
 use Rattle.std.specs.Prelude.{Result, Ok, Err, get_or}
 use Rattle.std.proofs.lemmas.List.{length-map, take_at}
 use Rattle.tla_meaning.specs.declared.place.Place.{Place}

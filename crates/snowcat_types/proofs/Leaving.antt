@@ -1,5 +1,5 @@
 -- Nodes with marks: those whose marks stand, and one whose mark is taken away.
-use Rattle.std.proofs.Common.{◌≡◌, ℕ, ◌+◌, ◌<◌, ◌≤◌, inl, inr, ◌⊎◌, Bool, true, false, List, [], ◌∷◌, ◌++◌, length, map, replicate, suc, zero, refl, ap, sym, ◌∙◌, subst, arith, take, drop}
+use Rattle.std.proofs.Common.{◌≡◌, ℕ, ◌+◌, ◌<◌, Bool, true, false, List, [], ◌∷◌, ◌++◌, length, map, replicate, suc, zero, refl, ap, sym, ◌∙◌, arith, take, drop}
 use Rattle.std.specs.Prelude.{get_or, set}
 use Rattle.std.proofs.lemmas.List.{length-append, length-map}
 use Rattle.snowcat_types.specs.declared.waiting.Wait.{Wait}

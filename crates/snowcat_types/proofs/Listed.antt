@@ -1,8 +1,7 @@
 -- Items of a list, each under a function.
 use Rattle.std.proofs.Common.{◌≡◌, ℕ, ◌+◌, ◌<◌, ◌≤◌, List, [], ◌∷◌, ◌++◌, drop, length, map, ap, sym, ◌∙◌, subst, arith, take}
-use Rattle.std.specs.List.{drop-map, take-map}
 use Rattle.std.specs.Prelude.{get_or}
-use Rattle.std.proofs.lemmas.List.{append_assoc, drop_at, drop_more, get_or-map, get_or_at, length-append, length-map, map-append, take-append-drop, take_all, take_at, take_more}
+use Rattle.std.proofs.lemmas.List.{drop_more, get_or-map, length-map, map-append, take-append-drop, take_all, take_more}
 
 module _ {X Y : Type 0} (f : X → Y) (xs : List X) (i : ℕ) (x : X) (lt : i < length xs) (is : x ≡ get_or xs i x) where
   here : get_or (map f xs) i (f x) ≡ f x

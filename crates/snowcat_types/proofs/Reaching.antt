@@ -1,6 +1,6 @@
 -- A node that waits takes its choice, or its default.
-use Rattle.std.proofs.Common.{◌≡◌, ℕ, ◌+◌, inl, inr, arith, length, List, [], ◌∷◌, ◌++◌, refl, ap, sym, ◌∙◌, subst, map}
-use Rattle.std.proofs.lemmas.List.{length-append, map-append}
+use Rattle.std.proofs.Common.{◌≡◌, List, [], ◌∷◌, ◌++◌, refl, ap, sym, ◌∙◌, subst, map}
+use Rattle.std.proofs.lemmas.List.{map-append}
 use Rattle.tla_meaning.specs.declared.place.Place.{Place}
 use Rattle.snowcat_rows.specs.declared.substitution.Subst.{Subst}
 use Rattle.snowcat_rows.specs.Types.{Term}

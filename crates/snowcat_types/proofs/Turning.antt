@@ -1,9 +1,9 @@
 -- The first of the nodes that wait, by an order of all nodes.
-use Rattle.std.proofs.Common.{◌≡◌, ℕ, ◌+◌, ◌<◌, ◌≤◌, inl, inr, ◌⊎◌, Bool, true, false, List, [], ◌∷◌, ◌++◌, length, Ordering, suc, zero, refl, ap, sym, ◌∙◌, subst, arith}
+use Rattle.std.proofs.Common.{◌≡◌, ℕ, ◌+◌, ◌<◌, ◌≤◌, inl, inr, ◌⊎◌, Bool, true, false, List, [], ◌∷◌, ◌++◌, length, Ordering, refl, ap, sym, ◌∙◌, subst, arith}
 use Rattle.std.specs.Prelude.{get_or, set}
 use Rattle.std.specs.Cmp.{IsStrictWeakOrder, IsTotalOrder}
-use Rattle.std.specs.Cmp.Lexicographic.{nat_list_cmp_total, slice_cmp}
-use Rattle.std.specs.List.{All, AllWithin, Contains}
+use Rattle.std.specs.Cmp.Lexicographic.{nat_list_cmp_total}
+use Rattle.std.specs.List.{Contains}
 use Rattle.std.specs.List.Sorted.{IsPermutation, IsSortedBy}
 use Rattle.std.specs.Ordering.{is_lt, nat_cmp, ordering_reverse, ordering_then}
 use Rattle.std.specs.declared.cmp.Ordering.TheVariants.{Less, Equal, Greater}
@@ -122,8 +122,8 @@ module _ (ms : List Bool) (ws : List Wait) (ts : List Turn) (p : ℕ) (o : AreOr
   not_passed : (j : ℕ) (u : Wait) (s : Stands ms ws j u) (c : Contains ts (turn_of j u)) → p ≤ c.0
   not_passed j u s c = elim (cases_lt c.0 p) [
     | inl lt ↦ absurd (let e : get_or ms (get_or ts c.0 (turn_of j u)).node false ≡ false = a.unmarked c.0 (turn_of j u) (omega arith) lt in
-      let f : get_or ms j false ≡ false = sym (ap (λ z. get_or ms z.node false) c.2) ∙ e in
-      let g : get_or ms j false ≡ true = stands_marked ms ws j u s in cc)
+        let f : get_or ms j false ≡ false = sym (ap (λ z. get_or ms z.node false) c.2) ∙ e in
+        let g : get_or ms j false ≡ true = stands_marked ms ws j u s in cc)
     | inr le ↦ le
   ]
 

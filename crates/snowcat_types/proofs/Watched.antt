@@ -98,7 +98,7 @@ module _ (xs bs : List Binding) (i : ℕ) (f g : Watching) (k : Holds xs f (take
       step j t (inl c) = inl (in_same _ h.agenda.items j r.agenda (Contains-append_left g.agenda.items (get_or g.lists.items v []) j c))
       step j t (inr l) = elim (cases_eq l.variable v) [
         | inl e ↦ (let P : ℕ → Type 0 = λ z. Contains (get_or g.lists.items z []) j in
-          inl (in_same _ h.agenda.items j r.agenda (Contains-append_right g.agenda.items (get_or g.lists.items v []) j (subst P e l.on))))
+            inl (in_same _ h.agenda.items j r.agenda (Contains-append_right g.agenda.items (get_or g.lists.items v []) j (subst P e l.on))))
         | inr n ↦ inr (record {
           variable = l.variable;
           leads = leads_on bs i l.variable t (not_other (type_bound_at bs i) v l.variable (sym is) n) l.leads;
@@ -142,11 +142,11 @@ module _ (bs : List Binding) (g h : Watching) (v i : ℕ) (w : IsWatched g v i h
   watched_other j t (inl c) = inl (in_same _ _ j w.agenda c)
   watched_other j t (inr l) = elim (cases_eq l.variable v) [
     | inl e ↦ (let P : ℕ → Type 0 = λ z. Contains (get_or g.lists.items z []) j in
-      inr (record {
-        variable = v;
-        leads = l.leads ∙ ap var e;
-        on = in_same _ _ j w.own (Contains-append_left (get_or g.lists.items v []) (i ∷ []) j (subst P e l.on));
-      }))
+        inr (record {
+          variable = v;
+          leads = l.leads ∙ ap var e;
+          on = in_same _ _ j w.own (Contains-append_left (get_or g.lists.items v []) (i ∷ []) j (subst P e l.on));
+        }))
     | inr n ↦ inr (record { variable = l.variable; leads = l.leads; on = in_same _ _ j (w.others.others l.variable n) l.on })
   ]
 

@@ -28,11 +28,7 @@ fn numbers(alloc: Global, count: usize) -> Result<Vec<usize>, AllocError>
 }
 
 // Room for the variable's list.
-fn reach(
-    alloc: Global,
-    lists: &mut Vec<List<usize>>,
-    variable: usize,
-) -> Result<(), AllocError>
+fn reach(alloc: Global, lists: &mut Vec<List<usize>>, variable: usize) -> Result<(), AllocError>
     ensures reached { OnOk result (variable < length lists.new.items) }
     ensures alike { OnOk result (AreAlike lists.old.items lists.new.items) }
 {

@@ -1,6 +1,5 @@
 -- Nodes that wait once all entries are visited: when they are looked at, and which of them goes on next.
 use Rattle.std.specs.Prelude.{ℕ, zero, suc, ◌≡◌, ◌⊎◌, ◌<◌, ◌≤◌, Bool, true, false, List, [], ◌∷◌, ◌++◌, length, Option, Some, None, if◌then◌else◌, slice_index_or, slice_set, take}
-use Rattle.std.specs.Bool.{MatchBool}
 use Rattle.std.specs.List.{All, AllWithin, Contains}
 use Rattle.std.specs.List.Sorted.{IsSortedBy}
 use Rattle.std.specs.Ordering.{is_lt, nat_cmp, ordering_then}

@@ -1,4 +1,4 @@
-use Rattle.std.proofs.Common.{◌≡◌, ◌∙◌, ◌++◌, ◌∷◌, List, [], ap, map, subst, sym}
+use Rattle.std.proofs.Common.{◌∙◌, ◌++◌, ◌∷◌, List, [], ap, map, subst, sym}
 use Rattle.snowcat_types.specs.declared.ordering.Turn.{Turn}
 use Rattle.snowcat_types.specs.inner.Awaited.{AreTurns}
 use Rattle.snowcat_types.proofs.Leaving.{at_read}

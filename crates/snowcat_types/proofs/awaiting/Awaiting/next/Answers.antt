@@ -1,4 +1,4 @@
-use Rattle.std.proofs.Common.{◌<◌, ◌++◌, ◌∷◌, ◌∙◌, Bool, List, [], Some, None, ap, length, map, refl, rules, subst, sym}
+use Rattle.std.proofs.Common.{◌<◌, ◌++◌, ◌∷◌, ◌∙◌, Bool, List, [], Some, ap, length, map, refl, rules, subst}
 use Rattle.snowcat_types.specs.inner.Awaited.{ArePassed, IsDecidedNext, IsNoneDecided, IsNow}
 use Rattle.snowcat_types.proofs.Leaving.{at_read, marked_within}
 use Rattle.snowcat_types.proofs.Nexts.{chosen_decided, chosen_first, done_now, found_none, found_some, off_below}
