@@ -1,8 +1,7 @@
 -- Items of a list, each under a function.
 use Rattle.std.proofs.Common.{◌≡◌, ℕ, ◌+◌, ◌<◌, ◌≤◌, List, [], ◌∷◌, ◌++◌, drop, length, map, ap, sym, ◌∙◌, subst, arith, take}
-use Rattle.std.specs.List.{drop-map, take-map}
 use Rattle.std.specs.Prelude.{get_or}
-use Rattle.std.proofs.lemmas.List.{append_assoc, drop_at, drop_more, get_or-map, get_or_at, length-append, length-map, map-append, take-append-drop, take_all, take_at, take_more}
+use Rattle.std.proofs.lemmas.List.{drop_more, get_or-map, length-map, map-append, take-append-drop, take_all, take_more}
 
 module _ {X Y : Type 0} (f : X → Y) (xs : List X) (i : ℕ) (x : X) (lt : i < length xs) (is : x ≡ get_or xs i x) where
   here : get_or (map f xs) i (f x) ≡ f x
@@ -19,30 +18,6 @@ module _ {X Y : Type 0} (f : X → Y) (xs : List X) (i : ℕ) (x : X) (lt : i < 
 
   pub set_apart : map f xs ≡ take i (map f xs) ++ f x ∷ drop (i + 1) (map f xs)
   set_apart = sym (take-append-drop i (map f xs)) ∙ ap (λ z. take i (map f xs) ++ z) next_left
-
-module _ {X Y : Type 0} (f : X → Y) (xs : List X) (i : ℕ) (earlier : List Y) (it : Y) (later : List Y)
-    (split : map f xs ≡ earlier ++ it ∷ later) (at : i ≡ length earlier) where
-  pub within_split : i < length xs
-  within_split =
-      let e : length (map f xs) ≡ length xs = length-map xs f in
-      let g : length (map f xs) ≡ length (earlier ++ it ∷ later) = ap length split in
-      let h : length (earlier ++ it ∷ later) ≡ length earlier + length (it ∷ later) = length-append earlier (it ∷ later) in
-      omega (arith, e, g, h, at)
-
-  pub it_is : (x : X) → x ≡ get_or xs i x → f x ≡ it
-  it_is x is =
-      let e : get_or (map f xs) i (f x) ≡ f x = get_or-map f xs i x (f x) within_split ∙ ap f (sym is) in
-      sym e ∙ ap (λ z. get_or z i (f x)) split ∙ get_or_at earlier it later (f x) i (sym at)
-
-  -- all but the i-th
-  pub one_removed : (ys : List X) → ys ≡ take i xs ++ drop (i + 1) xs → map f ys ≡ earlier ++ later
-  one_removed ys e =
-      let front : take i (map f xs) ≡ earlier = ap (take i) split ∙ take_at earlier (it ∷ later) i (sym at) in
-      let all : earlier ++ it ∷ later ≡ (earlier ++ it ∷ []) ++ later = sym (append_assoc earlier (it ∷ []) later) in
-      let one : length (earlier ++ it ∷ []) ≡ i + 1 = length-append earlier (it ∷ []) ∙ ap (λ z. z + 1) (sym at) in
-      let back : drop (i + 1) (map f xs) ≡ later = ap (drop (i + 1)) (split ∙ all) ∙ drop_at (earlier ++ it ∷ []) later (i + 1) one in
-      ap (map f) e ∙ map-append f (take i xs) (drop (i + 1) xs)
-      ∙ (λ k. (sym (take-map f i xs) ∙ front) k ++ (sym (drop-map f (i + 1) xs) ∙ back) k)
 
 -- the same of a list that is lent
 module _ {X Y : Type 0} (f : X → Y) (xs ys : List X) (i : ℕ) (x : X) (lent : ys ≡ xs) (lt : i < length ys) (is : x ≡ get_or ys i x) where

@@ -1,6 +1,6 @@
 -- A node that waits takes its choice, or its default.
-use Rattle.std.proofs.Common.{◌≡◌, ℕ, ◌+◌, inl, inr, arith, length, List, [], ◌∷◌, ◌++◌, refl, ap, sym, ◌∙◌, subst, map}
-use Rattle.std.proofs.lemmas.List.{length-append, map-append}
+use Rattle.std.proofs.Common.{◌≡◌, List, [], ◌∷◌, ◌++◌, refl, ap, sym, ◌∙◌, subst, map}
+use Rattle.std.proofs.lemmas.List.{map-append}
 use Rattle.tla_meaning.specs.declared.place.Place.{Place}
 use Rattle.snowcat_rows.specs.declared.substitution.Subst.{Subst}
 use Rattle.snowcat_rows.specs.Types.{Term}
@@ -12,7 +12,7 @@ use Rattle.snowcat_types.specs.Waiting.{choice, default_kind, place_of}
 use Rattle.snowcat_types.specs.Systems.{Entry, Asks, Waits, System, all_asked, all_waits}
 use Rattle.snowcat_types.specs.Typings.{Each, Decides, DecidesNothing, IsFirst, IsClash, Next, NoTyping, Principal, at_start, decided, by_default, afterwards, by_its_default, decision}
 use Rattle.snowcat_types.specs.inner.Solved.{Fails, IsSolved, WaitInside}
-use Rattle.snowcat_types.specs.inner.Runs.{EntryInside, HasReached, HasVisited, IsPass, IsTypedBy, NoneDecided, StillWaits}
+use Rattle.snowcat_types.specs.inner.Runs.{EntryInside, HasReached, HasVisited, IsTypedBy, NoneDecided}
 use Rattle.snowcat_types.proofs.Choices.{all_at}
 use Rattle.snowcat_types.proofs.Clashes.{decide_by, default_by, going_on, going_visited}
 use Rattle.snowcat_types.proofs.Fitted.{all_inside_more, are_append, choice_are, is_unknown, wait_inside_more}
@@ -130,10 +130,6 @@ typed_by system places s r = (
 
 -- ---- the unknown types are issued
 
-pub turned : (system : System) (ws us vs : List Wait) (places : List Place) (s : Subst) → us ≡ vs → HasReached system (ws ++ us) places s
-    → HasReached system (ws ++ vs) places s
-turned system ws us vs places s e r = let P : List Wait → Type 0 = λ z. HasReached system (ws ++ z) places s in subst P e r
-
 pub wait_issued : (system : System) (earlier later : List Wait) (w : Wait) (places : List Place) (s : Subst)
     → HasReached system (earlier ++ w ∷ later) places s → WaitInside (issued_of s) w
 wait_issued system earlier later w places s r =
@@ -145,22 +141,3 @@ entry_issued system front back (Asks p rs) ws s is v =
     all_inside_more system.count (issued_of s) rs v.solved.solved.more (fits system front back ws s v (Asks p rs) is).inside
 entry_issued system front back (Waits w) ws s is v =
     wait_inside_more system.count (issued_of s) w v.solved.solved.more (fits system front back ws s v (Waits w) is)
-
--- ---- a pass
-
-snoc_open : (s : Subst) (ws : List Wait) (w : Wait) → NoneDecided s ws → decision (stands_for s) w ≡ NotFormed → NoneDecided s (ws ++ w ∷ [])
-snoc_open s [] w h e = (e, tt)
-snoc_open s (u ∷ ws) w h e = (h.0, snoc_open s ws w h.1 e)
-
-pub pass_on : (s t : Subst) (n : ℕ) (ws us : List Wait) (w : Wait) → IsPass s n ws → StillWaits w ws s us t → IsPass t (n + 1) us
-pass_on s t n ws us w h (inl k) =
-    let e : length us ≡ length ws + 1 = ap length k.0 ∙ length-append ws (w ∷ []) in
-    let P : List Wait → Type 0 = λ z. NoneDecided t z in
-    let Q : Subst → Type 0 = λ z. NoneDecided z (ws ++ w ∷ []) in (
-      (let le = h.0 in omega (arith, e, le)),
-      λ q.
-          subst P (sym k.0) (subst Q (sym k.1.0) (snoc_open s ws w (h.1 (omega (arith, e, q))) k.1.1)),
-    )
-pass_on s t n ws us w h (inr e) =
-    let l : length us ≡ length ws = ap length e in
-    ((let le = h.0 in omega (arith, l, le)), λ q. absurd (let le = h.0 in omega (arith, l, le, q)))

@@ -6,3 +6,4 @@ pub mod Runs
 pub mod Telling
 pub mod Visiting
 pub mod Named
+pub mod Awaited

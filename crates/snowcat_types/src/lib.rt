@@ -7,6 +7,7 @@
 mod annotations;
 mod around;
 mod asking;
+mod awaiting;
 mod choosing;
 mod counts;
 mod deciding;
@@ -22,6 +23,7 @@ mod meeting;
 mod names;
 mod notes;
 mod numbered;
+mod ordering;
 mod rows;
 mod saying;
 mod solving;
@@ -33,6 +35,7 @@ mod typable;
 mod undecided;
 mod updates;
 mod waiting;
+mod watching;
 
 pub use faults::TypeFault;
 pub use jobs::typing;

@@ -1,68 +1,28 @@
 // The types of a job, from what it asks: its nodes are visited in order, then each node that waits takes the choice that is
 // decided, and the first of them its default where none is.
-ghost use Rattle.std.specs.Prelude.{◌≡◌, ◌<◌, [], IfErr, IfOk, List as Items, length, map};
+ghost use Rattle.std.specs.Prelude.{◌≡◌, ◌<◌, [], IfErr, IfOk, List as Items, map};
 ghost use Rattle.std.specs.Bool.{MatchBool};
-ghost use Rattle.snowcat_rows.specs.Types.{mean};
-ghost use Rattle.snowcat_rows.specs.Views.{issued_of, kept_by, stands_for};
+ghost use Rattle.snowcat_rows.specs.Views.{issued_of, kept_by};
 ghost use Rattle.snowcat_types.specs.Systems.{Asks, Waits};
-ghost use Rattle.snowcat_types.specs.Typings.{decision};
-ghost use Rattle.snowcat_types.specs.Waiting.{deciding, default_kind, place_of};
+ghost use Rattle.snowcat_types.specs.Waiting.{place_of};
 ghost use Rattle.snowcat_types.specs.declared.kinds.Kind.TheVariants.{NotFormed};
+ghost use Rattle.snowcat_types.specs.inner.Awaited.{IsLess, IsRunning};
 ghost use Rattle.snowcat_types.specs.inner.Gathered.{AllNamedIn, EntriesNamed, EntryNamed, SystemNamed, entry_of, requirements_of, system_of_built};
-ghost use Rattle.snowcat_types.specs.inner.Runs.{EntryInside, HasReached, HasVisited, IsDecided, IsFault, IsFirstAt, IsFitting, IsPass, IsPlaced, IsTypedBy, IsVisit, NoneDecided, StillWaits};
+ghost use Rattle.snowcat_types.specs.inner.Runs.{EntryInside, HasReached, HasVisited, IsFault, IsFitting, IsPlaced, IsTypedBy, IsVisit};
 ghost use Rattle.snowcat_types.specs.inner.Solved.{AllInside, WaitInside};
 
 use crate::asking::ask_all;
+use crate::awaiting::Awaiting;
 use crate::choosing::choose;
-use crate::deciding::decision;
+use crate::deciding::kind_of;
 use crate::faults::TypeFault;
 use crate::gathered::{Entry, Requirement, System};
 use crate::kinds::Kind;
-use crate::waiting::Wait;
-use snowcat_rows::{Subst, Ty, UnifyFault};
+use crate::waiting::{Wait, place_of};
+use snowcat_rows::{Subst, UnifyFault};
 use std::alloc::{AllocError, Global};
 use tla_meaning::Place;
 use tla_values::List;
-
-fn place_of(wait: &Wait) -> Place
-    ensures { result ≡ place_of wait.now }
-{
-    match wait {
-        Wait::Apply(place, _, _, _, _) => *place,
-        Wait::Domain(place, _, _, _, _) => *place,
-        Wait::Tuple(place, _, _, _, _) => *place,
-    }
-}
-
-// The type that decides.
-#[tactic(auto, using(snowcat_rows::proofs::Means::means))]
-fn deciding_type(wait: &Wait) -> Ty
-    ensures { mean result ≡ deciding wait.now }
-{
-    match wait {
-        Wait::Apply(_, whole, _, _, _) => Ty::Var(*whole),
-        Wait::Domain(_, whole, _, _, _) => Ty::Var(*whole),
-        Wait::Tuple(_, whole, _, _, _) => Ty::Var(*whole),
-    }
-}
-
-// How the type that decides is formed.
-fn kind_of(subst: &Subst, wait: &Wait) -> Kind
-    ensures { result ≡ decision (stands_for subst.now) wait.now }
-{
-    let deciding = deciding_type(wait);
-    decision(subst, &deciding)
-}
-
-fn default_kind(wait: &Wait) -> Kind
-    ensures { result ≡ default_kind wait.now }
-{
-    match wait {
-        Wait::Apply(_, _, _, _, _) => Kind::Function,
-        Wait::Domain(_, _, _, _, _) => Kind::Function,
-        Wait::Tuple(_, _, _, _, _) => Kind::Tuple,
-    }
-}
 
 // Whether nothing is known of a type.
 fn is_open(kind: Kind) -> bool
@@ -168,111 +128,33 @@ fn visit_all<'a>(
     Ok(waits)
 }
 
-// The node behind those that wait takes its choice, if that is decided; else it waits with them.
-fn decide<'a>(
+// The node that goes on next takes its choice: it is one that is decided, or where there is none the first, by default.
+// False where no node waits.
+fn go_on(
     alloc: Global,
     subst: &mut Subst,
-    left: &mut Vec<&'a Wait>,
-    wait: &'a Wait,
-    places: &[Place],
-) -> Result<(), TypeFault>
-    requires { WaitInside (issued_of subst.old) wait.now }
-    ensures decided { IsDecided wait.now (map (λ w. w.now) left.old.items) subst.old
-        (map (λ w. w.now) left.new.items) subst.new places.now result }
-    ensures waits { IfOk result (λ _. StillWaits wait.now (map (λ w. w.now) left.old.items) subst.old
-        (map (λ w. w.now) left.new.items) subst.new) }
+    system: &System,
+    waits: &[&Wait],
+    awaiting: &mut Awaiting,
+) -> Result<bool, TypeFault>
+    requires { IsRunning (system_of_built system.now) (map (λ w. w.now) waits.now) awaiting.old subst.old }
+    ensures on { IfOk result (λ _. IsRunning (system_of_built system.now) (map (λ w. w.now) waits.now)
+        awaiting.new subst.new) }
+    ensures less { IfOk result (λ more. IsLess (map (λ w. w.now) waits.now) awaiting.old more awaiting.new) }
+    ensures fault { IfErr result (λ e. IsFault (system_of_built system.now) e) }
 {
-    let kind = kind_of(subst, wait);
-    if is_open(kind) {
-        left.push(wait)?;
-        return Ok(());
-    }
+    let Some((node, kind)) = awaiting.next(alloc, subst, waits)? else {
+        return Ok(false);
+    };
+    let wait = waits[node];
+    let mark = subst.bound();
     match choose(alloc, subst, wait, kind) {
-        Ok(()) => Ok(()),
-        Err(fault) => Err(clash_at(alloc, fault, place_of(wait), places)),
-    }
-}
-
-// Each node whose choice is decided takes it: those that wait then, in their order.
-fn decide_all<'a>(
-    alloc: Global,
-    subst: &mut Subst,
-    system: &System,
-    waits: &[&'a Wait],
-    places: &[Place],
-) -> Result<Vec<&'a Wait>, TypeFault>
-    requires { HasReached (system_of_built system.now) (map (λ w. w.now) waits.now) places.now subst.old }
-    ensures reached { IfOk result (λ left. HasReached (system_of_built system.now) (map (λ w. w.now) left.items)
-        places.now subst.new) }
-    ensures fewer { IfOk result (λ left. IsPass subst.new (length waits.now) (map (λ w. w.now) left.items)) }
-    ensures fault { IfErr result (λ e. IsFault (system_of_built system.now) e) }
-{
-    let mut left = Vec::new(alloc);
-    for i in 0..waits.len() {
-        decide(alloc, subst, &mut left, waits[i], places)?;
-    }
-    Ok(left)
-}
-
-// The number of the first in the order of places; of several at one place the one that is visited first.
-fn first_of(waits: &[&Wait]) -> usize
-    requires { 0 < length waits.now }
-    ensures { IsFirstAt (map (λ w. w.now) waits.now) result }
-{
-    let mut first = 0;
-    for i in 1..waits.len() {
-        if place_of(waits[i]).is_before(place_of(waits[first])) {
-            first = i;
+        Ok(()) => {
+            awaiting.release_from(alloc, subst, mark)?;
+            Ok(true)
         }
+        Err(fault) => Err(clash_at(alloc, fault, place_of(wait), awaiting.defaults())),
     }
-    first
-}
-
-// The first node takes its default.
-fn take_default(
-    alloc: Global,
-    subst: &mut Subst,
-    system: &System,
-    waits: &mut Vec<&Wait>,
-    places: &mut Vec<Place>,
-) -> Result<(), TypeFault>
-    requires waits { 0 < length waits.old.items }
-    requires reached { HasReached (system_of_built system.now) (map (λ w. w.now) waits.old.items) places.old.items subst.old }
-    requires none { NoneDecided subst.old (map (λ w. w.now) waits.old.items) }
-    ensures reached { IfOk result (λ _. HasReached (system_of_built system.now) (map (λ w. w.now) waits.new.items)
-        places.new.items subst.new) }
-    ensures fewer { IfOk result (λ _. length waits.new.items < length waits.old.items) }
-    ensures fault { IfErr result (λ e. IsFault (system_of_built system.now) e) }
-{
-    let first = first_of(waits.as_slice());
-    let wait = waits.remove(first);
-    places.push(place_of(wait))?;
-    match choose(alloc, subst, wait, default_kind(wait)) {
-        Ok(()) => Ok(()),
-        Err(fault) => Err(clash_at(alloc, fault, place_of(wait), places.as_slice())),
-    }
-}
-
-// All nodes whose choice is decided take it; where there is none, the first takes its default.
-fn go_on<'a>(
-    alloc: Global,
-    subst: &mut Subst,
-    system: &System,
-    waits: &[&'a Wait],
-    places: &mut Vec<Place>,
-) -> Result<Vec<&'a Wait>, TypeFault>
-    requires waits { 0 < length waits.now }
-    requires reached { HasReached (system_of_built system.now) (map (λ w. w.now) waits.now) places.old.items subst.old }
-    ensures reached { IfOk result (λ left. HasReached (system_of_built system.now) (map (λ w. w.now) left.items)
-        places.new.items subst.new) }
-    ensures fewer { IfOk result (λ left. length left.items < length waits.now) }
-    ensures fault { IfErr result (λ e. IsFault (system_of_built system.now) e) }
-{
-    let mut left = decide_all(alloc, subst, system, waits, places.as_slice())?;
-    if left.len() == waits.len() {
-        take_default(alloc, subst, system, &mut left, places)?;
-    }
-    Ok(left)
 }
 
 // The unknown types of the system, of which nothing is known.
@@ -309,10 +191,8 @@ pub(crate) fn solve(alloc: Global, system: &System) -> Result<Subst, TypeFault>
     ensures fault { IfErr result (λ e. IsFault (system_of_built system.now) e) }
 {
     let mut subst = started(alloc, system)?;
-    let mut waits = visit_all(alloc, &mut subst, system)?;
-    let mut places = Vec::new(alloc);
-    while waits.len() > 0 {
-        waits = go_on(alloc, &mut subst, system, waits.as_slice(), &mut places)?;
-    }
+    let waits = visit_all(alloc, &mut subst, system)?;
+    let mut awaiting = Awaiting::new(alloc, waits.as_slice())?;
+    'steps: while go_on(alloc, &mut subst, system, waits.as_slice(), &mut awaiting)? {}
     Ok(subst)
 }

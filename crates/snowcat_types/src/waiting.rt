@@ -1,4 +1,8 @@
 // Nodes whose types are tied only once the type that decides is known.
+ghost use Rattle.std.specs.Prelude.{◌≡◌};
+ghost use Rattle.snowcat_types.specs.Waiting.{default_kind, place_of};
+
+use crate::kinds::Kind;
 use tla_meaning::Place;
 use tla_values::Text;
 
@@ -29,4 +33,24 @@ pub enum Wait {
     /// A tuple with items: its place, its type, that of its items where it is a sequence, and from which number
     /// on its items have their types, and how many.
     Tuple(Place, u32, u32, u32, u32),
+}
+
+pub(crate) fn place_of(wait: &Wait) -> Place
+    ensures { result ≡ place_of wait.now }
+{
+    match wait {
+        Wait::Apply(place, _, _, _, _) => *place,
+        Wait::Domain(place, _, _, _, _) => *place,
+        Wait::Tuple(place, _, _, _, _) => *place,
+    }
+}
+
+pub(crate) fn default_kind(wait: &Wait) -> Kind
+    ensures { result ≡ default_kind wait.now }
+{
+    match wait {
+        Wait::Apply(_, _, _, _, _) => Kind::Function,
+        Wait::Domain(_, _, _, _, _) => Kind::Function,
+        Wait::Tuple(_, _, _, _, _) => Kind::Tuple,
+    }
 }

@@ -1,5 +1,5 @@
 -- A run of the solver: which entries were visited, which nodes wait, and what is solved.
-use Rattle.std.specs.Prelude.{ℕ, ◌≡◌, ◌⊎◌, ◌≤◌, true, List, [], ◌∷◌, ◌++◌, length, map, MatchResult, Result, Ok, Err}
+use Rattle.std.specs.Prelude.{ℕ, ◌≡◌, true, List, [], ◌∷◌, ◌++◌, map, MatchResult, Result, Ok, Err}
 use Rattle.tla_meaning.specs.declared.place.Place.{Place}
 use Rattle.snowcat_rows.specs.declared.substitution.Subst.{Subst}
 use Rattle.snowcat_rows.specs.declared.substitution.UnifyFault.{UnifyFault}
@@ -17,7 +17,7 @@ use Rattle.snowcat_types.specs.declared.waiting.Wait.{Wait}
 use Rattle.snowcat_types.specs.Requirements.{Requirement, MeetAll}
 use Rattle.snowcat_types.specs.Waiting.{place_of}
 use Rattle.snowcat_types.specs.Systems.{Entry, Asks, Waits, System}
-use Rattle.snowcat_types.specs.Typings.{Each, Visited, Reached, IsFirst, IsTyping, IsClash, decision}
+use Rattle.snowcat_types.specs.Typings.{Each, Visited, Reached, IsTyping, IsClash, decision}
 use Rattle.snowcat_types.specs.inner.Solved.{AllInside, AreOf, IsSolved, WaitInside}
 
 -- ---- what is asked is of the unknown types of the system
@@ -105,25 +105,3 @@ EntryInside n (Waits w) = WaitInside n w
 abbrev pub IsVisit : Entry → List Wait → Subst → List Wait → Subst → Result (Unit {0}) TypeFault → Type 0
 IsVisit entry ws s us t r = (system : System) (front back : List Entry) → system.entries ≡ front ++ entry ∷ back → HasVisited system front ws s
     → MatchResult r (λ _. HasVisited system (front ++ entry ∷ []) us t) (λ e. IsFault system e)
-
--- from where a run is, the node that waits behind these takes its choice, if that is decided
-abbrev pub IsDecided : Wait → List Wait → Subst → List Wait → Subst → List Place → Result (Unit {0}) TypeFault → Type 0
-IsDecided w ws s us t places r = (system : System) (rest : List Wait) → HasReached system (ws ++ w ∷ rest) places s
-    → MatchResult r (λ _. HasReached system (us ++ rest) places t) (λ e. IsFault system e)
-
--- it goes on waiting, since nothing is known, and nothing has changed; or it waits no more
-abbrev pub StillWaits : Wait → List Wait → Subst → List Wait → Subst → Type 0
-StillWaits w ws s us t = ((us ≡ ws ++ w ∷ []) × ((t ≡ s) × (decision (stands_for s) w ≡ NotFormed))) ⊎ (us ≡ ws)
-
--- of n nodes that waited these are left; where it is all of them, nothing is known of any
-abbrev pub IsPass : Subst → ℕ → List Wait → Type 0
-IsPass s n left = (length left ≤ n) × (length left ≡ n → NoneDecided s left)
-
--- the i-th is the first in the order of places
-pub record IsFirstAt (ws : List Wait) (i : ℕ) : Type 0 where
-  pub earlier : List Wait
-  pub it : Wait
-  pub later : List Wait
-  pub split : ws ≡ earlier ++ it ∷ later
-  pub at : i ≡ length earlier
-  pub first : IsFirst earlier it later

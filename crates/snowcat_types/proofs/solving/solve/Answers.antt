@@ -1,10 +1,18 @@
-use Rattle.std.proofs.Common.{◌≡◌, length, rules}
+use Rattle.std.proofs.Common.{List, map, subst}
+use Rattle.snowcat_types.specs.inner.Awaited.{IsBegun}
 use Rattle.snowcat_types.specs.inner.Gathered.{system_of_built}
-use Rattle.snowcat_types.proofs.Taking.{typed_at_end}
+use Rattle.snowcat_types.proofs.GoingOn.{begun, ended, less_none}
 use Rattle.snowcat_types.proofs.solving.solve.Goals as goal
+
+pub steps-init : goal.steps-init
+steps-init c =
+    let P : List _ → Type 0 = λ z. IsBegun (map (λ w. w.now) z) c.in_ok-awaiting.awaiting in
+    begun (system_of_built c.args.system.now) (map (λ w. w.now) c.in_ok-waits.waits.items) c.in_ok-awaiting.awaiting c.visit_all.new.subst
+    c.in_ok-waits.ensures.visited (subst P c.as_slice.ensures.value c.in_ok-awaiting.ensures)
 
 pub returns-clause-typed : goal.returns-clause-typed
 returns-clause-typed c =
-    let none : length c.loop-alloc.waits.items ≡ 0 = search rules in
-    typed_at_end (λ w. w.now) c.loop-alloc.waits.items (system_of_built c.args.system.now) c.loop-alloc.places.items c.loop-alloc.subst none
-    c.loop-alloc.invariant
+    ended (system_of_built c.args.system.now) (map (λ w. w.now) c.as_slice-in-steps.result.now) c.go_on.new.awaiting c.go_on.new.subst
+    c.in_ok-go_on.ensures.on
+    (less_none (map (λ w. w.now) c.as_slice-in-steps.result.now) c.steps.awaiting c.go_on.new.awaiting c.in_ok-go_on.field-0 c.if-branch.false
+    c.in_ok-go_on.ensures.less)
