@@ -16,7 +16,8 @@ use crate::bindings::{Bound, advance, bound_by};
 use crate::differences::difference;
 use crate::following::follow_root;
 use crate::places::Places;
-use crate::replacement::{put_all, settle};
+use crate::replacement::put_all;
+use crate::settling::{Settled, settle};
 use crate::types::{Ty, copy_type};
 use std::alloc::{AllocError, Global};
 
@@ -174,7 +175,7 @@ pub struct Subst {
 
 impl Subst {
     ghost use Rattle.snowcat_rows.specs.Roots.{IsRoot};
-    ghost use Rattle.snowcat_rows.specs.Views.{IsIssued, issued_of, kept_by, stands_for, type_bound_at};
+    ghost use Rattle.snowcat_rows.specs.Views.{IsIssued, issued_of, kept_by, settled_by, stands_for, type_bound_at};
 
     /// A substitution that has issued no variable. It takes its room from `alloc`.
     pub fn new(alloc: Global) -> Subst
@@ -236,6 +237,15 @@ impl Subst {
             → IfOk result (λ r. Within n (mean r)) }
     {
         let settled = settle(alloc, t, self.store.bindings.as_slice(), &self.store.places)?;
+        Ok(settled)
+    }
+
+    /// What each variable stands for, once and for all, so that many types are resolved in the time of one walk each
+    /// ([`Settled::resolved`](crate::Settled::resolved)).
+    pub fn settled(&self, alloc: Global) -> Result<Settled, AllocError>
+        ensures { IfOk result (λ s. settled_by s ≡ stands_for self.now) }
+    {
+        let settled = Settled::of(alloc, self.store.bindings.as_slice())?;
         Ok(settled)
     }
 

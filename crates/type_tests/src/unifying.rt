@@ -39,7 +39,8 @@ fn step(alloc: Global, s: &mut Subst, a: &Ty, b: &Ty, out: &mut Vec<u8>) -> Resu
     }
     match s.unify(a, b) {
         Ok(()) => {
-            let left = s.resolved(alloc, a)?;
+            let settled = s.settled(alloc)?;
+            let left = settled.resolved(alloc, a)?;
             let right = s.resolved(alloc, b)?;
             show_both(alloc, &left, " = ", &right, out)
         }
