@@ -1,7 +1,7 @@
 // Types once variables are replaced by what they are bound to.
 ghost use Rattle.std.specs.Prelude.{◌≡◌, IfOk, IfSome, MatchOption, map, true};
 ghost use Rattle.std.specs.List.{list_all};
-ghost use Rattle.snowcat_rows.specs.Types.{fields, mean, row, var};
+ghost use Rattle.snowcat_rows.specs.Types.{fields as record_of, mean, row, var};
 ghost use Rattle.snowcat_rows.specs.Substitutions.{apply, same_sub};
 ghost use Rattle.snowcat_rows.specs.Chains.{solved};
 ghost use Rattle.snowcat_rows.specs.Codes.{binding, bindings_of, changed, followed, has, named};
@@ -168,7 +168,7 @@ fn follow(
     places: &Places,
 ) -> Result<(List<(Text, Ty)>, Option<u32>), AllocError>
     requires { Indexed places.now bindings.now }
-    ensures mean { IfOk result (λ r. fields (has r.0) r.1
+    ensures mean { IfOk result (λ r. record_of (has r.0) r.1
         ≡ followed (named fields.items) (looked (bindings_of bindings.now)) tail) }
     ensures named { all_bound_named bindings.now ≡ true → record_named fields.items ≡ true
         → IfOk result (λ r. record_named r.0 ≡ true) }

@@ -150,10 +150,11 @@ impl Settled {
         let mut made = Vec::new(alloc);
         let mut places = Places::new(alloc);
         for at in (0..bindings.len()).rev() {
+            let bound = &bindings[at];
             let count = made.len();
-            let whole = replace_bound(alloc, &bindings[at], made.as_slice(), &places)?;
+            let whole = replace_bound(alloc, bound, made.as_slice(), &places)?;
             made.push(whole)?;
-            places.set(bound_by(&bindings[at]), count)?;
+            places.set(bound_by(bound), count)?;
         }
         Ok(Settled {
             bindings: made,
