@@ -5,10 +5,10 @@
 //! that is, end in a variable which stands for a row of further fields. Field names of one record
 //! differ, and their order tells nothing.
 //!
-//! `substitution` (over `bindings`, `replacement`, `settling`, `places`, `differences`, `occurrences`, `records`), `showing` with
-//! `renumbering`, and `reading` stand beside each other over `types`. A text is read in two steps: `scanning` (over
-//! `reader`, `pieces`) leaves the marks of what it read (`marks`), each construct behind its parts, and `building` makes
-//! the type of them.
+//! `substitution` (over `bindings`, `replacement`, `settling`, `limits`, `places`, `differences`, `occurrences`,
+//! `records`), `showing` with `renumbering`, and `reading` stand beside each other over `types`. A text is read in two
+//! steps: `scanning` (over `reader`, `pieces`) leaves the marks of what it read (`marks`), each construct behind its
+//! parts, and `building` makes the type of them.
 #![tactic(auto)]
 
 mod bindings;
@@ -17,6 +17,7 @@ mod closing;
 mod differences;
 mod faults;
 mod following;
+mod limits;
 mod literals;
 mod marks;
 mod occurrences;

@@ -13,6 +13,7 @@ ghost use Rattle.snowcat_rows.specs.inner.Rounds.{row_of};
 ghost use Rattle.snowcat_rows.specs.inner.Settling.{under};
 
 use crate::bindings::{Bound, bound_by};
+use crate::limits::{are_small, is_small};
 use crate::occurrences::{Unknown, occurs};
 use crate::places::Places;
 use crate::records::find;
@@ -61,7 +62,7 @@ fn row_bound<'a>(
 // The type with each variable replaced once.
 #[tactic(auto, using(crate::proofs::Means::means, crate::proofs::Naming::differs))]
 #[cycle(replace)]
-pub(crate) fn replace(
+fn replace(
     alloc: Global,
     t: &Ty,
     bindings: &[Bound],
@@ -192,7 +193,23 @@ fn follow(
     }
 }
 
-// The binding with each variable of what it binds replaced once.
+// The type with each variable replaced once; one that is too large then is want of memory.
+pub(crate) fn replace_within(
+    alloc: Global,
+    t: &Ty,
+    bindings: &[Bound],
+    places: &Places,
+) -> Result<Ty, AllocError>
+    requires { Indexed places.now bindings.now }
+    ensures mean { IfOk result (λ r. mean r ≡ apply (looked (bindings_of bindings.now)) (mean t.now)) }
+    ensures named { all_bound_named bindings.now ≡ true → names_differ t.now ≡ true
+        → IfOk result (λ r. names_differ r ≡ true) }
+{
+    let whole = replace(alloc, t, bindings, places)?;
+    if is_small(&whole) { Ok(whole) } else { Err(AllocError) }
+}
+
+// The binding with each variable of what it binds replaced once; one that is too large then is want of memory.
 pub(crate) fn replace_bound(
     alloc: Global,
     b: &Bound,
@@ -206,13 +223,17 @@ pub(crate) fn replace_bound(
 {
     match b {
         Bound::Type(v, t) => {
-            let whole = replace(alloc, t, bindings, places)?;
+            let whole = replace_within(alloc, t, bindings, places)?;
             Ok(Bound::Type(*v, whole))
         }
         Bound::Row(r, fs, tail) => {
             let fields = replace_fields(alloc, fs.as_slice(), bindings, places)?;
             let whole = follow(alloc, fields, *tail, bindings, places)?;
-            Ok(Bound::Row(*r, whole.0, whole.1))
+            if are_small(whole.0.as_slice()) {
+                Ok(Bound::Row(*r, whole.0, whole.1))
+            } else {
+                Err(AllocError)
+            }
         }
     }
 }
@@ -227,7 +248,7 @@ pub(crate) fn put_all(alloc: Global, t: &Ty, bindings: &[Bound]) -> Result<Ty, A
     let mut current = copy_type(alloc, t)?;
     for i in 0..bindings.len() {
         if occurs(bound_by(&bindings[i]), &current) {
-            current = replace(alloc, &current, &bindings[i..i + 1], &places)?;
+            current = replace_within(alloc, &current, &bindings[i..i + 1], &places)?;
         }
     }
     Ok(current)

@@ -13,7 +13,7 @@ use crate::bindings::{Bound, bound_by};
 use crate::occurrences::{Unknown, same_variable};
 use crate::places::Places;
 use crate::records::find;
-use crate::replacement::{replace, replace_bound};
+use crate::replacement::{replace_bound, replace_within};
 use crate::types::{Ty, copy_type};
 use std::alloc::{AllocError, Global};
 use tla_values::Text;
@@ -102,8 +102,8 @@ fn fields_settled(fs: &[(Text, Ty)], bindings: &[Bound], places: &Places) -> boo
     true
 }
 
-// The type once each bound variable is replaced. A pass replaces each variable once, and the bindings are a chain, so as
-// many passes as there are bindings suffice.
+// The type once each bound variable is replaced. A pass replaces each variable once, and the bindings are a chain, so
+// as many passes as there are bindings suffice.
 pub(crate) fn settle(
     alloc: Global,
     t: &Ty,
@@ -121,13 +121,13 @@ pub(crate) fn settle(
         if is_settled(&current, bindings, places) {
             return Ok(current);
         }
-        current = replace(alloc, &current, bindings, places)?;
+        current = replace_within(alloc, &current, bindings, places)?;
     }
     Ok(current)
 }
 
-/// What the variables of a substitution stand for, once and for all: no variable that it binds is left in what it binds.
-/// [`Subst::settled`](crate::Subst::settled) makes it.
+/// What the variables of a substitution stand for, once and for all: no variable that it binds is left in what it
+/// binds. [`Subst::settled`](crate::Subst::settled) makes it.
 #[derive(Drop)]
 pub struct Settled {
     bindings: Vec<Bound>,
@@ -140,8 +140,8 @@ impl Settled {
     ghost use Rattle.snowcat_rows.specs.Substitutions.{apply};
     ghost use Rattle.snowcat_rows.specs.Views.{settled_by};
 
-    // A binding holds no variable that was bound before it, so from the last to the first those that are settled by then
-    // are put in place in each.
+    // A binding holds no variable that was bound before it, so from the last to the first those that are settled by
+    // then are put in place in each.
     pub(crate) fn of(alloc: Global, bindings: &[Bound]) -> Result<Settled, AllocError>
         requires chain { Chain (bindings_of bindings.now) }
         requires named { all_bound_named bindings.now ≡ true }
@@ -162,13 +162,13 @@ impl Settled {
         })
     }
 
-    /// The type under the substitution, in one walk; in each record of it the field names differ where they do so in the
-    /// given type.
+    /// The type under the substitution, in one walk; in each record of it the field names differ where they do so in
+    /// the given type. A type of more than 1,000 levels or 1,048,576 parts is want of memory.
     pub fn resolved(&self, alloc: Global, t: &Ty) -> Result<Ty, AllocError>
         ensures mean { IfOk result (λ r. mean r ≡ apply (settled_by self.now) (mean t.now)) }
         ensures named { names_differ t.now ≡ true → IfOk result (λ r. names_differ r ≡ true) }
     {
-        let whole = replace(alloc, t, self.bindings.as_slice(), &self.places)?;
+        let whole = replace_within(alloc, t, self.bindings.as_slice(), &self.places)?;
         Ok(whole)
     }
 }

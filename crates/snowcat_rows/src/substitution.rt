@@ -229,7 +229,8 @@ impl Subst {
     }
 
     /// The type under the substitution; in each record of it the field names differ where they do so in the given
-    /// type. It can be handed on to [`unify`](Subst::unify) where the given type can.
+    /// type. It can be handed on to [`unify`](Subst::unify) where the given type can. A type of more than 1,000 levels
+    /// or 1,048,576 parts is want of memory.
     pub fn resolved(&self, alloc: Global, t: &Ty) -> Result<Ty, AllocError>
         ensures mean { IfOk result (λ r. mean r ≡ apply (stands_for self.now) (mean t.now)) }
         ensures named { names_differ t.now ≡ true → IfOk result (λ r. names_differ r ≡ true) }
@@ -241,7 +242,8 @@ impl Subst {
     }
 
     /// What each variable stands for, once and for all, so that many types are resolved in the time of one walk each
-    /// ([`Settled::resolved`](crate::Settled::resolved)).
+    /// ([`Settled::resolved`](crate::Settled::resolved)). A type of more than 1,000 levels or 1,048,576 parts is want
+    /// of memory.
     pub fn settled(&self, alloc: Global) -> Result<Settled, AllocError>
         ensures { IfOk result (λ s. settled_by s ≡ stands_for self.now) }
     {
@@ -265,7 +267,7 @@ impl Subst {
     /// A field that one record lacks goes into the row of that record's variable; where both lack
     /// one, a new row variable follows in both, and no other variable is issued. The fault `Clash`
     /// comes exactly where no extension makes the types equal, `Memory` also where a new row variable
-    /// is wanted and none is left.
+    /// is wanted and none is left, or where a type has more than 1,000 levels or 1,048,576 parts on the way.
     /// After a fault the substitution is as it was.
     pub fn unify(&mut self, a: &Ty, b: &Ty) -> Result<(), UnifyFault>
         requires left { Within (issued_of self.old) (mean a.now) }
