@@ -160,9 +160,6 @@ pub joined_named : (items more : Fields) (g f : List ℕ × Ty) → more ≡ ite
 joined_named items more g f e h n d r k =
     ap record_named e ∙ record_snoc items f r (ap (λ z. is_among z (names items)) n ∙ lacks items g.0 h) (d ∙ k)
 
-pub rec_named : (fs gs : Fields) (k : Option ℕ) → gs ≡ fs → record_named fs ≡ true → names_differ (Rec gs k) ≡ true
-rec_named fs gs k e h = differ-Rec gs k ∙ ap record_named e ∙ h
-
 pub of_fields : (fs : Fields) → record_named fs ≡ true → fields_named fs ≡ true
 of_fields fs h = and_right (are_distinct (names fs)) (fields_named fs) h
 

@@ -182,10 +182,6 @@ looked_one (to_row r w) = refl
 
 -- ---- the loop over passes
 
--- a pass that changes nothing ends it
-pub early : (bs : List Binding) (u n t : Term) → Chain bs → n ≡ apply (looked bs) u → u ≡ n → solved bs u ≡ solved bs t → n ≡ solved bs t
-early bs u n t c e d h = sym d ∙ sym (settled_is bs u c (sym e ∙ sym d)) ∙ h
-
 pub one_pass : (bs : List Binding) (i j : ℕ) (u n t : Term) → Chain bs → n ≡ apply (looked bs) u → j ≡ suc i → solved bs u ≡ solved bs t → ClearTo i bs (λ w. Occurs w u) →
     (solved bs n ≡ solved bs t) × ClearTo j bs (λ w. Occurs w n)
 one_pass bs i j u n t c e q h k = (

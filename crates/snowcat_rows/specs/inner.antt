@@ -16,3 +16,4 @@ pub mod Naming
 pub mod Fronted
 pub mod Shown
 pub mod Meeting
+pub mod Settling

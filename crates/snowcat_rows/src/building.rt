@@ -19,9 +19,9 @@ use std::alloc::{AllocError, Global};
 use tla_values::{Boxed, List, Text, copy_text};
 
 // How deep a type may be, and how many parts it may have.
-const MOST_DEPTH: usize = 1_000;
+pub(crate) const MOST_DEPTH: usize = 1_000;
 
-const MOST_PARTS: usize = 1_048_576;
+pub(crate) const MOST_PARTS: usize = 1_048_576;
 
 /// A type, or several, with its depth at most.
 #[derive(Drop)]

@@ -5,10 +5,10 @@
 //! that is, end in a variable which stands for a row of further fields. Field names of one record
 //! differ, and their order tells nothing.
 //!
-//! `substitution` (over `bindings`, `replacement`, `places`, `differences`, `occurrences`, `records`), `showing` with
-//! `renumbering`, and `reading` stand beside each other over `types`. A text is read in two steps: `scanning` (over
-//! `reader`, `pieces`) leaves the marks of what it read (`marks`), each construct behind its parts, and `building` makes
-//! the type of them.
+//! `substitution` (over `bindings`, `replacement`, `settling`, `limits`, `places`, `differences`, `occurrences`,
+//! `records`), `showing` with `renumbering`, and `reading` stand beside each other over `types`. A text is read in two
+//! steps: `scanning` (over `reader`, `pieces`) leaves the marks of what it read (`marks`), each construct behind its
+//! parts, and `building` makes the type of them.
 #![tactic(auto)]
 
 mod bindings;
@@ -17,6 +17,7 @@ mod closing;
 mod differences;
 mod faults;
 mod following;
+mod limits;
 mod literals;
 mod marks;
 mod occurrences;
@@ -29,6 +30,7 @@ mod records;
 mod renumbering;
 mod replacement;
 mod scanning;
+mod settling;
 mod showing;
 mod substitution;
 mod types;
@@ -42,6 +44,7 @@ pub use operators::has_no_operator;
 pub use reading::{Aliases, read_type, types_are_read_in_one_way};
 pub use records::has_distinct_names;
 pub use renumbering::{renumbered, renumbered_types_are_the_same};
+pub use settling::Settled;
 pub use showing::{
     said_types_are_spellable, show_type, shown_types_are_read_back, shown_types_are_spelled,
 };

@@ -1,9 +1,10 @@
 // Where variables stand.
-ghost use Rattle.std.specs.Prelude.{ℕ, List as Items, map};
+ghost use Rattle.std.specs.Prelude.{ℕ, ◌≡◌, List as Items, map};
 ghost use Rattle.std.specs.Bool.{MatchBool};
 ghost use Rattle.snowcat_rows.specs.Types.{mean, row};
 ghost use Rattle.snowcat_rows.specs.Chains.{Ends, Occurs, OccursSlot, Stands};
 ghost use Rattle.snowcat_rows.specs.Codes.{has, variable};
+ghost use Rattle.snowcat_rows.specs.Numbered.{same_variable};
 ghost use Rattle.snowcat_rows.specs.Sorting.{Within};
 ghost use Rattle.snowcat_rows.specs.inner.Below.{Below, EndBelow, FieldsBelow};
 
@@ -16,6 +17,21 @@ use tla_values::Text;
 pub(crate) enum Unknown {
     Type(u32),
     Row(u32),
+}
+
+pub(crate) fn same_variable(v: Unknown, w: Unknown) -> bool
+    ensures { result ≡ same_variable v w }
+{
+    match v {
+        Unknown::Type(a) => match w {
+            Unknown::Type(b) => a == b,
+            Unknown::Row(_) => false,
+        },
+        Unknown::Row(a) => match w {
+            Unknown::Type(_) => false,
+            Unknown::Row(b) => a == b,
+        },
+    }
 }
 
 // Whether the variable stands in the type.

@@ -3,10 +3,10 @@ ghost use Rattle.std.specs.Prelude.{◌≡◌, ◌++◌, IfOk, OnOk, map, option
 ghost use Rattle.std.specs.List.{flat_map};
 ghost use Rattle.snowcat_rows.specs.declared.occurrences.Unknown.TheVariants.{Row as row_named};
 ghost use Rattle.snowcat_rows.specs.declared.types.Ty.{Ty as AnyType};
-ghost use Rattle.snowcat_rows.specs.Numbered.{RenamedTogether, each_once, numbered as numbered_by, numbered_together, occurring, place as place_of, row_variable, same_variable};
+ghost use Rattle.snowcat_rows.specs.Numbered.{RenamedTogether, each_once, numbered as numbered_by, numbered_together, occurring, place as place_of, row_variable};
 ghost use Rattle.snowcat_rows.specs.inner.Meeting.{all_met, met};
 
-use crate::occurrences::Unknown;
+use crate::occurrences::{Unknown, same_variable};
 use crate::types::Ty;
 use std::alloc::{AllocError, Global};
 use tla_values::{Boxed, List, Text, copy_text};
@@ -127,21 +127,6 @@ fn place(v: Unknown, known: &[Unknown]) -> usize
         }
     }
     known.len()
-}
-
-fn same_variable(v: Unknown, w: Unknown) -> bool
-    ensures { result ≡ same_variable v w }
-{
-    match v {
-        Unknown::Type(a) => match w {
-            Unknown::Type(b) => a == b,
-            Unknown::Row(_) => false,
-        },
-        Unknown::Row(a) => match w {
-            Unknown::Type(_) => false,
-            Unknown::Row(b) => a == b,
-        },
-    }
 }
 
 fn number(v: Unknown, known: &[Unknown]) -> Result<u32, AllocError>

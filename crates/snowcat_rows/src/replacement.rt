@@ -1,18 +1,19 @@
 // Types once variables are replaced by what they are bound to.
 ghost use Rattle.std.specs.Prelude.{◌≡◌, IfOk, IfSome, MatchOption, map, true};
 ghost use Rattle.std.specs.List.{list_all};
-ghost use Rattle.snowcat_rows.specs.Types.{mean, row, var};
+ghost use Rattle.snowcat_rows.specs.Types.{fields as record_of, mean, row, var};
 ghost use Rattle.snowcat_rows.specs.Substitutions.{apply, same_sub};
-ghost use Rattle.snowcat_rows.specs.Chains.{Chain, solved};
-ghost use Rattle.snowcat_rows.specs.Codes.{bindings_of, changed, followed, has, named};
+ghost use Rattle.snowcat_rows.specs.Chains.{solved};
+ghost use Rattle.snowcat_rows.specs.Codes.{binding, bindings_of, changed, followed, has, named};
 ghost use Rattle.snowcat_rows.specs.FieldNames.{names as names_of, names_differ};
-ghost use Rattle.snowcat_rows.specs.inner.Naming.{all_bound_named, fields_named, record_named};
+ghost use Rattle.snowcat_rows.specs.inner.Naming.{all_bound_named, bound_named, fields_named, record_named};
 ghost use Rattle.snowcat_rows.specs.inner.Places.{Indexed};
 ghost use Rattle.snowcat_rows.specs.inner.Lookups.{looked, row_at, type_at};
 ghost use Rattle.snowcat_rows.specs.inner.Rounds.{row_of};
+ghost use Rattle.snowcat_rows.specs.inner.Settling.{under};
 
 use crate::bindings::{Bound, bound_by};
-use crate::differences::difference;
+use crate::limits::{are_small, is_small};
 use crate::occurrences::{Unknown, occurs};
 use crate::places::Places;
 use crate::records::find;
@@ -61,7 +62,7 @@ fn row_bound<'a>(
 // The type with each variable replaced once.
 #[tactic(auto, using(crate::proofs::Means::means, crate::proofs::Naming::differs))]
 #[cycle(replace)]
-pub(crate) fn replace(
+fn replace(
     alloc: Global,
     t: &Ty,
     bindings: &[Bound],
@@ -104,7 +105,7 @@ pub(crate) fn replace(
         Ty::Rec(fs, tail) => {
             let fields = replace_fields(alloc, fs.as_slice(), bindings, places)?;
             let whole = follow(alloc, fields, *tail, bindings, places)?;
-            Ok(whole)
+            Ok(Ty::Rec(whole.0, whole.1))
         }
         Ty::Oper(ts, y) => {
             let arguments = replace_all(alloc, ts.as_slice(), bindings, places)?;
@@ -158,25 +159,26 @@ pub(crate) fn replace_fields(
     Ok(items)
 }
 
-// The record of fields that were changed, followed by what its row variable stands for. The first field of a name
-// counts, so that no name comes twice.
+// Fields that were changed, followed by what their row variable stands for, and what follows then. The first field of
+// a name counts, so that no name comes twice.
 fn follow(
     alloc: Global,
     fields: Vec<(Text, Ty)>,
     tail: Option<u32>,
     bindings: &[Bound],
     places: &Places,
-) -> Result<Ty, AllocError>
+) -> Result<(List<(Text, Ty)>, Option<u32>), AllocError>
     requires { Indexed places.now bindings.now }
-    ensures mean { IfOk result (λ r. mean r ≡ followed (named fields.items) (looked (bindings_of bindings.now)) tail) }
+    ensures mean { IfOk result (λ r. record_of (has r.0) r.1
+        ≡ followed (named fields.items) (looked (bindings_of bindings.now)) tail) }
     ensures named { all_bound_named bindings.now ≡ true → record_named fields.items ≡ true
-        → IfOk result (λ r. names_differ r ≡ true) }
+        → IfOk result (λ r. record_named r.0 ≡ true) }
 {
     let mut fields = fields;
     match tail {
-        None => Ok(Ty::Rec(List::from_vec(fields), None)),
+        None => Ok((List::from_vec(fields), None)),
         Some(q) => match row_bound(bindings, places, q) {
-            None => Ok(Ty::Rec(List::from_vec(fields), Some(q))),
+            None => Ok((List::from_vec(fields), Some(q))),
             Some((rest, end)) => {
                 for g in rest {
                     if find(fields.as_slice(), &g.0).is_none() {
@@ -185,36 +187,55 @@ fn follow(
                         fields.push((name, item))?;
                     }
                 }
-                Ok(Ty::Rec(List::from_vec(fields), end))
+                Ok((List::from_vec(fields), end))
             }
         },
     }
 }
 
-// The type once each bound variable is replaced. A pass replaces each variable once, and what a pass leaves as it is
-// holds none; the bindings are a chain, so as many passes as there are bindings suffice.
-pub(crate) fn settle(
+// The type with each variable replaced once; one that is too large then is want of memory.
+pub(crate) fn replace_within(
     alloc: Global,
     t: &Ty,
     bindings: &[Bound],
     places: &Places,
 ) -> Result<Ty, AllocError>
-    requires chain { Chain (bindings_of bindings.now) }
-    requires indexed { Indexed places.now bindings.now }
-    ensures mean { IfOk result (λ r. mean r ≡ solved (bindings_of bindings.now) (mean t.now)) }
+    requires { Indexed places.now bindings.now }
+    ensures mean { IfOk result (λ r. mean r ≡ apply (looked (bindings_of bindings.now)) (mean t.now)) }
     ensures named { all_bound_named bindings.now ≡ true → names_differ t.now ≡ true
         → IfOk result (λ r. names_differ r ≡ true) }
 {
-    let mut current = copy_type(alloc, t)?;
-    for pass in 0..bindings.len() {
-        let next = replace(alloc, &current, bindings, places)?;
-        match difference(&current, &next) {
-            None => return Ok(next),
-            Some(_) => {}
+    let whole = replace(alloc, t, bindings, places)?;
+    if is_small(&whole) { Ok(whole) } else { Err(AllocError) }
+}
+
+// The binding with each variable of what it binds replaced once; one that is too large then is want of memory.
+pub(crate) fn replace_bound(
+    alloc: Global,
+    b: &Bound,
+    bindings: &[Bound],
+    places: &Places,
+) -> Result<Bound, AllocError>
+    requires { Indexed places.now bindings.now }
+    ensures mean { IfOk result (λ r. binding r ≡ under (looked (bindings_of bindings.now)) (binding b.now)) }
+    ensures named { all_bound_named bindings.now ≡ true → bound_named b.now ≡ true
+        → IfOk result (λ r. bound_named r ≡ true) }
+{
+    match b {
+        Bound::Type(v, t) => {
+            let whole = replace_within(alloc, t, bindings, places)?;
+            Ok(Bound::Type(*v, whole))
         }
-        current = next;
+        Bound::Row(r, fs, tail) => {
+            let fields = replace_fields(alloc, fs.as_slice(), bindings, places)?;
+            let whole = follow(alloc, fields, *tail, bindings, places)?;
+            if are_small(whole.0.as_slice()) {
+                Ok(Bound::Row(*r, whole.0, whole.1))
+            } else {
+                Err(AllocError)
+            }
+        }
     }
-    Ok(current)
 }
 
 // The type once each of the bindings is put in place, one after the other.
@@ -227,7 +248,7 @@ pub(crate) fn put_all(alloc: Global, t: &Ty, bindings: &[Bound]) -> Result<Ty, A
     let mut current = copy_type(alloc, t)?;
     for i in 0..bindings.len() {
         if occurs(bound_by(&bindings[i]), &current) {
-            current = replace(alloc, &current, &bindings[i..i + 1], &places)?;
+            current = replace_within(alloc, &current, &bindings[i..i + 1], &places)?;
         }
     }
     Ok(current)

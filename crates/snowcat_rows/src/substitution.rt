@@ -16,7 +16,8 @@ use crate::bindings::{Bound, advance, bound_by};
 use crate::differences::difference;
 use crate::following::follow_root;
 use crate::places::Places;
-use crate::replacement::{put_all, settle};
+use crate::replacement::put_all;
+use crate::settling::{Settled, settle};
 use crate::types::{Ty, copy_type};
 use std::alloc::{AllocError, Global};
 
@@ -174,7 +175,7 @@ pub struct Subst {
 
 impl Subst {
     ghost use Rattle.snowcat_rows.specs.Roots.{IsRoot};
-    ghost use Rattle.snowcat_rows.specs.Views.{IsIssued, issued_of, kept_by, stands_for, type_bound_at};
+    ghost use Rattle.snowcat_rows.specs.Views.{IsIssued, issued_of, kept_by, settled_by, stands_for, type_bound_at};
 
     /// A substitution that has issued no variable. It takes its room from `alloc`.
     pub fn new(alloc: Global) -> Subst
@@ -228,7 +229,8 @@ impl Subst {
     }
 
     /// The type under the substitution; in each record of it the field names differ where they do so in the given
-    /// type. It can be handed on to [`unify`](Subst::unify) where the given type can.
+    /// type. It can be handed on to [`unify`](Subst::unify) where the given type can. A type of more than 1,000 levels
+    /// or 1,048,576 parts is want of memory.
     pub fn resolved(&self, alloc: Global, t: &Ty) -> Result<Ty, AllocError>
         ensures mean { IfOk result (λ r. mean r ≡ apply (stands_for self.now) (mean t.now)) }
         ensures named { names_differ t.now ≡ true → IfOk result (λ r. names_differ r ≡ true) }
@@ -236,6 +238,16 @@ impl Subst {
             → IfOk result (λ r. Within n (mean r)) }
     {
         let settled = settle(alloc, t, self.store.bindings.as_slice(), &self.store.places)?;
+        Ok(settled)
+    }
+
+    /// What each variable stands for, once and for all, so that many types are resolved in the time of one walk each
+    /// ([`Settled::resolved`](crate::Settled::resolved)). A type of more than 1,000 levels or 1,048,576 parts is want
+    /// of memory.
+    pub fn settled(&self, alloc: Global) -> Result<Settled, AllocError>
+        ensures { IfOk result (λ s. settled_by s ≡ stands_for self.now) }
+    {
+        let settled = Settled::of(alloc, self.store.bindings.as_slice())?;
         Ok(settled)
     }
 
@@ -255,7 +267,7 @@ impl Subst {
     /// A field that one record lacks goes into the row of that record's variable; where both lack
     /// one, a new row variable follows in both, and no other variable is issued. The fault `Clash`
     /// comes exactly where no extension makes the types equal, `Memory` also where a new row variable
-    /// is wanted and none is left.
+    /// is wanted and none is left, or where a type has more than 1,000 levels or 1,048,576 parts on the way.
     /// After a fault the substitution is as it was.
     pub fn unify(&mut self, a: &Ty, b: &Ty) -> Result<(), UnifyFault>
         requires left { Within (issued_of self.old) (mean a.now) }

@@ -5,6 +5,7 @@ use crate::postfix::type_of;
 use snowcat_rows::{Subst, Ty, UnifyFault, has_distinct_names, is_within, show_type};
 use std::alloc::{AllocError, Global};
 use std::test::Fail;
+use tla_values::Boxed;
 
 // A substitution that has issued five variables.
 pub(crate) fn five(alloc: Global) -> Subst {
@@ -29,6 +30,11 @@ fn show_both(
     show_type(alloc, y, out)
 }
 
+fn settled(alloc: Global, s: &Subst, t: &Ty) -> Result<Ty, AllocError> {
+    let settled = s.settled(alloc)?;
+    settled.resolved(alloc, t)
+}
+
 // Adds what both types are after one call, or the two parts that clash.
 fn step(alloc: Global, s: &mut Subst, a: &Ty, b: &Ty, out: &mut Vec<u8>) -> Result<(), AllocError> {
     if !is_within(a, s.issued()) || !is_within(b, s.issued()) {
@@ -39,7 +45,7 @@ fn step(alloc: Global, s: &mut Subst, a: &Ty, b: &Ty, out: &mut Vec<u8>) -> Resu
     }
     match s.unify(a, b) {
         Ok(()) => {
-            let left = s.resolved(alloc, a)?;
+            let left = settled(alloc, s, a)?;
             let right = s.resolved(alloc, b)?;
             show_both(alloc, &left, " = ", &right, out)
         }
@@ -74,5 +80,48 @@ fn types_are_made_equal_in_the_most_general_way(rt: HostRuntime) -> Result<(), F
     for line in STEPS.lines() {
         assert!(rt; holds(rt.alloc(), line)?, "{line}");
     }
+    Ok(())
+}
+
+fn bind(s: &mut Subst, a: &Ty, b: &Ty) -> Result<(), AllocError> {
+    let issued = is_within(a, s.issued()) && is_within(b, s.issued());
+    if issued && has_distinct_names(a) && has_distinct_names(b) {
+        if let Err(UnifyFault::Memory(e)) = s.unify(a, b) {
+            return Err(e);
+        }
+    }
+    Ok(())
+}
+
+// So many variables and one more, each but the last bound to the set of the next.
+fn chain(alloc: Global, sets: u32) -> Result<Subst, AllocError> {
+    let mut s = Subst::new(alloc);
+    for _v in 0..sets {
+        if s.issued() < 4294967294 {
+            let _ = s.fresh();
+        }
+    }
+    if s.issued() < 4294967295 {
+        let _ = s.fresh();
+    }
+    for v in 0..sets {
+        let item = Ty::Var(v + 1);
+        bind(&mut s, &Ty::Var(v), &Ty::Set(Boxed::new(alloc, item)?))?;
+    }
+    Ok(s)
+}
+
+// Whether both calls tell what the first of the chain stands for.
+fn are_told(alloc: Global, sets: u32) -> Result<(bool, bool), AllocError> {
+    let s = chain(alloc, sets)?;
+    let first = s.resolved(alloc, &Ty::Var(0)).is_ok();
+    let second = settled(alloc, &s, &Ty::Var(0)).is_ok();
+    Ok((first, second))
+}
+
+#[test]
+fn types_of_more_than_1000_levels_are_want_of_memory(rt: HostRuntime) -> Result<(), Fail> {
+    assert_eq!(rt; are_told(rt.alloc(), 999)?, (true, true));
+    assert_eq!(rt; are_told(rt.alloc(), 1000)?, (false, false));
     Ok(())
 }

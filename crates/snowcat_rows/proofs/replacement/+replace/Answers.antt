@@ -4,12 +4,12 @@ use Rattle.snowcat_rows.specs.Types.{mean}
 use Rattle.snowcat_rows.specs.Substitutions.{apply}
 use Rattle.snowcat_rows.specs.inner.Lookups.{looked}
 use Rattle.snowcat_rows.specs.Codes.{bindings_of, named, changed}
-use Rattle.snowcat_rows.proofs.Means.{rec_after, row_replaced}
+use Rattle.snowcat_rows.proofs.Means.{mean-Rec, rec_after, row_replaced}
 use Rattle.snowcat_rows.proofs.replacement.+replace.Goals as goal
 
 pub replace-returns-in_ok-whole-in-Rec-clause-mean : goal.replace-returns-in_ok-whole-in-Rec-clause-mean
 replace-returns-in_ok-whole-in-Rec-clause-mean t c =
-    c.in_ok-whole-in-Rec.ensures.mean
+    mean-Rec c.in_ok-whole-in-Rec.whole.0 c.in_ok-whole-in-Rec.whole.1 ∙ c.in_ok-whole-in-Rec.ensures.mean
     ∙ rec_after (looked (bindings_of c.args.bindings.now)) c.in-Rec.fs c.in-Rec.tail (named c.in_ok-fields-in-Rec.fields.items) c.args.t.now c.in-Rec.is
     (c.in_ok-fields-in-Rec.ensures.mean ∙ ap (changed (looked (bindings_of c.args.bindings.now))) c.as_slice-in-Rec.ensures)
 

@@ -2,7 +2,7 @@ use Rattle.std.proofs.Common.{◌∙◌, List, ap, map, subst, sym}
 use Rattle.snowcat_rows.specs.declared.types.Ty.{Ty}
 use Rattle.snowcat_rows.specs.Closing.{closing}
 use Rattle.snowcat_rows.specs.Substitutions.{apply, then_sub}
-use Rattle.snowcat_rows.specs.Views.{stands_for}
+use Rattle.snowcat_rows.specs.Views.{settled_by}
 use Rattle.snowcat_types.specs.inner.Built.{means}
 use Rattle.snowcat_types.specs.inner.Gathered.{PartsNamed, TypesNamed}
 use Rattle.snowcat_types.proofs.Listed.{mapped_on}
@@ -18,10 +18,10 @@ closed_types-requires c =
 pub loop-part-preserved : goal.loop-part-preserved
 loop-part-preserved c = record {
   mean =
-      mapped_on means (map (apply (then_sub closing (stands_for c.args.subst.now)))) c.args.parts.now c.loop-part.part-index c.part-item.result
+      mapped_on means (map (apply (then_sub closing (settled_by c.args.settled.now)))) c.args.parts.now c.loop-part.part-index c.part-item.result
       c.loop-part.whole.items c.push.new.self.items c.in_ok-closed_types.field-0 c.loop-part-test.true c.part-item.is c.in_ok-push.ensures.items
       c.loop-part.invariant.mean
-      (c.in_ok-closed_types.ensures.mean ∙ ap (λ z. map (apply (then_sub closing (stands_for c.args.subst.now))) (means z)) c.as_slice.ensures);
+      (c.in_ok-closed_types.ensures.mean ∙ ap (λ z. map (apply (then_sub closing (settled_by c.args.settled.now))) (means z)) c.as_slice.ensures);
   named =
       let P : List (List Ty) → Type 0 = λ z. PartsNamed z in
       subst P (sym c.in_ok-push.ensures.items)

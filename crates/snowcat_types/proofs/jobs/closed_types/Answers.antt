@@ -3,7 +3,7 @@ use Rattle.snowcat_rows.specs.declared.types.Ty.{Ty}
 use Rattle.snowcat_rows.specs.Closing.{closing}
 use Rattle.snowcat_rows.specs.Substitutions.{apply, then_sub}
 use Rattle.snowcat_rows.specs.Types.{mean}
-use Rattle.snowcat_rows.specs.Views.{stands_for}
+use Rattle.snowcat_rows.specs.Views.{settled_by}
 use Rattle.snowcat_types.specs.inner.Gathered.{TypesNamed}
 use Rattle.snowcat_types.proofs.Listed.{mapped_on}
 use Rattle.snowcat_types.proofs.Naming.{type_named, types_snoc}
@@ -15,7 +15,7 @@ closed_type-requires c = type_named c.args.types.now c.loop-t.t-index c.t-item.r
 pub loop-t-preserved : goal.loop-t-preserved
 loop-t-preserved c = record {
   mean =
-      mapped_on mean (apply (then_sub closing (stands_for c.args.subst.now))) c.args.types.now c.loop-t.t-index c.t-item.result
+      mapped_on mean (apply (then_sub closing (settled_by c.args.settled.now))) c.args.types.now c.loop-t.t-index c.t-item.result
       c.loop-t.whole.items c.push.new.self.items c.in_ok-closed_type.field-0 c.loop-t-test.true c.t-item.is c.in_ok-push.ensures.items
       c.loop-t.invariant.mean c.in_ok-closed_type.ensures.mean;
   named =

@@ -5,7 +5,7 @@ use Rattle.snowcat_rows.specs.FieldNames.{names_differ}
 use Rattle.snowcat_rows.specs.inner.Naming.{all_bound_named}
 use Rattle.snowcat_rows.specs.Codes.{bindings_of}
 use Rattle.snowcat_rows.proofs.Lookups.{ClearTo}
-use Rattle.snowcat_rows.proofs.replacement.settle.Given as goal
+use Rattle.snowcat_rows.proofs.settling.settle.Given as goal
 
 abbrev pub invariant-loop-pass : goal.invariant-loop-pass
 invariant-loop-pass l =
