@@ -62,12 +62,7 @@ fn row_bound<'a>(
 // The type with each variable replaced once.
 #[tactic(auto, using(crate::proofs::Means::means, crate::proofs::Naming::differs))]
 #[cycle(replace)]
-fn replace(
-    alloc: Global,
-    t: &Ty,
-    bindings: &[Bound],
-    places: &Places,
-) -> Result<Ty, AllocError>
+fn replace(alloc: Global, t: &Ty, bindings: &[Bound], places: &Places) -> Result<Ty, AllocError>
     requires { Indexed places.now bindings.now }
     ensures mean { IfOk result (λ r. mean r ≡ apply (looked (bindings_of bindings.now)) (mean t.now)) }
     ensures named { all_bound_named bindings.now ≡ true → names_differ t.now ≡ true
@@ -206,7 +201,11 @@ pub(crate) fn replace_within(
         → IfOk result (λ r. names_differ r ≡ true) }
 {
     let whole = replace(alloc, t, bindings, places)?;
-    if is_small(&whole) { Ok(whole) } else { Err(AllocError) }
+    if is_small(&whole) {
+        Ok(whole)
+    } else {
+        Err(AllocError)
+    }
 }
 
 // The binding with each variable of what it binds replaced once; one that is too large then is want of memory.

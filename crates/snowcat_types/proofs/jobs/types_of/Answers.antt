@@ -3,7 +3,7 @@ use Rattle.snowcat_rows.specs.declared.substitution.Subst.{Subst}
 use Rattle.snowcat_rows.specs.declared.types.Typed.{Typed}
 use Rattle.snowcat_rows.specs.Closing.{closing}
 use Rattle.snowcat_rows.specs.Substitutions.{Sub, apply, then_sub}
-use Rattle.snowcat_rows.specs.Types.{Term, mean}
+use Rattle.snowcat_rows.specs.Types.{Term}
 use Rattle.snowcat_rows.specs.Views.{settled_by, stands_for}
 use Rattle.snowcat_types.specs.Systems.{System}
 use Rattle.snowcat_types.specs.Typings.{IsTyping}

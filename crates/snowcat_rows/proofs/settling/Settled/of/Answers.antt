@@ -1,4 +1,4 @@
-use Rattle.std.proofs.Common.{◌≡◌, ℕ, suc, ◌-◌, ◌<◌, length, vec_len, ap, ◌∙◌, sym, arith}
+use Rattle.std.proofs.Common.{◌≡◌, suc, ◌-◌, ◌<◌, length, vec_len, ap, ◌∙◌, sym, arith}
 use Rattle.snowcat_rows.specs.Chains.{Variable, key}
 use Rattle.snowcat_rows.specs.Codes.{binding, bindings_of}
 use Rattle.snowcat_rows.specs.inner.Lookups.{looked}
