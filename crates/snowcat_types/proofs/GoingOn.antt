@@ -20,7 +20,7 @@ use Rattle.snowcat_types.specs.Typings.{IsFirst}
 use Rattle.snowcat_types.specs.inner.Awaited.{At, Awaits, IsBegun, IsCaughtUp, IsChosen, IsDone, IsLeast, IsLess, IsNext, IsRunning, Why, left}
 use Rattle.snowcat_types.specs.inner.Awaited.Why.{by_types, first}
 use Rattle.snowcat_types.specs.inner.Runs.{HasReached, IsFault, IsPlaced, IsTypedBy, NoneDecided}
-use Rattle.snowcat_types.specs.inner.Solved.{IsDue, Tries, WaitInside}
+use Rattle.snowcat_types.specs.inner.Solved.{IsDue, IsFurther, Tries, WaitInside}
 use Rattle.snowcat_types.proofs.Faulting.{decided_failed, decided_met, default_failed, default_met, placed_at}
 use Rattle.snowcat_types.proofs.Leaving.{ahead, at_below, at_read, at_same, each_ahead, each_past, fewer_left, left_off, left_split, past, stands_at}
 use Rattle.snowcat_types.proofs.Nexts.{catches}
@@ -76,12 +76,12 @@ module _ (system : System) (ws : List Wait) (s : Subst) (old new : Awaiting) (i 
       → Tries c.wait (choice c.wait (default_kind c.wait)) s t z
   tried_default t z e h = let P : Kind → Type 0 = λ v. Tries c.wait (choice c.wait v) s t z in subst P e (tried_at t z h)
 
-  pub chosen_inside : WaitInside (issued_of s) w
-  chosen_inside = let P : Wait → Type 0 = λ z. WaitInside (issued_of s) z in
+  its_inside : WaitInside (issued_of s) w
+  its_inside = let P : Wait → Type 0 = λ z. WaitInside (issued_of s) z in
       subst P (sym is) (wait_issued system (ahead old.marks.items ws i) (past old.marks.items ws i) c.wait old.defaults.items s split_reached)
 
-  pub chosen_due : IsDue (stands_for s) w k
-  chosen_due = let P : Wait → Type 0 = λ z. IsDue (stands_for s) z k in
+  its_due : IsDue (stands_for s) w k
+  its_due = let P : Wait → Type 0 = λ z. IsDue (stands_for s) z k in
       subst P (sym is) (elim c.why [ by_types e n same ↦ inl (sym e, n) | first e n l more ↦ inr e ])
 
   reached_on : (t : Subst) → Tries w (choice w k) s t (Ok tt) → Why s ws old i c.wait k new
@@ -97,9 +97,9 @@ module _ (system : System) (ws : List Wait) (s : Subst) (old new : Awaiting) (i 
       (default_met system (ahead old.marks.items ws i) (past old.marks.items ws i) c.wait old.defaults.items s t split_reached (split_none n) (is_first l)
       (tried_default t (Ok tt) e h system.count split_reached.fitting.fronts split_reached.rs split_reached.solved split_reached.are))
 
-  pub chosen_on : (t : Subst) (a : Awaiting) → Tries w (choice w k) s t (Ok tt) → Begins (kept_by s) (kept_by t)
+  its_on : (t : Subst) (a : Awaiting) → Tries w (choice w k) s t (Ok tt) → Begins (kept_by s) (kept_by t)
       → (m : ℕ) → m ≡ length (kept_by s) → IsCaughtUp t m new a → IsRunning system ws a t
-  chosen_on t a h b m e u = record {
+  its_on t a h b m e u = record {
     reached =
         let P : List Wait → Type 0 = λ z. HasReached system z a.defaults.items t in
         let Q : List Place → Type 0 = λ z. HasReached system (ahead old.marks.items ws i ++ past old.marks.items ws i) z t in
@@ -113,9 +113,6 @@ module _ (system : System) (ws : List Wait) (s : Subst) (old new : Awaiting) (i 
         let S : _ → Type 0 = λ z. Awaits (kept_by t) ws a.marks.items a.watching z in
         subst S (sym u.turns) (subst R (sym u.marks) g);
   }
-
-  pub chosen_less : (a : Awaiting) (t : Subst) (m : ℕ) → IsCaughtUp t m new a → length (left a.marks.items ws) < length (left old.marks.items ws)
-  chosen_less a t m u = fewer_left old.marks.items a.marks.items ws i c.wait c.off.stands (u.marks ∙ c.off.marks)
 
   refused_why : (t : Subst) (fault : UnifyFault) (e : TypeFault) → Tries w (choice w k) s t (Err fault) → HasNames fault
       → IsPlaced fault (place_of c.wait) new.defaults.items e → Why s ws old i c.wait k new → IsFault system e
@@ -131,29 +128,47 @@ module _ (system : System) (ws : List Wait) (s : Subst) (old new : Awaiting) (i 
       (tried_default t (Err fault) q h system.count split_reached.fitting.fronts split_reached.rs split_reached.solved split_reached.are) names
       (subst P more placed)
 
-  pub chosen_refused : (t : Subst) (fault : UnifyFault) (e : TypeFault) (p : Place) (ps : List Place) → Tries w (choice w k) s t (Err fault) → HasNames fault
+  its_refused : (t : Subst) (fault : UnifyFault) (e : TypeFault) (p : Place) (ps : List Place) → Tries w (choice w k) s t (Err fault) → HasNames fault
       → p ≡ place_of w → ps ≡ new.defaults.items → IsPlaced fault p ps e → IsFault system e
-  chosen_refused t fault e p ps h names at same placed =
+  its_refused t fault e p ps h names at same placed =
       let P : List Place → Type 0 = λ z. IsPlaced fault (place_of c.wait) z e in
       refused_why t fault e h names (subst P same (placed_at fault p (place_of c.wait) ps e (at ∙ ap place_of is) placed)) c.why
 
 -- ---- what is found of the nodes that are lent
 
-pub next_some : (s : Subst) (ws : List Wait) (old new : Awaiting) (r : Option (ℕ × Kind)) (i : ℕ) (k : Kind) → r ≡ Some (i, k) → IsNext s ws old r new
-    → IsChosen s ws old i k new
-next_some s ws old new r i k e h = let P : Option (ℕ × Kind) → Type 0 = λ z. IsNext s ws old z new in subst P e h
+module _ {X : Type 0} (f : X → Wait) (xs : List X) (s : Subst) (old new : Awaiting) (o : Option (ℕ × Kind)) (i : ℕ) (k : Kind)
+    (some : o ≡ Some (i, k)) (next : IsNext s (map f xs) old o new) where
+  chosen : IsChosen s (map f xs) old i k new
+  chosen = let P : Option (ℕ × Kind) → Type 0 = λ z. IsNext s (map f xs) old z new in subst P some next
 
-module _ {X : Type 0} (f : X → Wait) (xs : List X) (s : Subst) (old new : Awaiting) (i : ℕ) (k : Kind) (c : IsChosen s (map f xs) old i k new) where
-  at_chosen : At (map f xs) i c.wait
-  at_chosen = stands_at old.marks.items (map f xs) i c.wait c.off.stands
+  at_chosen : At (map f xs) i chosen.wait
+  at_chosen = stands_at old.marks.items (map f xs) i chosen.wait chosen.off.stands
 
   pub chosen_below : i < length xs
   chosen_below =
-      let lt : i < length (map f xs) = at_below (map f xs) i c.wait at_chosen in
+      let lt : i < length (map f xs) = at_below (map f xs) i chosen.wait at_chosen in
       let e : length (map f xs) ≡ length xs = length-map xs f in omega (arith, lt, e)
 
-  pub chosen_same : (x : X) → x ≡ get_or xs i x → f x ≡ c.wait
-  chosen_same x is = at_same (map f xs) i (f x) c.wait (at_read f xs i x chosen_below is) at_chosen
+  pub chosen_less : (a : Awaiting) (t : Subst) (m : ℕ) → IsCaughtUp t m new a → length (left a.marks.items (map f xs)) < length (left old.marks.items (map f xs))
+  chosen_less a t m u = fewer_left old.marks.items a.marks.items (map f xs) i chosen.wait chosen.off.stands (u.marks ∙ chosen.off.marks)
+
+  module _ (x : X) (is : x ≡ get_or xs i x) (system : System) (r : HasReached system (left old.marks.items (map f xs)) old.defaults.items s) where
+    same : f x ≡ chosen.wait
+    same = at_same (map f xs) i (f x) chosen.wait (at_read f xs i x chosen_below is) at_chosen
+
+    pub chosen_inside : WaitInside (issued_of s) (f x)
+    chosen_inside = its_inside system (map f xs) s old new i k chosen (f x) same r
+
+    pub chosen_due : IsDue (stands_for s) (f x) k
+    chosen_due = its_due system (map f xs) s old new i k chosen (f x) same r
+
+    pub chosen_on : (t : Subst) (a : Awaiting) → Tries (f x) (choice (f x) k) s t (Ok tt) → IsFurther s t → (m : ℕ) → m ≡ length (kept_by s)
+        → IsCaughtUp t m new a → IsRunning system (map f xs) a t
+    chosen_on t a h b m e u = its_on system (map f xs) s old new i k chosen (f x) same r t a h b.begins m e u
+
+    pub chosen_refused : (t : Subst) (fault : UnifyFault) (e : TypeFault) (p : Place) (ps : List Place) → Tries (f x) (choice (f x) k) s t (Err fault)
+        → HasNames fault → p ≡ place_of (f x) → ps ≡ new.defaults.items → IsPlaced fault p ps e → IsFault system e
+    chosen_refused t fault e p ps h names at all placed = its_refused system (map f xs) s old new i k chosen (f x) same r t fault e p ps h names at all placed
 
 pub less_none : (ws : List Wait) (old new : Awaiting) (more : Bool) → more ≡ false → IsLess ws old more new → left new.marks.items ws ≡ []
 less_none ws old new more e h = let P : Bool → Type 0 = λ z. IsLess ws old z new in subst P e h

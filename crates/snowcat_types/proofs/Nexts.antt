@@ -21,7 +21,7 @@ use Rattle.snowcat_types.specs.Waiting.{deciding, default_kind, place_of}
 use Rattle.snowcat_types.specs.inner.Awaited.{AreOrdered, ArePassed, At, Awaits, HasFrom, Holds, IsChosen, IsDecidedNext, IsDone, IsFound, IsHeld, IsLeast, IsNoneDecided, IsNow, IsTaken, IsWatched, Stands, left}
 use Rattle.snowcat_types.specs.inner.Awaited.Why.{by_types, first}
 use Rattle.snowcat_types.specs.inner.Runs.{NoneDecided}
-use Rattle.snowcat_types.proofs.Leaving.{all_left, at_below, at_same, each_left, marked_stands, none_left, stands_at, stands_marked, stands_off}
+use Rattle.snowcat_types.proofs.Leaving.{all_left, at_below, at_read, at_same, each_left, marked_stands, none_left, stands_at, stands_marked, stands_off}
 use Rattle.snowcat_types.proofs.Turning.{least, none_waits, passed_none, passed_off}
 use Rattle.snowcat_types.proofs.Watched.{taken_none, taken_other, taken_same, watched_it, watched_other}
 
@@ -130,23 +130,27 @@ module _ {X : Type 0} (f : X → Wait) (xs : List X) (ms : List Bool) (e : ms �
       let P : ℕ → Type 0 = λ z. HasFrom 0 z g.agenda.items in
       awaits_first bs (map f xs) ms g ts as_all (subst P (sym (length-map xs f)) h) o p
 
-pub found_some : (s : Subst) (ws : List Wait) (old new : Awaiting) (r : Option ℕ) (i : ℕ) → r ≡ Some i → IsFound s ws old r new → IsDecidedNext s ws old i new
-found_some s ws old new r i e h = let P : Option ℕ → Type 0 = λ z. IsFound s ws old z new in subst P e h
+module _ {X : Type 0} (f : X → Wait) (xs : List X) (s : Subst) (old new : Awaiting) (o : Option ℕ) (i : ℕ) (some : o ≡ Some i)
+    (found : IsFound s (map f xs) old o new) where
+  it : IsDecidedNext s (map f xs) old i new
+  it = let P : Option ℕ → Type 0 = λ z. IsFound s (map f xs) old z new in subst P some found
 
-pub found_none : (s : Subst) (ws : List Wait) (old new : Awaiting) (r : Option ℕ) → r ≡ None → IsFound s ws old r new → IsNoneDecided s ws old new
-found_none s ws old new r e h = let P : Option ℕ → Type 0 = λ z. IsFound s ws old z new in subst P e h
+  at_it : At (map f xs) i it.wait
+  at_it = stands_at old.marks.items (map f xs) i it.wait it.off.stands
 
-pub off_below : {X : Type 0} (f : X → Wait) (xs : List X) (s : Subst) (old new : Awaiting) (i : ℕ) → IsDecidedNext s (map f xs) old i new → i < length xs
-off_below f xs s old new i h =
-    let lt : i < length (map f xs) = at_below (map f xs) i h.wait (stands_at old.marks.items (map f xs) i h.wait h.off.stands) in
-    let e : length (map f xs) ≡ length xs = length-map xs f in omega (arith, lt, e)
+  pub found_below : i < length xs
+  found_below =
+      let lt : i < length (map f xs) = at_below (map f xs) i it.wait at_it in
+      let e : length (map f xs) ≡ length xs = length-map xs f in omega (arith, lt, e)
 
-pub chosen_decided : (s : Subst) (ws : List Wait) (old new : Awaiting) (i : ℕ) (w : Wait) (k : Kind) → IsDecidedNext s ws old i new → At ws i w
-    → k ≡ decision (stands_for s) w → IsChosen s ws old i k new
-chosen_decided s ws old new i w k h at e =
-    let same : w ≡ h.wait = at_same ws i w h.wait at (stands_at old.marks.items ws i h.wait h.off.stands) in
-    let is : k ≡ decision (stands_for s) h.wait = e ∙ ap (decision (stands_for s)) same in
-    record { wait = h.wait; off = h.off; why = by_types is (λ q. h.decided (sym is ∙ q)) h.same; awaiting = h.awaiting }
+  pub found_decided : (x : X) (k : Kind) → x ≡ get_or xs i x → k ≡ decision (stands_for s) (f x) → IsChosen s (map f xs) old i k new
+  found_decided x k is e =
+      let same : f x ≡ it.wait = at_same (map f xs) i (f x) it.wait (at_read f xs i x found_below is) at_it in
+      let kind_is : k ≡ decision (stands_for s) it.wait = e ∙ ap (decision (stands_for s)) same in
+      record { wait = it.wait; off = it.off; why = by_types kind_is (λ q. it.decided (sym kind_is ∙ q)) it.same; awaiting = it.awaiting }
+
+pub found_none : (s : Subst) (ws : List Wait) (old new : Awaiting) (o : Option ℕ) → o ≡ None → IsFound s ws old o new → IsNoneDecided s ws old new
+found_none s ws old new o e h = let P : Option ℕ → Type 0 = λ z. IsFound s ws old z new in subst P e h
 
 module _ (s : Subst) (ws : List Wait) (old mid new : Awaiting) (n : IsNoneDecided s ws old mid) (passed : ArePassed mid.marks.items new.turns.all.items new.turns.passed)
     (turns : new.turns.all ≡ mid.turns.all) (watching : new.watching ≡ mid.watching) where

@@ -1,33 +1,25 @@
 use Rattle.std.proofs.Common.{◌<◌, ◌++◌, ◌∷◌, ◌∙◌, Bool, List, [], Some, ap, length, map, refl, rules, subst}
-use Rattle.snowcat_types.specs.inner.Awaited.{ArePassed, IsDecidedNext, IsNoneDecided, IsNow}
+use Rattle.snowcat_types.specs.inner.Awaited.{ArePassed, IsNoneDecided, IsNow}
 use Rattle.snowcat_types.proofs.Leaving.{at_read, marked_within}
-use Rattle.snowcat_types.proofs.Nexts.{chosen_decided, chosen_first, done_now, found_none, found_some, off_below}
+use Rattle.snowcat_types.proofs.Nexts.{chosen_first, done_now, found_below, found_decided, found_none}
 use Rattle.snowcat_types.proofs.awaiting.Awaiting.next.Goals as goal
 
 pub offset_bounds-waits-node : goal.offset_bounds-waits-node
 offset_bounds-waits-node c =
     let lt : c.in-Some.node < length c.args.waits.now =
-    off_below (λ w. w.now) c.args.waits.now c.args.subst.now c.args.self.now c.next_decided.new.self c.in-Some.node
-    (found_some c.args.subst.now (map (λ w. w.now) c.args.waits.now) c.args.self.now c.next_decided.new.self c.in_ok-node.field-0 c.in-Some.node
-    c.in-Some.is c.in_ok-node.ensures) in
+    found_below (λ w. w.now) c.args.waits.now c.args.subst.now c.args.self.now c.next_decided.new.self c.in_ok-node.field-0 c.in-Some.node
+    c.in-Some.is c.in_ok-node.ensures in
     search rules
 
 pub bounds-waits-node : goal.bounds-waits-node
 bounds-waits-node c =
-    off_below (λ w. w.now) c.args.waits.now c.args.subst.now c.args.self.now c.next_decided.new.self c.in-Some.node
-    (found_some c.args.subst.now (map (λ w. w.now) c.args.waits.now) c.args.self.now c.next_decided.new.self c.in_ok-node.field-0 c.in-Some.node
-    c.in-Some.is c.in_ok-node.ensures)
+    found_below (λ w. w.now) c.args.waits.now c.args.subst.now c.args.self.now c.next_decided.new.self c.in_ok-node.field-0 c.in-Some.node
+    c.in-Some.is c.in_ok-node.ensures
 
 pub returns-in-Some : goal.returns-in-Some
 returns-in-Some c =
-    let found : IsDecidedNext c.args.subst.now (map (λ w. w.now) c.args.waits.now) c.args.self.now c.in-Some.node c.next_decided.new.self =
-    found_some c.args.subst.now (map (λ w. w.now) c.args.waits.now) c.args.self.now c.next_decided.new.self c.in_ok-node.field-0 c.in-Some.node
-    c.in-Some.is c.in_ok-node.ensures in
-    chosen_decided c.args.subst.now (map (λ w. w.now) c.args.waits.now) c.args.self.now c.next_decided.new.self c.in-Some.node
-    c.index-waits-node.result.now c.kind_of.result found
-    (at_read (λ w. w.now) c.args.waits.now c.in-Some.node c.index-waits-node.result
-    (off_below (λ w. w.now) c.args.waits.now c.args.subst.now c.args.self.now c.next_decided.new.self c.in-Some.node found) c.index-waits-node.is)
-    c.kind_of.ensures
+    found_decided (λ w. w.now) c.args.waits.now c.args.subst.now c.args.self.now c.next_decided.new.self c.in_ok-node.field-0 c.in-Some.node
+    c.in-Some.is c.in_ok-node.ensures c.index-waits-node.result c.kind_of.result c.index-waits-node.is c.kind_of.ensures
 
 pub returns-in_ok-push-in-Some-first : goal.returns-in_ok-push-in-Some-first
 returns-in_ok-push-in-Some-first c =
