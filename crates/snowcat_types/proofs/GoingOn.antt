@@ -17,7 +17,7 @@ use Rattle.snowcat_types.specs.declared.waiting.Wait.{Wait}
 use Rattle.snowcat_types.specs.Waiting.{choice, default_kind, place_of}
 use Rattle.snowcat_types.specs.Systems.{System}
 use Rattle.snowcat_types.specs.Typings.{IsFirst}
-use Rattle.snowcat_types.specs.inner.Awaited.{At, Awaits, IsBegun, IsCaughtUp, IsChosen, IsDone, IsLeast, IsLess, IsNext, IsRunning, Why, left}
+use Rattle.snowcat_types.specs.inner.Awaited.{At, Awaits, IsBegun, IsCaughtUp, IsChosen, IsLeast, IsLess, IsNext, IsRunning, IsStep, Why, left}
 use Rattle.snowcat_types.specs.inner.Awaited.Why.{by_types, first}
 use Rattle.snowcat_types.specs.inner.Runs.{HasReached, IsFault, IsPlaced, IsTypedBy, NoneDecided}
 use Rattle.snowcat_types.specs.inner.Solved.{IsDue, IsFurther, Tries, WaitInside}
@@ -38,15 +38,6 @@ begun system ws a s r b = record {
 pub ended : (system : System) (ws : List Wait) (a : Awaiting) (s : Subst) → IsRunning system ws a s → left a.marks.items ws ≡ [] → IsTypedBy system s
 ended system ws a s r e = let P : List Wait → Type 0 = λ z. HasReached system z a.defaults.items s in
     typed_by system a.defaults.items s (subst P e r.reached)
-
-pub done : (system : System) (ws : List Wait) (old new : Awaiting) (s : Subst) → IsRunning system ws old s → IsDone s ws old new → IsRunning system ws new s
-done system ws old new s r d = record {
-  reached =
-      let P : List Bool → Type 0 = λ z. HasReached system (left z ws) new.defaults.items s in
-      let Q : List Place → Type 0 = λ z. HasReached system (left old.marks.items ws) z s in
-      subst P (sym d.marks) (subst Q (sym d.same) r.reached);
-  awaiting = d.awaiting;
-}
 
 module _ (system : System) (ws : List Wait) (s : Subst) (old new : Awaiting) (i : ℕ) (k : Kind) (c : IsChosen s ws old i k new)
     (w : Wait) (is : w ≡ c.wait) (r : HasReached system (left old.marks.items ws) old.defaults.items s) where
@@ -149,9 +140,6 @@ module _ {X : Type 0} (f : X → Wait) (xs : List X) (s : Subst) (old new : Awai
       let lt : i < length (map f xs) = at_below (map f xs) i chosen.wait at_chosen in
       let e : length (map f xs) ≡ length xs = length-map xs f in omega (arith, lt, e)
 
-  pub chosen_less : (a : Awaiting) (t : Subst) (m : ℕ) → IsCaughtUp t m new a → length (left a.marks.items (map f xs)) < length (left old.marks.items (map f xs))
-  chosen_less a t m u = fewer_left old.marks.items a.marks.items (map f xs) i chosen.wait chosen.off.stands (u.marks ∙ chosen.off.marks)
-
   module _ (x : X) (is : x ≡ get_or xs i x) (system : System) (r : HasReached system (left old.marks.items (map f xs)) old.defaults.items s) where
     same : f x ≡ chosen.wait
     same = at_same (map f xs) i (f x) chosen.wait (at_read f xs i x chosen_below is) at_chosen
@@ -163,8 +151,11 @@ module _ {X : Type 0} (f : X → Wait) (xs : List X) (s : Subst) (old new : Awai
     chosen_due = its_due system (map f xs) s old new i k chosen (f x) same r
 
     pub chosen_on : (t : Subst) (a : Awaiting) → Tries (f x) (choice (f x) k) s t (Ok tt) → IsFurther s t → (m : ℕ) → m ≡ length (kept_by s)
-        → IsCaughtUp t m new a → IsRunning system (map f xs) a t
-    chosen_on t a h b m e u = its_on system (map f xs) s old new i k chosen (f x) same r t a h b.begins m e u
+        → IsCaughtUp t m new a → IsStep system (map f xs) old true a t
+    chosen_on t a h b m e u = record {
+      running = its_on system (map f xs) s old new i k chosen (f x) same r t a h b.begins m e u;
+      less = fewer_left old.marks.items a.marks.items (map f xs) i chosen.wait chosen.off.stands (u.marks ∙ chosen.off.marks);
+    }
 
     pub chosen_refused : (t : Subst) (fault : UnifyFault) (e : TypeFault) (p : Place) (ps : List Place) → Tries (f x) (choice (f x) k) s t (Err fault)
         → HasNames fault → p ≡ place_of (f x) → ps ≡ new.defaults.items → IsPlaced fault p ps e → IsFault system e

@@ -1,10 +1,9 @@
 -- Nodes on lists by variables: what is held stays held.
 use Rattle.std.proofs.Common.{◌≡◌, ℕ, ◌+◌, ◌-◌, ◌<◌, ◌≤◌, inl, inr, ◌⊎◌, List, [], ◌∷◌, ◌++◌, Option, Some, None, length, suc, zero, refl, ap, sym, ◌∙◌, subst, arith, take}
-use Rattle.std.specs.Prelude.{get_or, set}
+use Rattle.std.specs.Prelude.{get_or}
 use Rattle.std.specs.List.{Contains}
 use Rattle.std.proofs.lemmas.Bool.{cases_eq, cases_lt}
 use Rattle.std.proofs.lemmas.Bool.Decides.{eqb_tells}
-use Rattle.std.proofs.lemmas.List.{get_or-set_same, get_or-set_other, take_all}
 use Rattle.std.proofs.lemmas.List.Elements.{Contains-append_left, Contains-append_right, Contains-push, Contains-push_cases}
 use Rattle.snowcat_rows.specs.Types.{Term, var}
 use Rattle.snowcat_rows.specs.Substitutions.{apply}
@@ -12,7 +11,7 @@ use Rattle.snowcat_rows.specs.Chains.{Binding, single, solved, sub_of, to_row, t
 use Rattle.snowcat_rows.specs.Views.{type_bound, type_bound_at}
 use Rattle.snowcat_rows.proofs.RowTheory.{solved_is}
 use Rattle.snowcat_types.specs.declared.watching.Watching.{Watching}
-use Rattle.snowcat_types.specs.inner.Awaited.{AreAlike, AreOthers, HasFrom, Holds, IsHeld, IsListed, IsReleased, IsTaken, IsWatched}
+use Rattle.snowcat_types.specs.inner.Awaited.{HasFrom, Holds, IsHeld, IsListed, IsReleased, IsTaken, IsWatched}
 
 -- ---- one binding more, of another variable
 
@@ -40,34 +39,7 @@ leads_on bs i u t n e =
 in_same : (xs ys : List ℕ) (i : ℕ) → ys ≡ xs → Contains xs i → Contains ys i
 in_same xs ys i e c = let P : List ℕ → Type 0 = λ z. Contains z i in subst P (sym e) c
 
-room : (ls : List (List ℕ)) (v : ℕ) → get_or (ls ++ [] ∷ []) v [] ≡ get_or ls v []
-room [] zero = refl
-room [] (suc v) = refl
-room (l ∷ ls) zero = refl
-room (l ∷ ls) (suc v) = room ls v
-
-pub alike_first : (ls : List (List ℕ)) → AreAlike ls ls
-alike_first ls = record { alike = λ v. refl }
-
-pub alike_more : (ls ks js : List (List ℕ)) → js ≡ ks ++ [] ∷ [] → AreAlike ls ks → AreAlike ls js
-alike_more ls ks js e a = record { alike = λ v. ap (λ z. get_or z v []) e ∙ room ks v ∙ a.alike v }
-
--- a list of one variable is replaced
-pub own_set : (ls ks js : List (List ℕ)) (v : ℕ) (l : List ℕ) → AreAlike ls ks → v < length ks → js ≡ set ks v l → get_or js v [] ≡ l
-own_set ls ks js v l a lt e = ap (λ z. get_or z v []) e ∙ get_or-set_same ks v l [] lt
-
-pub others_set : (ls ks js : List (List ℕ)) (v : ℕ) (l : List ℕ) → AreAlike ls ks → js ≡ set ks v l → AreOthers v ls js
-others_set ls ks js v l a e = record {
-  others = λ u n. ap (λ z. get_or z u []) e ∙ get_or-set_other ks v u l [] n ∙ a.alike u;
-}
-
-pub others_none : (ls : List (List ℕ)) (v : ℕ) → AreOthers v ls ls
-others_none ls v = record { others = λ u n. refl }
-
 -- ---- the agenda
-
-pub from_none : (n : ℕ) → HasFrom n n []
-from_none n = record { has = λ i le lt. absurd (omega (arith, le, lt)) }
 
 pub from_more : (n i x : ℕ) (xs ys : List ℕ) → i < n → x ≡ n - 1 - i → ys ≡ xs ++ x ∷ [] → HasFrom (n - i) n xs → HasFrom (n - (i + 1)) n ys
 from_more n i x xs ys lt is e h = let P : List ℕ → Type 0 = λ z. HasFrom (n - (i + 1)) n z in
@@ -80,9 +52,6 @@ from_more n i x xs ys lt is e h = let P : List ℕ → Type 0 = λ z. HasFrom (n
     one j le below (inr g) = Contains-append_left xs (x ∷ []) j (h.has j g below)
 
 -- ---- a list went to the agenda
-
-pub holds_first : (bs : List Binding) (g : Watching) → Holds bs g bs g
-holds_first bs g = record { held = λ i t h. h }
 
 not_other : (o : Option ℕ) (v u : ℕ) → o ≡ Some v → (u ≡ v → ⊥) → o ≡ Some u → ⊥
 not_other o v u e n h = n (let k : Some u ≡ Some v = sym h ∙ e in cc)
@@ -116,9 +85,6 @@ module _ (xs bs : List Binding) (i : ℕ) (f g : Watching) (k : Holds xs f (take
         leads = leads_on bs i l.variable t (not_none (type_bound_at bs i) l.variable (sym is)) l.leads;
         on = l.on;
       })
-
-  pub holds_end : length bs ≤ i → Holds xs f bs g
-  holds_end le = let P : List Binding → Type 0 = λ z. Holds xs f z g in subst P (take_all i bs le) k
 
 -- ---- a number is taken off the agenda
 

@@ -1,6 +1,6 @@
 // The order in which waiting nodes take their default: that of their places, and at one place that of their visits.
 ghost use Rattle.std.specs.Prelude.{◌≡◌, IfOk, length, map, slice_index_or, false};
-ghost use Rattle.snowcat_types.specs.inner.Awaited.{AreOrdered, AreTurns, ArePassed, IsNow, turn_of};
+ghost use Rattle.snowcat_types.specs.inner.Awaited.{AreOrdered, AreTurns, ArePassed, IsMovedOn, IsNow, turn_of};
 
 use crate::waiting::{Wait, place_of};
 use std::alloc::{AllocError, Global};
@@ -67,8 +67,7 @@ impl Turns {
     // The first node whose mark stands. Marks are only taken away, so what was passed stays so.
     pub(crate) fn first(&mut self, marks: &[bool]) -> Option<usize>
         requires { ArePassed marks.now self.old.all.items self.old.passed }
-        ensures same { self.new.all ≡ self.old.all }
-        ensures passed { ArePassed marks.now self.new.all.items self.new.passed }
+        ensures moved { IsMovedOn marks.now self.old self.new }
         ensures now { IsNow marks.now self.new result }
     {
         'cursor: while self.passed < self.all.len() {

@@ -6,7 +6,7 @@ ghost use Rattle.snowcat_rows.specs.Views.{issued_of, kept_by};
 ghost use Rattle.snowcat_types.specs.Systems.{Asks, Waits};
 ghost use Rattle.snowcat_types.specs.Waiting.{place_of};
 ghost use Rattle.snowcat_types.specs.declared.kinds.Kind.TheVariants.{NotFormed};
-ghost use Rattle.snowcat_types.specs.inner.Awaited.{IsLess, IsRunning};
+ghost use Rattle.snowcat_types.specs.inner.Awaited.{IsRunning, IsStep};
 ghost use Rattle.snowcat_types.specs.inner.Gathered.{AllNamedIn, EntriesNamed, EntryNamed, SystemNamed, entry_of, requirements_of, system_of_built};
 ghost use Rattle.snowcat_types.specs.inner.Runs.{EntryInside, HasReached, HasVisited, IsFault, IsFitting, IsPlaced, IsTypedBy, IsVisit};
 ghost use Rattle.snowcat_types.specs.inner.Solved.{AllInside, WaitInside};
@@ -138,9 +138,8 @@ fn go_on(
     awaiting: &mut Awaiting,
 ) -> Result<bool, TypeFault>
     requires { IsRunning (system_of_built system.now) (map (λ w. w.now) waits.now) awaiting.old subst.old }
-    ensures on { IfOk result (λ _. IsRunning (system_of_built system.now) (map (λ w. w.now) waits.now)
-        awaiting.new subst.new) }
-    ensures less { IfOk result (λ more. IsLess (map (λ w. w.now) waits.now) awaiting.old more awaiting.new) }
+    ensures on { IfOk result (λ more. IsStep (system_of_built system.now) (map (λ w. w.now) waits.now)
+        awaiting.old more awaiting.new subst.new) }
     ensures fault { IfErr result (λ e. IsFault (system_of_built system.now) e) }
 {
     let Some((node, kind)) = awaiting.next(alloc, subst, waits)? else {

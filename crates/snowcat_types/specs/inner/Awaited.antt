@@ -131,6 +131,11 @@ pub record IsTheirs (ms : List Bool) (ts : List Turn) (passed i : ℕ) : Type 0 
   pub at : turn ≡ slice_index_or ts passed turn
   pub node : turn.node ≡ i
 
+-- only those without a mark were passed
+pub record IsMovedOn (ms : List Bool) (old new : Turns) : Type 0 where
+  pub same : new.all ≡ old.all
+  pub passed : ArePassed ms new.all.items new.passed
+
 -- a node whose turn it is has its mark; or all are passed
 abbrev pub IsNow : List Bool → Turns → Option ℕ → Type 0
 IsNow ms ts (Some i) = IsTheirs ms ts.all.items ts.passed i
@@ -225,3 +230,8 @@ pub record IsRunning (system : System) (ws : List Wait) (a : Awaiting) (s : Subs
 abbrev pub IsLess : List Wait → Awaiting → Bool → Awaiting → Type 0
 IsLess ws old true new = length (left new.marks.items ws) < length (left old.marks.items ws)
 IsLess ws old false new = left new.marks.items ws ≡ []
+
+-- a step of a run
+pub record IsStep (system : System) (ws : List Wait) (old : Awaiting) (more : Bool) (new : Awaiting) (s : Subst) : Type 0 where
+  pub running : IsRunning system ws new s
+  pub less : IsLess ws old more new

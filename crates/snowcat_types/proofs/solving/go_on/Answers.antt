@@ -1,6 +1,6 @@
 use Rattle.std.proofs.Common.{◌<◌, length, rules}
 use Rattle.snowcat_types.specs.inner.Gathered.{system_of_built}
-use Rattle.snowcat_types.proofs.GoingOn.{chosen_below, chosen_due, chosen_inside, chosen_less, chosen_on, chosen_refused}
+use Rattle.snowcat_types.proofs.GoingOn.{chosen_below, chosen_due, chosen_inside, chosen_on, chosen_refused}
 use Rattle.snowcat_types.proofs.solving.go_on.Goals as goal
 
 pub offset_bounds-waits-node : goal.offset_bounds-waits-node
@@ -33,12 +33,6 @@ returns-in_ok-release_from-in-Ok-clause-on c =
     c.in-Some.kind c.in-Some.is c.in_ok-node.ensures c.index-waits-node.result c.index-waits-node.is (system_of_built c.args.system.now)
     c.requires.reached c.choose.new.subst c.release_from.new.self c.in-Ok.ensures.tried c.in-Ok.ensures.kept c.bound-mark.result
     c.bound-mark.ensures c.in_ok-release_from-in-Ok.ensures
-
-pub returns-in_ok-release_from-in-Ok-clause-less : goal.returns-in_ok-release_from-in-Ok-clause-less
-returns-in_ok-release_from-in-Ok-clause-less c =
-    chosen_less (λ w. w.now) c.args.waits.now c.args.subst.now c.args.awaiting.now c.next.new.self c.in_ok-node.field-0 c.in-Some.node
-    c.in-Some.kind c.in-Some.is c.in_ok-node.ensures c.release_from.new.self c.choose.new.subst c.bound-mark.result
-    c.in_ok-release_from-in-Ok.ensures
 
 pub returns-in-Err-clause-fault : goal.returns-in-Err-clause-fault
 returns-in-Err-clause-fault c =

@@ -13,6 +13,6 @@ steps-init c =
 pub returns-clause-typed : goal.returns-clause-typed
 returns-clause-typed c =
     ended (system_of_built c.args.system.now) (map (λ w. w.now) c.as_slice-in-steps.result.now) c.go_on.new.awaiting c.go_on.new.subst
-    c.in_ok-go_on.ensures.on
+    c.in_ok-go_on.ensures.on.running
     (less_none (map (λ w. w.now) c.as_slice-in-steps.result.now) c.steps.awaiting c.go_on.new.awaiting c.in_ok-go_on.field-0 c.if-branch.false
-    c.in_ok-go_on.ensures.less)
+    c.in_ok-go_on.ensures.on.less)

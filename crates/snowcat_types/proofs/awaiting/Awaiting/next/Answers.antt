@@ -31,7 +31,7 @@ returns-in_ok-push-in-Some-first c =
     let now : IsNow c.next_decided.new.self.marks.items c.first.new.self (Some c.in-Some-first.node) =
     subst Q c.as_slice.ensures.value c.in-Some-first.ensures.now in
     chosen_first c.args.subst.now (map (λ w. w.now) c.args.waits.now) c.args.self.now c.next_decided.new.self _ none
-    (subst P c.as_slice.ensures.value c.in-Some-first.ensures.passed) c.in-Some-first.ensures.same refl c.in-Some-first.node
+    (subst P c.as_slice.ensures.value c.in-Some-first.ensures.moved.passed) c.in-Some-first.ensures.moved.same refl c.in-Some-first.node
     c.index-waits-node-in-Some-first.result.now c.default_kind.result
     (at_read (λ w. w.now) c.args.waits.now c.in-Some-first.node c.index-waits-node-in-Some-first.result
     (marked_within (λ w. w.now) c.args.waits.now c.next_decided.new.self.marks.items c.in-Some-first.node none.awaiting.size now.marked)
@@ -46,4 +46,4 @@ returns-in-None c =
     c.in_default.is c.in_ok-node.ensures in
     let P : List Bool → Type 0 = λ z. ArePassed z c.first.new.self.all.items c.first.new.self.passed in
     done_now c.args.subst.now (map (λ w. w.now) c.args.waits.now) c.args.self.now c.next_decided.new.self _ none
-    (subst P c.as_slice.ensures.value c.in-None.ensures.passed) c.in-None.ensures.same refl c.in-None.ensures.now refl refl
+    (subst P c.as_slice.ensures.value c.in-None.ensures.moved.passed) c.in-None.ensures.moved.same refl c.in-None.ensures.now refl refl
