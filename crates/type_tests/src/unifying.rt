@@ -84,29 +84,30 @@ fn types_are_made_equal_in_the_most_general_way(rt: HostRuntime) -> Result<(), F
 }
 
 fn bind(s: &mut Subst, a: &Ty, b: &Ty) -> Result<(), AllocError> {
-    let issued = is_within(a, s.issued()) && is_within(b, s.issued());
-    if issued && has_distinct_names(a) && has_distinct_names(b) {
-        if let Err(UnifyFault::Memory(e)) = s.unify(a, b) {
-            return Err(e);
-        }
+    if !is_within(a, s.issued()) || !is_within(b, s.issued()) {
+        return Ok(());
     }
-    Ok(())
+    if !has_distinct_names(a) || !has_distinct_names(b) {
+        return Ok(());
+    }
+    match s.unify(a, b) {
+        Ok(()) => Ok(()),
+        Err(UnifyFault::Clash(_x, _y)) => Ok(()),
+        Err(UnifyFault::Memory(e)) => Err(e),
+    }
 }
 
 // So many variables and one more, each but the last bound to the set of the next.
 fn chain(alloc: Global, sets: u32) -> Result<Subst, AllocError> {
     let mut s = Subst::new(alloc);
-    for _v in 0..sets {
-        if s.issued() < 4294967294 {
+    for _v in 0..sets.saturating_add(1) {
+        if s.issued() < 4294967295 {
             let _ = s.fresh();
         }
     }
-    if s.issued() < 4294967295 {
-        let _ = s.fresh();
-    }
     for v in 0..sets {
-        let item = Ty::Var(v + 1);
-        bind(&mut s, &Ty::Var(v), &Ty::Set(Boxed::new(alloc, item)?))?;
+        let set = Ty::Set(Boxed::new(alloc, Ty::Var(v + 1))?);
+        bind(&mut s, &Ty::Var(v), &set)?;
     }
     Ok(s)
 }
