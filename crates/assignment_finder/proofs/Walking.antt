@@ -172,7 +172,6 @@ module _ (m : Marks) (path : KerPath) (zs : List AssignedStep) (o : OpenNames) (
   assigned e = record {
     is = ap (λ (xs : List AssignedStep). record { place = path.place; steps = xs }) (sym whole);
     fine = all_fine;
-    reads = fine_reads m [] zs all_fine;
     whole = elim e [
       | inl ended ↦ inl ended
       | inr none ↦ inr (λ i. lacks_open i ∙ none i)

@@ -1,6 +1,6 @@
 -- The assignments on a path, or the first thing that is wrong with it. Source: Konnov, Kukovec and Tran, "TLA+ Model
 -- Checking Made Symbolic", OOPSLA 2019, on assignments.
-use Rattle.std.specs.Prelude.{◌≡◌, ◌⊎◌, ◌++◌, ℕ, true, false, IsTrue, List, [], ◌∷◌, Result, Ok, Err, ⊤, Contains}
+use Rattle.std.specs.Prelude.{◌≡◌, ◌⊎◌, ◌++◌, ℕ, true, false, List, [], ◌∷◌, Result, Ok, Err, ⊤, Contains}
 use Rattle.tla_meaning.specs.declared.expr.Decl.{Decl}
 use Rattle.tla_meaning.specs.declared.place.Place.{Place}
 use Rattle.tla_meaning.specs.Outcomes.{before as comes_before}
@@ -12,13 +12,13 @@ use Rattle.kernel_trees.specs.declared.action_kind.ActionKind.{ActionKind}
 use Rattle.kernel_trees.specs.ActionNames.{marks_of}
 use Rattle.kernel_trees.specs.Paths.{Marks}
 use Rattle.kernel_trees.specs.Sound.{infinite_places}
-use Rattle.kernel_trees.specs.Assignments.{IsMissing, assigned_by, lacks, marked, path_ended, reads_early, reads_late}
+use Rattle.kernel_trees.specs.Assignments.{IsMissing, assigned_by, lacks, marked, path_ended, reads_early}
 use Rattle.assignment_finder.specs.declared.assign_fault.AssignFault.{AssignFault}
 use Rattle.assignment_finder.specs.declared.assign_fault.AssignFault.TheVariants.{Unassigned, ReadEarly, Infinite, Memory}
 
 -- ---- what is wrong with a step, where the names of `before` have been assigned
 
--- the name is read there before its assignment, and no name is at an earlier place
+-- the name is read there before its assignment, and none is read so at an earlier place
 pub record IsReadEarly (m : Marks) (before : List ℕ) (z : AssignedStep) (i : ℕ) (p : Place) : Type 0 where
   pub read : reads_early m before z i p ≡ true
   pub first : (j : ℕ) (q : Place) → reads_early m before z j q ≡ true → comes_before q p ≡ false
@@ -38,10 +38,12 @@ pub record IsEndless (z : AssignedStep) (p : Place) : Type 0 where
   pub there : Contains (endless z) p
   pub first : (q : Place) → Contains (endless z) q → comes_before q p ≡ false
 
--- a name that is read early comes before an infinite set
+-- of both the earlier place counts, and at one place the name
 abbrev pub IsStepFault : Marks → List ℕ → AssignedStep → AssignFault → Type 0
-IsStepFault m before z (ReadEarly i p) = IsReadEarly m before z i p
-IsStepFault m before z (Infinite p) = ReadsNothingEarly m before z × IsEndless z p
+IsStepFault m before z (ReadEarly i p) =
+    IsReadEarly m before z i p × ((q : Place) → Contains (endless z) q → comes_before q p ≡ false)
+IsStepFault m before z (Infinite p) =
+    IsEndless z p × ((i : ℕ) (q : Place) → reads_early m before z i q ≡ true → comes_before p q ≡ true)
 IsStepFault m before z (Unassigned i p) = ⊥
 IsStepFault m before z (Memory e) = ⊥
 
@@ -60,7 +62,7 @@ abbrev pub AreFine : Marks → List ℕ → List AssignedStep → Type 0
 AreFine m before [] = ⊤
 AreFine m before (z ∷ zs) = IsFine m before z × AreFine m (assigned_by z ++ before) zs
 
--- or with its end: it has not ended at an operand that is never TRUE, and lacks this name first
+-- or with its end: its last step is no operand that is never TRUE, and it lacks this name first
 pub record IsOpenEnd (m : Marks) (path : KerPath) (zs : List AssignedStep) (i : ℕ) (p : Place) : Type 0 where
   pub fine : AreFine m [] zs
   pub running : path_ended path.steps ≡ false
@@ -75,12 +77,11 @@ IsPathFault m path zs (Memory e) = ⊤
 
 -- ---- the answer
 
--- the path with its assignments: each is the first of its name, no name is read before, none has a member of an infinite
--- set, and none is lacking unless the path has ended
+-- the path with its assignments: each is the first of its name, no name is read before, none is to be a member of a form
+-- that is an infinite set or has one as a part, and none is lacking unless the path has ended
 pub record IsAssigned (m : Marks) (path : KerPath) (a : Assigned) : Type 0 where
   pub is : a ≡ record { place = path.place; steps = marked m [] path.steps }
   pub fine : AreFine m [] a.steps
-  pub reads : IsTrue (reads_late m [] a.steps)
   pub whole : (path_ended path.steps ≡ true) ⊎ ((i : ℕ) → lacks m a.steps i ≡ false)
 
 abbrev pub IsFound : ActionKind → List Decl → KerPath → Result Assigned AssignFault → Type 0

@@ -16,7 +16,7 @@ use std::alloc::Global;
 use tla_meaning::Decl;
 use tla_values::List;
 
-// Whether a path ends at this step, an operand that is never TRUE.
+// Whether a path ends with this step, an operand that is never TRUE.
 fn is_ended(step: &PathStep) -> bool
     ensures { result ≡ is_ended step.now }
 {
@@ -54,15 +54,14 @@ fn mark_all(
 }
 
 /// The path with its assignments marked: the first `x' = e` or `x' \in S` of each name that the action may assign (of
-/// `x`, in CInit and Init). Each such name is assigned, unless the path ends at an operand that is never TRUE, and none
-/// is read before.
+/// `x`, in CInit and Init). Each such name is assigned, unless the last step is an operand that is never TRUE, and none is
+/// read before.
 ///
 /// The names are those of the job, constants first.
 ///
-/// The first step that is not fine decides, and the end of the path comes last: `ReadEarly` with the first place in the
-/// step at which a name is read before its assignment; else `Infinite` with the first place of an infinite set that the
-/// form of a membership is or has as a part, where the domain of a function set is no part; behind all steps
-/// `Unassigned` with the first name that is lacking.
+/// The first step that is not fine decides, and in it the first place: `ReadEarly` where a name is read there before its
+/// assignment, and `Infinite` where an infinite set stands there that the form of a membership is or has as a part; the
+/// domain of a function set is no part. The end of the path comes last: `Unassigned` with the first name that is lacking.
 pub fn assign(
     alloc: Global,
     path: &KerPath,

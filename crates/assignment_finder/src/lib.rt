@@ -11,6 +11,8 @@ mod finder;
 mod marking;
 mod open_names;
 mod reading;
+mod theorems;
 
 pub use assign_fault::AssignFault;
 pub use finder::assign;
+pub use theorems::fine_steps_read_nothing_early;

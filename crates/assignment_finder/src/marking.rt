@@ -5,14 +5,15 @@ ghost use Rattle.kernel_trees.specs.Paths.{Marks};
 ghost use Rattle.kernel_trees.specs.declared.path.AssignedStep.TheVariants as mark;
 ghost use Rattle.kernel_trees.specs.declared.path.PathStep.TheVariants as path;
 ghost use Rattle.assignment_finder.specs.inner.Open.{IsOpen};
-ghost use Rattle.assignment_finder.specs.inner.Steps.{IsMarking, IsStep, told};
+ghost use Rattle.assignment_finder.specs.inner.Steps.{IsEarlierFault, IsMarking, IsStep, told};
 
 use crate::assign_fault::AssignFault;
 use crate::endless::first_endless;
 use crate::open_names::OpenNames;
-use crate::reading::{first_of_sets, first_read};
+use crate::reading::{Read, first_of_sets, first_read};
 use kernel_trees::{AssignedStep, Ker, KerOp, PathStep, copy_ker, copy_sets};
 use std::alloc::Global;
+use tla_meaning::Place;
 use tla_values::List;
 
 // What an operand of the action assigns: nothing, the value of a tree, or a member of a form.
@@ -100,6 +101,28 @@ fn value(
     Ok(AssignedStep::Equals(name, copy))
 }
 
+// What is wrong with a form: the earlier place counts, and of two at one place the name.
+fn form_fault(read: Option<Read>, place: Option<Place>) -> Option<AssignFault>
+    ensures { IsEarlierFault read place result }
+{
+    match read {
+        Some(read) => match place {
+            Some(place) => {
+                if place.is_before(read.place) {
+                    Some(AssignFault::Infinite(place))
+                } else {
+                    Some(AssignFault::ReadEarly(read.name, read.place))
+                }
+            }
+            None => Some(AssignFault::ReadEarly(read.name, read.place)),
+        },
+        None => match place {
+            Some(place) => Some(AssignFault::Infinite(place)),
+            None => None,
+        },
+    }
+}
+
 fn member(
     alloc: Global,
     free: &mut OpenNames,
@@ -108,11 +131,9 @@ fn member(
 ) -> Result<AssignedStep, AssignFault>
     ensures { IsStep free.old (mark.Among name form.now) free.new result }
 {
-    if let Some(read) = first_read(free, form) {
-        return Err(AssignFault::ReadEarly(read.name, read.place));
-    }
-    if let Some(place) = first_endless(alloc, form)? {
-        return Err(AssignFault::Infinite(place));
+    let place = first_endless(alloc, form)?;
+    if let Some(fault) = form_fault(first_read(free, form), place) {
+        return Err(fault);
     }
     let copy = copy_ker(alloc, form)?;
     free.close(name);

@@ -162,7 +162,7 @@ const ASSIGNED: [(&str, &str); 14] = [
     ("XsReY1=&", "8x:3y=6;"),
 ];
 
-const REFUSED: [(&str, &str); 23] = [
+const REFUSED: [(&str, &str); 24] = [
     // 1 = x', x' = y' /\ y' = 1, x' = x'
     ("1X=X1=Y1=A", "x early 2;"),
     ("XY=Y1=&", "y early 2;"),
@@ -192,8 +192,9 @@ const REFUSED: [(&str, &str); 23] = [
     ("XiqeY1=&", "infinite 2;"),
     ("XiReY1=&", "infinite 2;"),
     ("XsnpeY1=&", "infinite 3;"),
-    // a name that is read early comes before an infinite set
+    // of a name that is read early and an infinite set the earlier place counts
     ("XYifeY1=&", "y early 2;"),
+    ("XiYpeY1=&", "infinite 2;"),
 ];
 
 #[test]

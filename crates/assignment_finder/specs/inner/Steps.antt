@@ -1,5 +1,5 @@
 -- How a step of a path becomes one with its assignment, and where a walk along the path stands.
-use Rattle.std.specs.Prelude.{◌≡◌, ◌++◌, ℕ, List, [], ◌∷◌, flat_map, Option, Some, None, Result, Ok, Err, ⊤}
+use Rattle.std.specs.Prelude.{◌≡◌, ◌++◌, true, false, ℕ, List, [], ◌∷◌, flat_map, Option, Some, None, Result, Ok, Err, ⊤}
 use Rattle.kernel_trees.specs.declared.path.AssignedStep.{AssignedStep}
 use Rattle.kernel_trees.specs.declared.path.AssignedStep.TheVariants as mark
 use Rattle.kernel_trees.specs.declared.path.PathStep.{PathStep}
@@ -10,6 +10,9 @@ use Rattle.assignment_finder.specs.declared.assign_fault.AssignFault.TheVariants
 use Rattle.assignment_finder.specs.declared.marking.Assignment.{Assignment}
 use Rattle.assignment_finder.specs.declared.marking.Assignment.TheVariants as lent
 use Rattle.assignment_finder.specs.declared.open_names.OpenNames.{OpenNames}
+use Rattle.assignment_finder.specs.declared.reading.Read.{Read}
+use Rattle.tla_meaning.specs.declared.place.Place.{Place}
+use Rattle.tla_meaning.specs.Outcomes.{before as comes_before}
 use Rattle.assignment_finder.specs.Finding.{AreFine, IsFine, IsFirstFault, IsStepFault}
 use Rattle.assignment_finder.specs.inner.Open.{IsOpen, MayAssign}
 
@@ -17,6 +20,32 @@ abbrev pub told : Assignment → Option (ℕ × AssignedStep)
 told lent.Nothing = None
 told (lent.Value i k) = Some (i, mark.Equals i k.now)
 told (lent.Member i k) = Some (i, mark.Among i k.now)
+
+-- ---- the earlier of two faults
+
+-- what is read first, if anything, is read behind the place
+abbrev pub IsLaterRead : Place → Option Read → Type 0
+IsLaterRead p None = ⊤
+IsLaterRead p (Some y) = comes_before p y.place ≡ true
+
+-- the first infinite set, if there is one, is not before the place
+abbrev pub IsNoEarlier : Place → Option Place → Type 0
+IsNoEarlier p None = ⊤
+IsNoEarlier p (Some q) = comes_before q p ≡ false
+
+pub record IsEarlierRead (read : Option Read) (place : Option Place) (i : ℕ) (p : Place) : Type 0 where
+  pub it : Read
+  pub is : read ≡ Some it
+  pub name : i ≡ it.name
+  pub at : p ≡ it.place
+  pub earlier : IsNoEarlier p place
+
+abbrev pub IsEarlierFault : Option Read → Option Place → Option AssignFault → Type 0
+IsEarlierFault read place None = (read ≡ None) × (place ≡ None)
+IsEarlierFault read place (Some (ReadEarly i p)) = IsEarlierRead read place i p
+IsEarlierFault read place (Some (Infinite p)) = (place ≡ Some p) × IsLaterRead p read
+IsEarlierFault read place (Some (Unassigned i p)) = ⊥
+IsEarlierFault read place (Some (Memory e)) = ⊥
 
 -- ---- one step
 
