@@ -1,0 +1,12 @@
+-- The definitions of the crate.
+pub mod Shape
+pub mod Fits
+pub mod Rows
+pub mod Counts
+pub mod Sized
+pub mod Trees
+pub mod Kernel
+pub mod Levels
+pub mod TypedStates
+pub mod Runs
+pub mod Laws
