@@ -21,7 +21,7 @@ use Rattle.kernel_trees.specs.Trees.{as_expr, expr_of, op_of, operands, constant
 use Rattle.kernel_trees.specs.TypeKinds.{Kind}
 use Rattle.kernel_trees.proofs.Trees.{Each, by_nodes, as_expr-roll}
 use Rattle.kernel_shapes.specs.Kernel.{kinds_in, node_kinds}
-use Rattle.kernel_shapes.specs.Laws.{KernelFitsItsShape}
+use Rattle.kernel_shapes.specs.Laws.{SizedFits}
 use Rattle.kernel_shapes.specs.Sized.{Extent}
 use Rattle.kernel_shapes.proofs.Law.{each_value_fits}
 
@@ -86,5 +86,5 @@ tree_expanded = by_nodes (λ k. IsTrue (is_expanded (as_expr k))) (λ x h.
     node x y = record { place = x.place; op = op_of x.op; args = operands x.op x.place y.args; binds = map (λ n. n ∷ []) x.binds }
 
 -- each value that a sound kernel tree has under the width, at states that fit, fits its shape
-pub each_kernel_value_fits : (w : ℕ) (k : Ker) (sc : Scope) (g : Extent) (s t : State) (v : Value) → KernelFitsItsShape w k sc g s t v
+pub each_kernel_value_fits : (w : ℕ) (k : Ker) (sc : Scope) (g : Extent) (s t : State) (v : Value) → SizedFits w k sc g s t v
 each_kernel_value_fits w k sc g s t v wide r h is = each_value_fits w (as_expr k) (kinds_in k) sc g s t v wide (tree_expanded k) r h is

@@ -207,12 +207,12 @@ not_name (op.Name i primed) = false
 not_name (op.Bound x) = false
 not_name o = true
 
-but_last_end : (as' : List Shape) (b : Shape) → but_last (as' ++ b ∷ []) ≡ as'
+pub but_last_end : (as' : List Shape) (b : Shape) → but_last (as' ++ b ∷ []) ≡ as'
 but_last_end [] b = refl
 but_last_end (a ∷ []) b = refl
 but_last_end (a ∷ c ∷ as') b = ap (λ (bs : List Shape). a ∷ bs) (but_last_end (c ∷ as') b)
 
-last_end : (as' : List Shape) (b : Shape) → last_of (as' ++ b ∷ []) ≡ b
+pub last_end : (as' : List Shape) (b : Shape) → last_of (as' ++ b ∷ []) ≡ b
 last_end [] b = refl
 last_end (a ∷ []) b = refl
 last_end (a ∷ c ∷ as') b = last_end (c ∷ as') b

@@ -23,3 +23,9 @@ pub mod Records
 pub mod Domains
 pub mod Powers
 pub mod KernelLaw
+pub mod KindLaw
+pub mod KernelNodes
+pub mod WellNamed
+pub mod SoundRows
+pub mod SoundBinders
+pub mod SoundShapes

@@ -91,11 +91,11 @@ same_texts x y = ap is_eq (by_kinds (value.Text x) (value.Text y) (layer.Text x)
 
 all_put : (P : Field → Type 0) (x : List ℕ) (a : Shape) (ys : List Field) → P (x, a) → AllByRecursion P ys → AllByRecursion P (put_field x a ys)
 all_put P x a [] h k = (h, tt)
-all_put P x a (y ∷ ys) h k = by (is_lt (text_cmp y.0 x)) (all_put P x a ys h k.1)
+all_put P x a (y ∷ ys) h k = by (is_lt (text_cmp x y.0)) (all_put P x a ys h k.1)
   where
-    by : (b : Bool) → AllByRecursion P (put_field x a ys) → AllByRecursion P (if b then y ∷ put_field x a ys else (x, a) ∷ y ∷ ys)
-    by true r = (k.0, r)
-    by false r = (h, k)
+    by : (b : Bool) → AllByRecursion P (put_field x a ys) → AllByRecursion P (if b then (x, a) ∷ y ∷ ys else y ∷ put_field x a ys)
+    by true r = (h, k)
+    by false r = (k.0, r)
 
 all_in_order : (P : Field → Type 0) (xs : List (List ℕ)) (as' : List Shape) → AllByRecursion P (zip xs as') → AllByRecursion P (in_order xs as')
 all_in_order P [] as' h = tt
@@ -104,11 +104,11 @@ all_in_order P (x ∷ xs) (a ∷ as') h = all_put P x a (in_order xs as') h.0 (a
 
 put_size : (x : List ℕ) (a : Shape) (ys : List Field) → length (put_field x a ys) ≡ suc (length ys)
 put_size x a [] = refl
-put_size x a (y ∷ ys) = by (is_lt (text_cmp y.0 x)) (put_size x a ys)
+put_size x a (y ∷ ys) = by (is_lt (text_cmp x y.0)) (put_size x a ys)
   where
-    by : (b : Bool) → length (put_field x a ys) ≡ suc (length ys) → length (if b then y ∷ put_field x a ys else (x, a) ∷ y ∷ ys) ≡ suc (length (y ∷ ys))
-    by true r = ap suc r
-    by false r = refl
+    by : (b : Bool) → length (put_field x a ys) ≡ suc (length ys) → length (if b then (x, a) ∷ y ∷ ys else y ∷ put_field x a ys) ≡ suc (length (y ∷ ys))
+    by true r = refl
+    by false r = ap suc r
 
 order_size : (xs : List (List ℕ)) (as' : List Shape) → length xs ≡ length as' → length (in_order xs as') ≡ length xs
 order_size [] as' e = refl
@@ -131,24 +131,24 @@ or_right false b h = h
 
 put_there : (x : List ℕ) (a : Shape) (ys : List Field) → IsTrue (member (value.Text x) (texts (names (put_field x a ys))))
 put_there x a [] = or_left (same_value (value.Text x) (value.Text x)) false (same_itself (value.Text x))
-put_there x a (y ∷ ys) = by (is_lt (text_cmp y.0 x)) (put_there x a ys)
+put_there x a (y ∷ ys) = by (is_lt (text_cmp x y.0)) (put_there x a ys)
   where
-    by : (b : Bool) → IsTrue (member (value.Text x) (texts (names (put_field x a ys)))) → IsTrue (member (value.Text x) (texts (names (if b then y ∷ put_field x a ys else (x, a) ∷ y ∷ ys))))
-    by true r = or_right (same_value (value.Text x) (value.Text y.0)) _ r
-    by false r = or_left (same_value (value.Text x) (value.Text x)) _ (same_itself (value.Text x))
+    by : (b : Bool) → IsTrue (member (value.Text x) (texts (names (put_field x a ys)))) → IsTrue (member (value.Text x) (texts (names (if b then (x, a) ∷ y ∷ ys else y ∷ put_field x a ys))))
+    by true r = or_left (same_value (value.Text x) (value.Text x)) _ (same_itself (value.Text x))
+    by false r = or_right (same_value (value.Text x) (value.Text y.0)) _ r
 
 put_keeps : (v : Value) (x : List ℕ) (a : Shape) (ys : List Field) → IsTrue (member v (texts (names ys))) → IsTrue (member v (texts (names (put_field x a ys))))
 put_keeps v x a [] h = absurd (false≢true h)
-put_keeps v x a (y ∷ ys) h = by (is_lt (text_cmp y.0 x)) (λ k. put_keeps v x a ys k)
+put_keeps v x a (y ∷ ys) h = by (is_lt (text_cmp x y.0)) (λ k. put_keeps v x a ys k)
   where
     first : (IsTrue (member v (texts (names ys))) → IsTrue (member v (texts (names (put_field x a ys))))) → (b : Bool) → same_value v (value.Text y.0) ≡ b → IsTrue (b || member v (texts (names ys))) →
         IsTrue (same_value v (value.Text y.0) || member v (texts (names (put_field x a ys))))
     first r true e k = or_left (same_value v (value.Text y.0)) _ e
     first r false e k = or_right (same_value v (value.Text y.0)) _ (r k)
 
-    by : (b : Bool) → (IsTrue (member v (texts (names ys))) → IsTrue (member v (texts (names (put_field x a ys))))) → IsTrue (member v (texts (names (if b then y ∷ put_field x a ys else (x, a) ∷ y ∷ ys))))
-    by true r = first r (same_value v (value.Text y.0)) refl h
-    by false r = or_right (same_value v (value.Text x)) _ h
+    by : (b : Bool) → (IsTrue (member v (texts (names ys))) → IsTrue (member v (texts (names (put_field x a ys))))) → IsTrue (member v (texts (names (if b then (x, a) ∷ y ∷ ys else y ∷ put_field x a ys))))
+    by true r = or_right (same_value v (value.Text x)) _ h
+    by false r = first r (same_value v (value.Text y.0)) refl h
 
 -- each name is one of those in order
 each_there : (xs : List (List ℕ)) (as' : List Shape) → length xs ≡ length as' →

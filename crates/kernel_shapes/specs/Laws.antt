@@ -1,5 +1,5 @@
 -- What the law of shapes says of a tree.
-use Rattle.std.specs.Prelude.{ℕ, ◌≤◌, ◌≡◌, IsTrue, List, Some}
+use Rattle.std.specs.Prelude.{ℕ, ◌≤◌, ◌≡◌, Bool, not, IsTrue, List, Some}
 use Rattle.tla_values.specs.declared.value.Value.{Value}
 use Rattle.tla_meaning.specs.declared.expr.Expr.{Expr}
 use Rattle.tla_meaning.specs.declared.job.State.{State}
@@ -9,10 +9,14 @@ use Rattle.tla_meaning.specs.Expanded.{is_expanded}
 use Rattle.tla_meaning.specs.Scopes.{Scope}
 use Rattle.kernel_trees.specs.TypeKinds.{Kind}
 use Rattle.kernel_trees.specs.declared.kernel.Ker.{Ker}
+use Rattle.kernel_trees.specs.Paths.{mentions}
+use Rattle.kernel_trees.specs.Sound.{Context, kind_at, sound}
 use Rattle.kernel_trees.specs.Trees.{ker_val}
 use Rattle.kernel_shapes.specs.Fits.{BoundFit, Fits, StateFits}
 use Rattle.kernel_shapes.specs.Sized.{Extent}
 use Rattle.kernel_shapes.specs.Kernel.{ker_sized, ker_shape}
+use Rattle.kernel_shapes.specs.TypedExtents.{OfTypes, without_shape}
+use Rattle.kernel_shapes.specs.TypedStates.{OfKind}
 use Rattle.kernel_shapes.specs.Trees.{tree_sized, shape_of_tree}
 
 -- bound names, a state and a next state have values that fit the shapes of their names
@@ -28,7 +32,20 @@ FitsItsShape w e ks sc g s t v =
     2 ≤ w → IsTrue (is_expanded e) → Ready sc g s t → IsTrue ((tree_sized w e).sizing ks g).sound →
     val (Some w) e sc s t ≡ Val v → Fits (shape_of_tree w e ks g) v
 
--- the same of a kernel tree, by the types of its nodes
-abbrev pub KernelFitsItsShape : ℕ → Ker → Scope → Extent → State → State → Value → Type 0
-KernelFitsItsShape w k sc g s t v =
+-- what is computed of a kernel tree is so, too
+abbrev pub SizedFits : ℕ → Ker → Scope → Extent → State → State → Value → Type 0
+SizedFits w k sc g s t v =
     2 ≤ w → Ready sc g s t → IsTrue (ker_sized w k g).sound → ker_val (Some w) k sc s t ≡ Val v → Fits (ker_shape w k g) v
+
+-- a sound kernel tree has a shape of its type, and what is computed of it is sound, where the names that it reads have shapes
+-- of their types
+abbrev pub HasSoundShape : ℕ → List Kind → Ker → Context → Bool → Extent → Kind → Type 0
+HasSoundShape w names k c b g a =
+    IsTrue (sound names k c b) → OfTypes names c g → IsTrue (not (mentions (without_shape g) k)) → kind_at k ≡ Some a →
+    OfKind a (ker_shape w k g) × IsTrue (ker_sized w k g).sound
+
+-- so its value fits its shape
+abbrev pub KernelFitsItsShape : ℕ → List Kind → Ker → Context → Bool → Scope → Extent → State → State → Value → Type 0
+KernelFitsItsShape w names k c b sc g s t v =
+    2 ≤ w → IsTrue (sound names k c b) → OfTypes names c g → IsTrue (not (mentions (without_shape g) k)) →
+    Ready sc g s t → ker_val (Some w) k sc s t ≡ Val v → Fits (ker_shape w k g) v

@@ -8,5 +8,6 @@ pub mod Trees
 pub mod Kernel
 pub mod Levels
 pub mod TypedStates
+pub mod TypedExtents
 pub mod Runs
 pub mod Laws

@@ -122,7 +122,7 @@ last_of (a ∷ b ∷ as') = last_of (b ∷ as')
 -- fields in the order of their bytes
 abbrev pub put_field : List ℕ → Shape → List (List ℕ × Shape) → List (List ℕ × Shape)
 put_field x a [] = (x, a) ∷ []
-put_field x a (y ∷ ys) = if is_lt (text_cmp y.0 x) then y ∷ put_field x a ys else (x, a) ∷ y ∷ ys
+put_field x a (y ∷ ys) = if is_lt (text_cmp x y.0) then (x, a) ∷ y ∷ ys else y ∷ put_field x a ys
 
 abbrev pub in_order : List (List ℕ) → List Shape → List (List ℕ × Shape)
 in_order (x ∷ xs) (a ∷ as') = put_field x a (in_order xs as')

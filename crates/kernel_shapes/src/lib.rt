@@ -7,4 +7,4 @@
 
 mod theorems;
 
-pub use theorems::values_fit_their_shapes;
+pub use theorems::{sound_trees_have_shapes_of_their_types, values_fit_their_shapes};

@@ -1,17 +1,24 @@
 // Laws of shapes, each as the contract of a function that does nothing.
-ghost use Rattle.std.specs.Prelude.{List, ℕ};
+ghost use Rattle.std.specs.Prelude.{Bool, List, ℕ};
 ghost use Rattle.tla_meaning.specs.Scopes.{Scope};
 ghost use Rattle.tla_meaning.specs.declared.expr.Expr.{Expr};
 ghost use Rattle.tla_meaning.specs.declared.job.State.{State};
 ghost use Rattle.tla_values.specs.declared.value.Value.{Value};
+ghost use Rattle.kernel_trees.specs.Sound.{Context};
 ghost use Rattle.kernel_trees.specs.TypeKinds.{Kind};
 ghost use Rattle.kernel_trees.specs.declared.kernel.Ker.{Ker};
-ghost use Rattle.kernel_shapes.specs.Laws.{FitsItsShape, KernelFitsItsShape};
+ghost use Rattle.kernel_shapes.specs.Laws.{FitsItsShape, HasSoundShape, KernelFitsItsShape};
 ghost use Rattle.kernel_shapes.specs.Sized.{Extent};
 
-/// Each value that an expression has under a width fits its shape, if bound names and states fit theirs and the tree
-/// is sound: of an expanded tree with its types, and of a kernel tree.
+/// Each value that an expression has under a width fits its shape, if bound names and states fit theirs: of an
+/// expanded tree whose names have shapes and which joins shapes of one kind alone; and of a sound kernel tree, if the
+/// names that it reads have shapes of their types.
 pub fn values_fit_their_shapes()
     ensures trees { (w : ℕ) (e : Expr) (ks : List Kind) (sc : Scope) (g : Extent) (s t : State) (v : Value) → FitsItsShape w e ks sc g s t v }
-    ensures kernel { (w : ℕ) (k : Ker) (sc : Scope) (g : Extent) (s t : State) (v : Value) → KernelFitsItsShape w k sc g s t v }
+    ensures kernel { (w : ℕ) (names : List Kind) (k : Ker) (c : Context) (b : Bool) (sc : Scope) (g : Extent) (s t : State) (v : Value) → KernelFitsItsShape w names k c b sc g s t v }
+{}
+
+/// The shape of a sound kernel tree is of its type, if the names that it reads have shapes of their types.
+pub fn sound_trees_have_shapes_of_their_types()
+    ensures { (w : ℕ) (names : List Kind) (k : Ker) (c : Context) (b : Bool) (g : Extent) (a : Kind) → HasSoundShape w names k c b g a }
 {}
