@@ -11,3 +11,4 @@ pub mod TypedStates
 pub mod TypedExtents
 pub mod Runs
 pub mod Laws
+pub mod Codes

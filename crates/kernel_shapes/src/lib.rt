@@ -5,6 +5,8 @@
 //! records and of tuples that are not walked have no number; what has one is held against a limit.
 #![tactic(auto)]
 
+mod bounds;
 mod theorems;
 
+pub use bounds::{Bounds, Shape, Shapes, copy_shape};
 pub use theorems::{sound_trees_have_shapes_of_their_types, values_fit_their_shapes};
