@@ -74,7 +74,7 @@ each_expanded : (ks : List Ker) → Each (λ k. IsTrue (is_expanded (as_expr k))
 each_expanded [] h = refl
 each_expanded (k ∷ ks) h = and_both (is_expanded (as_expr k)) (all_expanded (map as_expr ks)) h.0 (each_expanded ks h.1)
 
-tree_expanded : (k : Ker) → IsTrue (is_expanded (as_expr k))
+pub tree_expanded : (k : Ker) → IsTrue (is_expanded (as_expr k))
 tree_expanded = by_nodes (λ k. IsTrue (is_expanded (as_expr k))) (λ x h.
     let y : Ker-F Expr = map-Ker Ker Expr as_expr x in
     subst (λ (e : Expr). IsTrue (is_expanded e)) (sym (as_expr-roll x))

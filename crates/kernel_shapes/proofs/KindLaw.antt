@@ -11,7 +11,7 @@ use Rattle.kernel_trees.specs.TypeKinds.{Kind, Kinds, Fields, no_kinds, more_kin
 use Rattle.kernel_shapes.specs.Shape.{Shape, Atom, Num, Set, Fun, Rec, Tup, Seq, Empty, Shapes, no_shapes, more_shapes, shapes, inside, result, join, join_all, join_items, alike, alike_all, alike_items, same_names}
 use Rattle.kernel_shapes.specs.Rows.{put_field, in_order, record_shape}
 use Rattle.kernel_shapes.specs.Sized.{is_sequence, is_function, is_record, has_places}
-use Rattle.kernel_shapes.specs.TypedStates.{OfKind, OfKinds, OfFields, shape_of_kind, shapes_of_kinds, shapes_of_fields, names_of_fields}
+use Rattle.kernel_shapes.specs.TypedStates.{OfKind, OfKinds, OfFields, EachOfKind, shape_of_kind, shapes_of_kinds, shapes_of_fields, names_of_fields}
 
 pub text_itself : (x : List ℕ) → IsTrue (same_text x x)
 text_itself x = is_eq-slice_cmp x x ∙ (bytes_eq-Decides x x).1 refl
@@ -182,13 +182,6 @@ tup_places ks Empty h = refl
 tup_places ks a h = absurd h
 
 -- ---- records and tuples
-
--- each shape is of its type
-abbrev pub EachOfKind : List Kind → List Shape → Type 0
-EachOfKind [] [] = Unit {0}
-EachOfKind (k ∷ ks) (a ∷ as') = OfKind k a × EachOfKind ks as'
-EachOfKind [] (a ∷ as') = ⊥
-EachOfKind (k ∷ ks) [] = ⊥
 
 pub tuple_kind : (ks : List Kind) (as' : List Shape) → EachOfKind ks as' → OfKinds (kind.kinds ks) (shapes as')
 tuple_kind [] [] h = tt

@@ -29,3 +29,7 @@ pub mod WellNamed
 pub mod SoundRows
 pub mod SoundBinders
 pub mod SoundShapes
+pub mod Choices
+pub mod FormMembers
+pub mod FormLaw
+pub mod PathLaw

@@ -67,7 +67,7 @@ apply_insert q (p ∷ ps) a = by (value_cmp q.0 p.0) refl (apply_insert q ps a)
         ap (λ (o : Option Value). if same_value a p.0 then Some p.1 else o) r
         ∙ two (same_value a q.0) (same_value a p.0) refl refl (λ f g. apart q.0 p.0 a e g f)
 
-apply_function : (ps : List (Value × Value)) (a : Value) → apply (function_of ps) a ≡ apply ps a
+pub apply_function : (ps : List (Value × Value)) (a : Value) → apply (function_of ps) a ≡ apply ps a
 apply_function [] a = refl
 apply_function (p ∷ ps) a =
     apply_insert p (function_of ps) a ∙ ap (λ (o : Option Value). if same_value a p.0 then Some p.1 else o) (apply_function ps a)

@@ -17,9 +17,9 @@ use Rattle.kernel_trees.proofs.SoundRows.{BinderRow, row_some, row_every, row_fi
 use Rattle.kernel_shapes.specs.Shape.{Shape, Atom, Num, Set, Fun, Rec, Tup, Seq, Empty, Shapes, no_shapes, more_shapes, item, field, count, inside, join, alike}
 use Rattle.kernel_shapes.specs.Rows.{Literal, no_literal, row_shape, number, text, Row, a_truth, a_part, a_map, a_function, nth, insides, argument_of, but_last, last_of, applied_at, item_changed, field_changed, joined_at, reached_by}
 use Rattle.kernel_shapes.specs.Sized.{Extent, Sized, Sizing, Seen, no_size, outside, underneath, shapes_of, all_sound, body, step, steps_sound, binder, sized, names_differ, is_once, goes_through}
-use Rattle.kernel_shapes.specs.TypedStates.{OfKind, OfKinds, OfFields, names_of_fields}
+use Rattle.kernel_shapes.specs.TypedStates.{EachOfKind, OfKind, OfKinds, OfFields, names_of_fields}
 use Rattle.kernel_shapes.proofs.JoinRight.{text_is}
-use Rattle.kernel_shapes.proofs.KindLaw.{text_itself, kinds_alike, join_kind, EachOfKind, empty_kind, member_kind, tuple_kind}
+use Rattle.kernel_shapes.proofs.KindLaw.{text_itself, kinds_alike, join_kind, empty_kind, member_kind, tuple_kind}
 use Rattle.kernel_shapes.proofs.Law.{but_last_end, last_end}
 use Rattle.kernel_shapes.proofs.SoundRows.{NodeGood, item_there, field_there}
 use Rattle.kernel_shapes.proofs.WellNamed.{well_named}

@@ -19,9 +19,9 @@ use Rattle.kernel_shapes.specs.Shape.{Shape, Atom, Num, Set, Fun, Rec, Tup, Seq,
 use Rattle.kernel_shapes.specs.Rows.{Literal, no_literal, number, text, nth, insides, applied_at, quotient_shape, remainder_shape, set_of_interval, branches_of, record_shape}
 use Rattle.kernel_shapes.specs.Sized.{Extent, Sized, Sizing, outside, shapes_of, all_sound, readable, is_record_of, is_sequence, is_function, names_differ, sized, plain, seen, index_of}
 use Rattle.kernel_shapes.specs.Trees.{sized_node, domain_row}
-use Rattle.kernel_shapes.specs.TypedStates.{OfKind, OfKinds, OfFields}
+use Rattle.kernel_shapes.specs.TypedStates.{EachOfKind, OfKind, OfKinds, OfFields}
 use Rattle.kernel_shapes.proofs.KernelNodes.{literal_sizing, operand_sizings}
-use Rattle.kernel_shapes.proofs.KindLaw.{kinds_alike, join_kind, AllOfKind, join_all_kind, all_alike, EachOfKind, empty_kind, member_kind, place_kind, item_result, argument_kind_of, result_kind, seq_is, fun_is, rec_is, seq_places, tup_places, tuple_kind, record_kind_of}
+use Rattle.kernel_shapes.proofs.KindLaw.{kinds_alike, join_kind, AllOfKind, join_all_kind, all_alike, empty_kind, member_kind, place_kind, item_result, argument_kind_of, result_kind, seq_is, fun_is, rec_is, seq_places, tup_places, tuple_kind, record_kind_of}
 use Rattle.kernel_shapes.proofs.TreeLemmas.{literal-roll, sound-roll}
 use Rattle.kernel_shapes.proofs.WellNamed.{well_named, names_from}
 

@@ -32,13 +32,13 @@ use Rattle.kernel_shapes.specs.Rows.{Literal, nth, insides, applied_at, joined_a
 use Rattle.kernel_shapes.specs.Sized.{Extent, Sized, Sizing, Seen, no_size, found, bound_shapes, bind_shapes, outside, underneath, seen, shapes_of, all_sound, body, step, binder, sized, is_sequence, goes_through}
 use Rattle.kernel_shapes.specs.Trees.{first_kind, read_shape, marks_of, sized_node}
 use Rattle.kernel_shapes.specs.Kernel.{operand_kinds, kind_or_truth, kinds_in, ker_sized}
-use Rattle.kernel_shapes.specs.TypedStates.{OfKind}
+use Rattle.kernel_shapes.specs.TypedStates.{EachOfKind, OfKind}
 use Rattle.kernel_shapes.specs.TypedExtents.{NamesOfKinds, BoundOfKinds, OfTypes, without_shape}
 use Rattle.kernel_shapes.specs.Laws.{HasSoundShape, KernelFitsItsShape}
 use Rattle.kernel_shapes.proofs.JoinRight.{text_is}
 use Rattle.kernel_shapes.proofs.KernelLaw.{each_kernel_value_fits}
 use Rattle.kernel_shapes.proofs.KernelNodes.{operand_sizings, node_sizing, ker_parts, first_kinds, firsts, ker_sized-roll, first_of_kinds}
-use Rattle.kernel_shapes.proofs.KindLaw.{text_itself, kinds_alike, EachOfKind, member_kind, place_kind, seq_is}
+use Rattle.kernel_shapes.proofs.KindLaw.{text_itself, kinds_alike, member_kind, place_kind, seq_is}
 use Rattle.kernel_shapes.proofs.SoundBinders.{evaluated, behind_sets, here_front, here_size, under_body, binder_row_of, BinderParts, binder_good, IsConstant, Updated, updated_good, reached_kind, steps_good}
 use Rattle.kernel_shapes.proofs.SoundRows.{Good, Goods, no_goods, more_goods, node_at, NodeGood, plain_good}
 use Rattle.kernel_shapes.proofs.WellNamed.{well_named, kind_named}
@@ -138,7 +138,7 @@ bound_zip (x ∷ xs) (m ∷ ms) (a ∷ as') e h = (refl, h.0, bound_zip xs ms as
     less : (m n : ℕ) → suc m ≡ suc n → m ≡ n
     less m n e = omega (arith, e)
 
-more_types : (names : List Kind) (c : Context) (g : Extent) (xs : List ℕ) (ms : List Kind) (as' : List Shape) → OfTypes names c g → length xs ≡ length ms → EachOfKind ms as' →
+pub more_types : (names : List Kind) (c : Context) (g : Extent) (xs : List ℕ) (ms : List Kind) (as' : List Shape) → OfTypes names c g → length xs ≡ length ms → EachOfKind ms as' →
     OfTypes names (c ++ zip xs ms) (bind_shapes (names_of xs) as' g)
 more_types names c g xs ms as' r e h = record {
   now = r.now;

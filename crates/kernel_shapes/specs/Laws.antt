@@ -1,22 +1,33 @@
 -- What the law of shapes says of a tree.
-use Rattle.std.specs.Prelude.{ℕ, ◌≤◌, ◌≡◌, Bool, not, IsTrue, List, Some}
+use Rattle.std.specs.Prelude.{ℕ, suc, ◌<◌, ◌≤◌, ◌≡◌, Bool, not, IsTrue, List, [], Some, length}
+use Rattle.std.specs.List.{AllByRecursion, list_all}
+use Rattle.tla_values.specs.Sets.{Normal}
 use Rattle.tla_values.specs.declared.value.Value.{Value}
 use Rattle.tla_meaning.specs.declared.expr.Expr.{Expr}
 use Rattle.tla_meaning.specs.declared.job.State.{State}
 use Rattle.tla_meaning.specs.declared.outcome.Outcome.TheVariants.{Val}
-use Rattle.tla_meaning.specs.Actions.{val}
+use Rattle.tla_meaning.specs.declared.forms.SetForm.{SetForm}
+use Rattle.tla_meaning.specs.Actions.{meaning, val}
+use Rattle.tla_meaning.specs.Forms.{Made, belongs, is_set_form}
 use Rattle.tla_meaning.specs.Expanded.{is_expanded}
 use Rattle.tla_meaning.specs.Scopes.{Scope}
 use Rattle.kernel_trees.specs.TypeKinds.{Kind}
 use Rattle.kernel_trees.specs.declared.kernel.Ker.{Ker}
-use Rattle.kernel_trees.specs.Paths.{mentions}
-use Rattle.kernel_trees.specs.Sound.{Context, kind_at, sound}
+use Rattle.kernel_trees.specs.declared.path.Assigned.{Assigned}
+use Rattle.kernel_trees.specs.declared.system.System.{System}
+use Rattle.kernel_trees.specs.Assignments.{lacks, reads_late}
+use Rattle.kernel_trees.specs.Paths.{Marks, mentions}
+use Rattle.kernel_trees.specs.Sound.{Context, kind_at, sound, sound_assigned}
 use Rattle.kernel_trees.specs.Trees.{ker_val}
-use Rattle.kernel_shapes.specs.Fits.{BoundFit, Fits, StateFits}
+use Rattle.kernel_shapes.specs.FiniteForms.{is_finite_form}
+use Rattle.kernel_shapes.specs.Fits.{BoundFit, FitAll, Fits, StateFits}
+use Rattle.kernel_shapes.specs.Levels.{shapes_at}
+use Rattle.kernel_shapes.specs.Shape.{Shape, inside}
+use Rattle.kernel_shapes.specs.Systems.{IsStep, MarksVariables, system_parts}
 use Rattle.kernel_shapes.specs.Sized.{Extent}
 use Rattle.kernel_shapes.specs.Kernel.{ker_sized, ker_shape}
 use Rattle.kernel_shapes.specs.TypedExtents.{OfTypes, without_shape}
-use Rattle.kernel_shapes.specs.TypedStates.{OfKind}
+use Rattle.kernel_shapes.specs.TypedStates.{OfKind, EachOfKind}
 use Rattle.kernel_shapes.specs.Trees.{tree_sized, shape_of_tree}
 
 -- bound names, a state and a next state have values that fit the shapes of their names
@@ -49,3 +60,35 @@ abbrev pub KernelFitsItsShape : ℕ → List Kind → Ker → Context → Bool �
 KernelFitsItsShape w names k c b sc g s t v =
     2 ≤ w → IsTrue (sound names k c b) → OfTypes names c g → IsTrue (not (mentions (without_shape g) k)) →
     Ready sc g s t → ker_val (Some w) k sc s t ≡ Val v → Fits (ker_shape w k g) v
+
+-- ---- forms
+
+-- all values that a tree reads are normal, and all that it names is bound
+pub record IsNormal (sc : Scope) (s t : State) : Type 0 where
+  pub bound : AllByRecursion (λ b. Normal b.1) sc.bound
+  pub named : sc.named ≡ []
+  pub now : AllByRecursion Normal s.vals
+  pub next : AllByRecursion Normal t.vals
+
+-- what belongs to a form in which no infinite set stands fits the shape of its members
+abbrev pub FormFitsItsShape : ℕ → Expr → List Kind → Scope → Extent → State → State → SetForm → Value → Type 0
+FormFitsItsShape w e ks sc g s t f v =
+    2 ≤ w → IsTrue (is_expanded e) → IsTrue (is_finite_form e) → Ready sc g s t → IsNormal sc s t →
+    IsTrue ((tree_sized w e).sizing ks g).sound → (meaning (Some w) e sc).form s t ≡ Made f → IsTrue (is_set_form f) →
+    Normal v → IsTrue (belongs f v) → Fits (inside (shape_of_tree w e ks g)) v
+
+-- ---- levels
+
+-- the paths of a system are sound, read late and assign each marked name
+pub record PathsAre (names : List Kind) (m : Marks) (xs : List Assigned) : Type 0 where
+  pub sound : IsTrue (list_all (λ x. sound_assigned names [] x.steps) xs)
+  pub late : IsTrue (list_all (λ x. reads_late m [] x.steps) xs)
+  pub assign : (i : ℕ) → IsTrue (list_all (λ x. not (lacks m x.steps i)) xs)
+
+-- where a state fits shapes of the types, the state that n steps later is reached along the paths fits the shapes of level n
+abbrev pub LevelsFit : ℕ → System → List Kind → Marks → List Shape → (ℕ → State) → ℕ → Type 0
+LevelsFit w sys names m first run n =
+    2 ≤ w → length sys.ker.fixed ≡ length names → MarksVariables m sys.ker.fixed → PathsAre names m sys.next →
+    EachOfKind names first → FitAll first (run 0).vals → ((i : ℕ) → AllByRecursion Normal (run i).vals) →
+    ((i : ℕ) → i < n → IsStep w sys (run i) (run (suc i))) →
+    FitAll (shapes_at (system_parts w sys) first n) (run n).vals

@@ -9,6 +9,7 @@ pub mod Kernel
 pub mod Levels
 pub mod TypedStates
 pub mod TypedExtents
-pub mod Runs
+pub mod FiniteForms
+pub mod Systems
 pub mod Laws
 pub mod Codes

@@ -32,6 +32,13 @@ abbrev mutual
   OfFields (more_fields x k fs) (y ∷ ys) (more_shapes a as') = (x ≡ y) × OfKind k a × OfFields fs ys as'
   OfFields fs ys as' = ⊥
 
+-- each shape is of its type
+abbrev pub EachOfKind : List Kind → List Shape → Type 0
+EachOfKind [] [] = Unit {0}
+EachOfKind (k ∷ ks) (a ∷ as') = OfKind k a × EachOfKind ks as'
+EachOfKind [] (a ∷ as') = ⊥
+EachOfKind (k ∷ ks) [] = ⊥
+
 -- ---- a typed state
 
 -- the names of a record's fields
