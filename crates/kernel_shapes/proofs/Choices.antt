@@ -255,9 +255,10 @@ module _ (ps : List Pair) where
 
   all_there_of : (ns : List (List ℕ)) → IsTrue (list_all (λ x. member x (arguments ps)) (texts ns)) → AllThere ns
   all_there_of [] e = tt
-  all_there_of (n ∷ ns) e =
-      (there_of n (and_left (member (value.Text n) (arguments ps)) (list_all (λ x. member x (arguments ps)) (texts ns)) e),
-      all_there_of ns (and_right (member (value.Text n) (arguments ps)) (list_all (λ x. member x (arguments ps)) (texts ns)) e))
+  all_there_of (n ∷ ns) e = (
+    there_of n (and_left (member (value.Text n) (arguments ps)) (list_all (λ x. member x (arguments ps)) (texts ns)) e),
+    all_there_of ns (and_right (member (value.Text n) (arguments ps)) (list_all (λ x. member x (arguments ps)) (texts ns)) e),
+  )
 
   fields_step : (n : List ℕ) (ns : List (List ℕ)) (v : Value) → apply ps (value.Text n) ≡ Some v → fields_at (n ∷ ns) ps ≡ v ∷ fields_at ns ps
   fields_step n ns v e = ap (λ (o : Option Value). cons_option o (fields_at ns ps)) e

@@ -137,18 +137,20 @@ set_members p s t make o bs ms e h k f c l = by (form_faults (forms ms s t)) ref
 record_members : (w : Width) (p : Place) (names : List (List ℕ)) (s t : State) (bs : List Bool) (ms : List Denotation) → IsTrue (list_all (λ b. b) bs) → Forming s t bs ms →
     MembersOf (strict (outcomes ms s t) (table w p (op.RecSet names))) (form_of_all p (form.Records names) (forms ms s t))
 record_members w p names s t bs ms e h =
-    set_members p s t (form.Records names) (strict (outcomes ms s t) (table w p (op.RecSet names))) bs ms e h (λ gs xss v k.
-    (set_of (map (record_of names) (choices xss)),
-    strict_values (outcomes ms s t) xss (table w p (op.RecSet names)) v ∙ on_sets_there p (λ yss. Val (records names yss)) xss,
-    records_have names gs xss k))
+    set_members p s t (form.Records names) (strict (outcomes ms s t) (table w p (op.RecSet names))) bs ms e h (λ gs xss v k. (
+      set_of (map (record_of names) (choices xss)),
+      strict_values (outcomes ms s t) xss (table w p (op.RecSet names)) v ∙ on_sets_there p (λ yss. Val (records names yss)) xss,
+      records_have names gs xss k,
+    ))
 
 tuple_members : (w : Width) (p : Place) (s t : State) (bs : List Bool) (ms : List Denotation) → IsTrue (list_all (λ b. b) bs) → Forming s t bs ms →
     MembersOf (strict (outcomes ms s t) (table w p op.Product)) (form_of_all p form.Tuples (forms ms s t))
 tuple_members w p s t bs ms e h =
-    set_members p s t form.Tuples (strict (outcomes ms s t) (table w p op.Product)) bs ms e h (λ gs xss v k.
-    (set_of (map sequence (choices xss)),
-    strict_values (outcomes ms s t) xss (table w p op.Product) v ∙ on_sets_there p (λ yss. Val (tuples yss)) xss,
-    tuples_have gs xss k))
+    set_members p s t form.Tuples (strict (outcomes ms s t) (table w p op.Product)) bs ms e h (λ gs xss v k. (
+      set_of (map sequence (choices xss)),
+      strict_values (outcomes ms s t) xss (table w p op.Product) v ∙ on_sets_there p (λ yss. Val (tuples yss)) xss,
+      tuples_have gs xss k,
+    ))
 
 -- ---- honest forms
 
@@ -312,7 +314,7 @@ node_well w p (op.Bound x) xs ks bs sc s t e h n =
 node_well w p o xs ks bs sc s t e h n =
     node_forms w p o (length xs) (view p (role o (length xs)) xs ks sc) s t bs e (outer_forms p (marks_of (role o (length xs))) bs ks sc s t h) (outer_values p (marks_of (role o (length xs))) ks sc s t n)
 
-finite-roll : (x : Expr-F Expr) → is_finite_form (roll-Expr x) ≡ is_finite_at x.op (map is_finite_form x.args)
+pub finite-roll : (x : Expr-F Expr) → is_finite_form (roll-Expr x) ≡ is_finite_at x.op (map is_finite_form x.args)
 unfolding is_finite_form
 finite-roll x = fold-roll-Expr Bool (λ x. is_finite_at x.op x.args) x
 
@@ -322,9 +324,10 @@ expanded-roll x = fold-roll-Expr Bool (λ x. is_expanded_op x.op && list_all (λ
 kids_form : (w : Width) (es : List Expr) → Each (FormsWell w) es → IsTrue (list_all (λ b. b) (map is_expanded es)) → (sc : Scope) (s t : State) → NormalScope sc →
     AllByRecursion Normal s.vals → AllByRecursion Normal t.vals → KidsForm sc s t (map is_finite_form es) (map (meaning w) es)
 kids_form w [] h e sc s t n i j = tt
-kids_form w (d ∷ es) h e sc s t n i j =
-    (h.0 (and_left (is_expanded d) (list_all (λ b. b) (map is_expanded es)) e) sc s t n i j,
-    kids_form w es h.1 (and_right (is_expanded d) (list_all (λ b. b) (map is_expanded es)) e) sc s t n i j)
+kids_form w (d ∷ es) h e sc s t n i j = (
+  h.0 (and_left (is_expanded d) (list_all (λ b. b) (map is_expanded es)) e) sc s t n i j,
+  kids_form w es h.1 (and_right (is_expanded d) (list_all (λ b. b) (map is_expanded es)) e) sc s t n i j,
+)
 
 kids_normal : (w : Width) (es : List Expr) (sc : Scope) (s t : State) → NormalScope sc → AllByRecursion Normal s.vals → AllByRecursion Normal t.vals → KidsNormal sc s t (map (meaning w) es)
 kids_normal w [] sc s t n i j = tt

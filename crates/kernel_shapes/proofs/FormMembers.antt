@@ -251,10 +251,11 @@ subset_members w p s t m h n f e k = by (m.form s t) refl e
         test : (b : Bool) → is_set_form g ≡ b → (if b then Made (form.Subsets g) else Broken (IsWrong p)) ≡ Made f → (xs : List Value) × (strict (m.value s t ∷ []) (table w p op.Powerset) ≡ Val (value.Set xs)) × HasAll f xs
         test false l c = absurd (broken c)
         test true l c =
-            let z = h g q l in
-            (set_of (map (λ ys. value.Set ys) (sublists z.0)),
-            ap (λ (o : Outcome). strict (o ∷ []) (table w p op.Powerset)) z.1 ∙ ap (λ (y : Layer Value). on_set p (λ xs. Val (subsets xs)) (y ∷ [])) (value.outs-Set z.0),
-            subst (λ (j : SetForm). HasAll j (set_of (map (λ ys. value.Set ys) (sublists z.0)))) (same_made c) (subsets_have g z.0 (rises (m.value s t) z.0 n z.1) z.2))
+            let z = h g q l in (
+              set_of (map (λ ys. value.Set ys) (sublists z.0)),
+              ap (λ (o : Outcome). strict (o ∷ []) (table w p op.Powerset)) z.1 ∙ ap (λ (y : Layer Value). on_set p (λ xs. Val (subsets xs)) (y ∷ [])) (value.outs-Set z.0),
+              subst (λ (j : SetForm). HasAll j (set_of (map (λ ys. value.Set ys) (sublists z.0)))) (same_made c) (subsets_have g z.0 (rises (m.value s t) z.0 n z.1) z.2),
+            )
 
 pub function_members : (w : Width) (p : Place) (s t : State) (a m : Denotation) → HasMembers s t m → IsNormalOutcome (a.value s t) →
     MembersOf (strict (a.value s t ∷ m.value s t ∷ []) (table w p op.FunSet)) (function_form p (a.value s t ∷ m.value s t ∷ []) (a.form s t ∷ m.form s t ∷ []))
@@ -267,12 +268,13 @@ function_members w p s t a m h n f e k = by (a.value s t) refl n (m.form s t) re
         (if b then Made (form.Functions xs g) else Broken (IsWrong p)) ≡ Made f → Found (Val u)
     test u xs g q i j false l c = absurd (broken c)
     test u xs g q i j true l c =
-        let z = h g j l in
-        (set_of (map (λ ys. value.Fun (zip xs ys)) (each_to xs z.0)),
-        ap (λ (o : Outcome). strict (Val u ∷ o ∷ []) (table w p op.FunSet)) z.1
-        ∙ ap₂ (λ (x y : Layer Value). on_sets p (λ xs ts. Val (functions xs ts)) (x ∷ y ∷ [])) q (value.outs-Set z.0),
-        subst (λ (d : SetForm). HasAll d (set_of (map (λ ys. value.Fun (zip xs ys)) (each_to xs z.0)))) (same_made c)
-        (functions_have xs z.0 g (rises (Val u) xs i (ap Val (sym (a_set u xs q)))) z.2))
+        let z = h g j l in (
+          set_of (map (λ ys. value.Fun (zip xs ys)) (each_to xs z.0)),
+          ap (λ (o : Outcome). strict (Val u ∷ o ∷ []) (table w p op.FunSet)) z.1
+              ∙ ap₂ (λ (x y : Layer Value). on_sets p (λ xs ts. Val (functions xs ts)) (x ∷ y ∷ [])) q (value.outs-Set z.0),
+          subst (λ (d : SetForm). HasAll d (set_of (map (λ ys. value.Fun (zip xs ys)) (each_to xs z.0)))) (same_made c)
+              (functions_have xs z.0 g (rises (Val u) xs i (ap Val (sym (a_set u xs q)))) z.2),
+        )
 
     at_value : (u : Value) → Normal u → (g : SetForm) → m.form s t ≡ Made g → (x : Layer Value) → out-Value u ≡ x → functions_from p (set_items x) (Made g ∷ []) ≡ Made f → Found (Val u)
     at_value u i g j (layer.Set xs) q c = test u xs g q i j (is_set_form g) refl c

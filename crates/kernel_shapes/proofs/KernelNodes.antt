@@ -12,7 +12,7 @@ use Rattle.kernel_trees.specs.Trees.{as_expr, op_of, operands, names_of, literal
 use Rattle.kernel_trees.specs.TypeKinds as kind
 use Rattle.kernel_trees.specs.TypeKinds.{Kind, kind_of}
 use Rattle.kernel_trees.proofs.Trees.{Each, by_nodes, as_expr-roll}
-use Rattle.kernel_shapes.specs.Sized.{Extent, Sized, Sizing}
+use Rattle.kernel_shapes.specs.Sized.{Extent, Position, Sized, Sizing}
 use Rattle.kernel_shapes.specs.Trees.{SizedTree, tree_sizes, first_kind, sizings, kinds_of, sized_node, is_part, tree_sized}
 use Rattle.kernel_shapes.specs.Kernel.{operand_kinds, kind_or_truth, all_kinds, kinds_in, ker_sized}
 use Rattle.kernel_shapes.proofs.KernelLaw.{kinds-roll}
@@ -213,3 +213,15 @@ ker_sized-roll w x =
 -- the type of a tree
 pub first_of_kinds : (x : Ker-F Ker) → first_kind (kinds_in (roll-Ker x)) ≡ kind_or_truth (kind_of x.ty)
 first_of_kinds x = ap first_kind (kinds-roll x)
+
+pub ker-shape-roll : (w : ℕ) (x : Ker-F Ker) (g : Extent) → (ker_sized w (roll-Ker x) g).shape ≡ (node_sizing w x g).shape
+ker-shape-roll w x g = ap (λ (z : Sizing). (z g).shape) (ker_sized-roll w x)
+
+pub ker-counts-roll : (w : ℕ) (x : Ker-F Ker) (g : Extent) (q : Position) → (ker_sized w (roll-Ker x) g).counts q ≡ (node_sizing w x g).counts q
+ker-counts-roll w x g q = ap (λ (z : Sizing). (z g).counts q) (ker_sized-roll w x)
+
+pub ker-literal-roll : (w : ℕ) (x : Ker-F Ker) (g : Extent) → (ker_sized w (roll-Ker x) g).literal ≡ (node_sizing w x g).literal
+ker-literal-roll w x g = ap (λ (z : Sizing). (z g).literal) (ker_sized-roll w x)
+
+pub ker-beyond-roll : (w : ℕ) (x : Ker-F Ker) (g : Extent) → (ker_sized w (roll-Ker x) g).beyond ≡ (node_sizing w x g).beyond
+ker-beyond-roll w x g = ap (λ (z : Sizing). (z g).beyond) (ker_sized-roll w x)

@@ -33,3 +33,5 @@ pub mod Choices
 pub mod FormMembers
 pub mod FormLaw
 pub mod PathLaw
+pub mod LevelLaw
+pub mod KernelExamples

@@ -9,4 +9,7 @@ mod bounds;
 mod theorems;
 
 pub use bounds::{Bounds, Shape, Shapes, copy_shape};
-pub use theorems::{sound_trees_have_shapes_of_their_types, values_fit_their_shapes};
+pub use theorems::{
+    sound_trees_have_shapes_of_their_types, states_fit_the_shapes_of_their_levels,
+    values_fit_their_shapes,
+};

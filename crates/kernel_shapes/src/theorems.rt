@@ -2,23 +2,35 @@
 ghost use Rattle.std.specs.Prelude.{Bool, List, ℕ};
 ghost use Rattle.tla_meaning.specs.Scopes.{Scope};
 ghost use Rattle.tla_meaning.specs.declared.expr.Expr.{Expr};
+ghost use Rattle.tla_meaning.specs.declared.forms.SetForm.{SetForm};
 ghost use Rattle.tla_meaning.specs.declared.job.State.{State};
 ghost use Rattle.tla_values.specs.declared.value.Value.{Value};
+ghost use Rattle.kernel_trees.specs.Paths.{Marks};
 ghost use Rattle.kernel_trees.specs.Sound.{Context};
 ghost use Rattle.kernel_trees.specs.TypeKinds.{Kind};
 ghost use Rattle.kernel_trees.specs.declared.kernel.Ker.{Ker};
-ghost use Rattle.kernel_shapes.specs.Laws.{FitsItsShape, HasSoundShape, KernelFitsItsShape};
+ghost use Rattle.kernel_trees.specs.declared.system.System.{System};
+ghost use Rattle.kernel_shapes.specs.Laws.{FitsItsShape, FormFitsItsShape, HasSoundShape, KernelFitsItsShape, LevelsFit};
+ghost use Rattle.kernel_shapes.specs.Shape.{Shape};
 ghost use Rattle.kernel_shapes.specs.Sized.{Extent};
 
 /// Each value that an expression has under a width fits its shape, if bound names and states fit theirs: of an
 /// expanded tree whose names have shapes and which joins shapes of one kind alone; and of a sound kernel tree, if the
-/// names that it reads have shapes of their types.
+/// names that it reads have shapes of their types. So does what belongs to a form in which no infinite set stands: it
+/// fits the shape of the members.
 pub fn values_fit_their_shapes()
     ensures trees { (w : ℕ) (e : Expr) (ks : List Kind) (sc : Scope) (g : Extent) (s t : State) (v : Value) → FitsItsShape w e ks sc g s t v }
     ensures kernel { (w : ℕ) (names : List Kind) (k : Ker) (c : Context) (b : Bool) (sc : Scope) (g : Extent) (s t : State) (v : Value) → KernelFitsItsShape w names k c b sc g s t v }
+    ensures forms { (w : ℕ) (e : Expr) (ks : List Kind) (sc : Scope) (g : Extent) (s t : State) (f : SetForm) (v : Value) → FormFitsItsShape w e ks sc g s t f v }
 {}
 
 /// The shape of a sound kernel tree is of its type, if the names that it reads have shapes of their types.
 pub fn sound_trees_have_shapes_of_their_types()
     ensures { (w : ℕ) (names : List Kind) (k : Ker) (c : Context) (b : Bool) (g : Extent) (a : Kind) → HasSoundShape w names k c b g a }
+{}
+
+/// Where a state fits shapes of the types of its names, the state that a run along the paths of a system reaches n
+/// steps later fits the shapes of level n.
+pub fn states_fit_the_shapes_of_their_levels()
+    ensures { (w : ℕ) (sys : System) (names : List Kind) (m : Marks) (first : List Shape) (run : ℕ → State) (n : ℕ) → LevelsFit w sys names m first run n }
 {}
