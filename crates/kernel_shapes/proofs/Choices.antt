@@ -1,5 +1,5 @@
 -- Members of the sets that are made of sets: what has its parts in them is one of the members.
-use Rattle.std.proofs.Common.{◌≡◌, ℕ, suc, ◌+◌, ◌⊎◌, inl, inr, ⊎_elim, Bool, true, false, not, ◌&&◌, ◌||◌, IsTrue, List, [], ◌∷◌, ◌++◌, map, zip, length, Option, Some, None, option_map, ℤ, pos, is_some, refl, sym, ◌∙◌, ap, ap₂, subst, arith, if◌then◌else◌}
+use Rattle.std.proofs.Common.{◌≡◌, ℕ, suc, ◌+◌, ◌⊎◌, inl, inr, ⊎_elim, Bool, true, false, ◌&&◌, ◌||◌, IsTrue, List, [], ◌∷◌, ◌++◌, map, zip, length, Option, Some, None, option_map, pos, is_some, refl, sym, ◌∙◌, ap, ap₂, subst, arith, if◌then◌else◌}
 use Rattle.std.proofs.lemmas.Int.{ints}
 use Rattle.std.specs.List.{AllByRecursion, list_all, cons_option}
 use Rattle.std.specs.Ordering.{is_eq, ordering_reverse}
@@ -11,12 +11,12 @@ use Rattle.tla_values.specs.declared.value.Value.{Value, out-Value, roll-Value}
 use Rattle.tla_values.specs.declared.value.Value.TheVariants as value
 use Rattle.tla_values.specs.declared.value.Value.TheOpen as layer
 use Rattle.tla_values.specs.declared.value.Value.TheViews.{roll-out-Value}
-use Rattle.tla_values.proofs.Laws.{value_back, value_up}
+use Rattle.tla_values.proofs.Laws.{value_back}
 use Rattle.tla_values.proofs.TotalLemmas.{value_equal}
 use Rattle.tla_values.proofs.Extensional.{same_equal, same_itself}
 use Rattle.tla_values.proofs.SetLaws.{Rising, Above, higher, less_back}
 use Rattle.tla_values.proofs.FunLaws.{apply_domain, rising_function}
-use Rattle.tla_meaning.specs.Forms.{fields_at, has_fields, results, same_set}
+use Rattle.tla_meaning.specs.Forms.{fields_at, has_fields, results}
 use Rattle.tla_meaning.specs.Shapes.{with_each, choices, each_to, sublists, numbered, record_of, items_from, is_int}
 use Rattle.tla_meaning.proofs.Views.{and_left, and_right, false≢true}
 use Rattle.kernel_shapes.proofs.Records.{texts, apply_function}

@@ -16,7 +16,7 @@ use Rattle.tla_meaning.specs.Scopes.{Denotation}
 use Rattle.tla_meaning.specs.Meaning.{outcomes, child, choose, by_truth, conjoined, disjoined, implied, if_chosen, case_chosen}
 use Rattle.tla_meaning.proofs.Views.{and_left, and_right}
 use Rattle.kernel_shapes.specs.Shape.{Shape, Atom, Empty, join, join_all, alike, alike_all}
-use Rattle.kernel_shapes.specs.Rows.{nth, branches_of}
+use Rattle.kernel_shapes.specs.Rows.{branches_of}
 use Rattle.kernel_shapes.specs.Sized.{Sized, shapes_of, child_at, all_sound}
 use Rattle.kernel_shapes.specs.Fits.{FitsLayer, Fits, FitAll}
 use Rattle.kernel_shapes.proofs.FitLemmas.{IfVal, weaker, join_left}

@@ -1,16 +1,14 @@
 -- The numbers that count in small trees, by the position of a set, and the refusals that they make, by computing: at 32 bits.
-use Rattle.std.proofs.Common.{◌≡◌, ℕ, ◌+◌, ◌^◌, true, false, List, [], ◌∷◌, pos, Some, None, refl, ap}
-use Rattle.tla_meaning.specs.declared.expr.Expr.{Expr, roll-Expr, out-roll-Expr}
+use Rattle.std.proofs.Common.{◌≡◌, ℕ, ◌+◌, ◌^◌, true, false, List, [], ◌∷◌, Some, None, refl, ap}
+use Rattle.tla_meaning.specs.declared.expr.Expr.{Expr, out-roll-Expr}
 use Rattle.tla_meaning.specs.declared.op.Op.TheVariants as op
-use Rattle.kernel_trees.specs.TypeKinds as kind
-use Rattle.kernel_trees.specs.TypeKinds.{no_fields}
-use Rattle.kernel_shapes.specs.Shape.{Shape, Atom, Num, Set, Fun, Rec, Seq, Empty, shapes}
-use Rattle.kernel_shapes.specs.Counts.{Count, refusal}
-use Rattle.kernel_shapes.specs.Sized.{Position, walked, as_form, assigned_from, picked_from}
+use Rattle.kernel_shapes.specs.Shape.{Shape, Set, Fun, Rec, Seq, Empty, shapes}
+use Rattle.kernel_shapes.specs.Counts.{refusal}
+use Rattle.kernel_shapes.specs.Sized.{walked, as_form, assigned_from, picked_from}
 use Rattle.kernel_shapes.specs.Trees.{tree_sized}
 use Rattle.kernel_shapes.specs.Levels.{Parts, Equals, next_shapes, start_shapes, level_numbers}
 use Rattle.kernel_shapes.proofs.TreeLemmas.{size-roll, shape-roll, counts-roll, literal-roll, beyond-roll}
-use Rattle.kernel_shapes.proofs.ExampleTrees.{at, leaf, tree, binding, number, from_to, name, a, b, old, given, counts_in, members, places}
+use Rattle.kernel_shapes.proofs.ExampleTrees.{leaf, tree, binding, number, from_to, name, a, b, old, counts_in, members, places}
 
 -- ---- sets that are walked or not
 

@@ -3,7 +3,7 @@ use Rattle.std.proofs.Common.{◌≡◌, ℕ, suc, ◌+◌, ◌≤◌, Bool, tru
 use Rattle.std.specs.Int.{int_max, int_min}
 use Rattle.std.proofs.lemmas.Int.{ints, clamps}
 use Rattle.std.proofs.lemmas.List.{length-map}
-use Rattle.std.specs.List.{AllByRecursion, list_all}
+use Rattle.std.specs.List.{list_all}
 use Rattle.tla_values.specs.Order.{Layer, same_value}
 use Rattle.tla_values.specs.Sets.{arguments, member}
 use Rattle.tla_values.specs.declared.value.Value.{Value, out-Value}
@@ -20,11 +20,11 @@ use Rattle.tla_meaning.specs.Operators.{domain, on_function}
 use Rattle.tla_meaning.proofs.NormalShapes.{all_mapped}
 use Rattle.tla_meaning.proofs.Views.{and_left, and_right, false≢true}
 use Rattle.kernel_shapes.specs.Shape.{Shape, Atom, Num, Set, Fun, Rec, Tup, Seq, Empty, Shapes, no_shapes, more_shapes, count, inside, interval, moved, highest, lowest}
-use Rattle.kernel_shapes.specs.Rows.{Row, the_arguments, the_places, the_names, row_shape}
+use Rattle.kernel_shapes.specs.Rows.{the_arguments, the_places, the_names}
 use Rattle.kernel_shapes.specs.Sized.{Sized, shapes_of, index_of, row_joins, is_function, has_places, is_record}
 use Rattle.kernel_shapes.specs.Fits.{OfSome, FitsLayer, Fits, ItemsFit}
 use Rattle.kernel_shapes.proofs.FitLemmas.{IfVal, AllFit}
-use Rattle.kernel_shapes.proofs.Intervals.{Between, width_between}
+use Rattle.kernel_shapes.proofs.Intervals.{width_between}
 use Rattle.kernel_shapes.proofs.Operators.{fits_set}
 use Rattle.kernel_shapes.proofs.Combine.{MeetAll}
 use Rattle.kernel_shapes.proofs.Records.{texts}

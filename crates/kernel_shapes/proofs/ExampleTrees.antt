@@ -1,5 +1,5 @@
 -- Small trees for examples.
-use Rattle.std.proofs.Common.{ℕ, suc, Bool, true, false, List, [], ◌∷◌, map, ℤ, pos, neg_ℤ, Some}
+use Rattle.std.proofs.Common.{ℕ, suc, true, false, List, [], ◌∷◌, map, pos, neg_ℤ, Some}
 use Rattle.tla_meaning.specs.declared.expr.Expr.{Expr, roll-Expr}
 use Rattle.tla_meaning.specs.declared.place.Place.{Place}
 use Rattle.tla_meaning.specs.declared.op.Op.{Op}

@@ -1,5 +1,5 @@
 -- EXCEPT: each update to the result so far.
-use Rattle.std.proofs.Common.{◌≡◌, ℕ, suc, Bool, ◌&&◌, IsTrue, List, [], ◌∷◌, ◌++◌, length, take, drop, refl, ◌∙◌, ap}
+use Rattle.std.proofs.Common.{◌≡◌, ℕ, suc, Bool, ◌&&◌, IsTrue, List, [], ◌∷◌, ◌++◌, take, drop, refl, ◌∙◌, ap}
 use Rattle.tla_values.specs.declared.value.Value.{Value, out-Value}
 use Rattle.tla_meaning.specs.declared.place.Place.{Place}
 use Rattle.tla_meaning.specs.declared.job.State.{State}

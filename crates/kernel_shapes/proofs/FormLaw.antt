@@ -1,16 +1,15 @@
 -- The law of forms: what belongs to a finite form fits the shape of its members.
-use Rattle.std.proofs.Common.{◌≡◌, ℕ, suc, ◌≤◌, Bool, true, false, ◌&&◌, ◌||◌, IsTrue, List, [], ◌∷◌, map, take, length, Option, Some, None, option_map, refl, sym, ◌∙◌, ap, ap₂, subst, if◌then◌else◌}
+use Rattle.std.proofs.Common.{◌≡◌, ℕ, ◌≤◌, Bool, true, false, ◌&&◌, ◌||◌, IsTrue, List, [], ◌∷◌, map, length, Option, Some, None, option_map, refl, sym, ◌∙◌, ap, ap₂, subst, if◌then◌else◌}
 use Rattle.std.specs.Prelude.{option_and_then}
 use Rattle.std.specs.List.{AllByRecursion, list_all}
 use Rattle.tla_values.specs.Order.{Layer, same_value}
 use Rattle.tla_values.specs.Sets.{Normal, member, set_of}
-use Rattle.tla_values.specs.declared.value.Value.{Value, out-Value}
+use Rattle.tla_values.specs.declared.value.Value.{Value}
 use Rattle.tla_values.specs.declared.value.Value.TheVariants as value
-use Rattle.tla_values.specs.declared.value.Value.TheOpen as layer
 use Rattle.tla_values.proofs.Extensional.{same_equal}
 use Rattle.tla_meaning.specs.declared.expr.Expr.{Expr, roll-Expr}
 use Rattle.tla_meaning.specs.declared.expr.Expr.TheOpen.{Expr-F}
-use Rattle.tla_meaning.specs.declared.expr.Expr.TheFolds.{fold-roll-Expr, map-Expr}
+use Rattle.tla_meaning.specs.declared.expr.Expr.TheFolds.{fold-roll-Expr}
 use Rattle.tla_meaning.specs.declared.forms.SetForm.{SetForm}
 use Rattle.tla_meaning.specs.declared.forms.SetForm.TheVariants as form
 use Rattle.tla_meaning.specs.declared.job.State.{State}
@@ -29,13 +28,12 @@ use Rattle.tla_meaning.specs.Operators.{table, on_all_sets}
 use Rattle.tla_meaning.specs.Scopes.{Scope, Denotation, absent}
 use Rattle.tla_meaning.specs.Shapes.{set_items, all_set_items, records, tuples, record_of, sequence, choices}
 use Rattle.tla_meaning.specs.Meaning.{Meaning, View, outcomes, forms, child, role, outer, view, plain, value_of, form_of, form_of_one, form_of_all, functions_from, function_form, layer_of}
-use Rattle.tla_meaning.specs.Actions.{meaning, node, denotation_of}
+use Rattle.tla_meaning.specs.Actions.{meaning, denotation_of}
 use Rattle.tla_meaning.proofs.MeaningLemmas.{meaning-roll}
 use Rattle.tla_meaning.proofs.NormalLaw.{NormalDef, NormalScope, meaning_normal}
-use Rattle.tla_meaning.proofs.NormalNodes.{Good, NormalDenotation}
-use Rattle.tla_meaning.proofs.Views.{and_left, and_right, and_both, false≢true}
+use Rattle.tla_meaning.proofs.Views.{and_left, and_right, false≢true}
 use Rattle.kernel_shapes.specs.FiniteForms.{is_finite_at, is_finite_form}
-use Rattle.kernel_shapes.proofs.FormMembers.{HasAll, HaveAll, records_have, tuples_have, MembersOf, HasMembers, MembersIf, same_made, broken, plain_members, rises, subset_members, function_members}
+use Rattle.kernel_shapes.proofs.FormMembers.{HasAll, HaveAll, records_have, tuples_have, MembersOf, HasMembers, same_made, broken, plain_members, subset_members, function_members}
 use Rattle.kernel_trees.specs.TypeKinds.{Kind}
 use Rattle.kernel_shapes.specs.Shape.{Shape, inside}
 use Rattle.kernel_shapes.specs.Fits.{FitsLayer, Fits}

@@ -1,6 +1,5 @@
 -- What belongs to a finite form is a member of its value, for values that are normal.
-use Rattle.std.proofs.Common.{◌≡◌, ℕ, zero, suc, Bool, true, false, ◌&&◌, IsTrue, List, [], ◌∷◌, map, length, zip, Option, Some, None, refl, sym, ◌∙◌, ap, ap₂, subst, if◌then◌else◌}
-use Rattle.std.specs.Prelude.{option_and_then}
+use Rattle.std.proofs.Common.{◌≡◌, ℕ, Bool, true, false, ◌&&◌, IsTrue, List, [], ◌∷◌, map, length, zip, Option, Some, None, refl, sym, ◌∙◌, ap, ap₂, subst, if◌then◌else◌}
 use Rattle.std.specs.List.{AllByRecursion, list_all, cons_option}
 use Rattle.tla_values.specs.Order.{Layer}
 use Rattle.tla_values.specs.Sets.{Normal, apply, arguments, member, set_of, subset}
@@ -12,7 +11,6 @@ use Rattle.tla_values.proofs.Extensional as ext
 use Rattle.tla_values.proofs.Extensional.{member-set_of, same_members}
 use Rattle.tla_values.proofs.NormalLemmas.{fun_order, fun_pairs, set_order}
 use Rattle.tla_values.proofs.SetLaws.{Rising, rising_from, set_of-rising}
-use Rattle.tla_meaning.specs.declared.expr.Expr.{Expr, roll-Expr}
 use Rattle.tla_meaning.specs.declared.forms.SetForm.{SetForm, out-SetForm}
 use Rattle.tla_meaning.specs.declared.forms.SetForm.TheVariants as form
 use Rattle.tla_meaning.specs.declared.forms.SetForm.TheOpen as layers
@@ -29,13 +27,13 @@ use Rattle.tla_meaning.specs.Numbers.{Width}
 use Rattle.tla_meaning.specs.Operators.{table, on_set, on_sets}
 use Rattle.tla_meaning.specs.Scopes.{Denotation}
 use Rattle.tla_meaning.specs.Meaning.{plain, form_of_one, functions_from, function_form}
-use Rattle.tla_meaning.specs.Forms.{Formed, Made, Broken, is_set, is_plain_set, is_set_form, part_belongs, belongs, set_passes, function_passes, passes, each_passes, same_set, results, has_fields, fields_at, all_belong}
-use Rattle.tla_meaning.specs.Shapes.{items_of, set_items, subsets, functions, records, tuples, sequence, record_of, choices, each_to, sublists}
+use Rattle.tla_meaning.specs.Forms.{Formed, Made, Broken, is_set, is_plain_set, is_set_form, part_belongs, belongs, set_passes, function_passes, passes, same_set, results, has_fields, fields_at, all_belong}
+use Rattle.tla_meaning.specs.Shapes.{items_of, set_items, subsets, functions, sequence, record_of, choices, each_to, sublists}
 use Rattle.tla_meaning.proofs.MeaningLemmas.{belongs-out}
 use Rattle.tla_meaning.proofs.NormalShapes.{NormalLayer, NormalSet, NormalPairs, IfSomes, layer_normal, apply_normal, items_normal}
 use Rattle.tla_meaning.proofs.Laws.{none≢some}
 use Rattle.tla_meaning.proofs.Views.{and_left, and_right, and_both, false≢true}
-use Rattle.kernel_shapes.proofs.Choices.{OneOf, is_member, sublist_there, each_there, AllIn, InSets, choice_there, made_member, zip_back, as_many_results, items_back, record_back}
+use Rattle.kernel_shapes.proofs.Choices.{OneOf, sublist_there, each_there, AllIn, InSets, choice_there, made_member, zip_back, as_many_results, items_back, record_back}
 
 -- ---- what belongs, by the kind of the form
 

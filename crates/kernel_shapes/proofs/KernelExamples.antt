@@ -1,5 +1,5 @@
 -- Shapes and numbers of small kernel trees, by computing: at 32 bits.
-use Rattle.std.proofs.Common.{◌≡◌, ℕ, ◌+◌, false, List, [], ◌∷◌, pos}
+use Rattle.std.proofs.Common.{◌≡◌, ℕ, false, List, [], ◌∷◌, pos}
 use Rattle.tla_values.specs.declared.value.Value.TheVariants as value
 use Rattle.tla_meaning.specs.declared.expr.Expr.{out-roll-Expr}
 use Rattle.snowcat_rows.specs.declared.types.Ty.{Ty}
@@ -7,7 +7,7 @@ use Rattle.kernel_trees.specs.declared.kernel.Ker.{Ker, roll-Ker}
 use Rattle.kernel_trees.specs.declared.kernel.KerOp.{KerOp}
 use Rattle.kernel_trees.specs.declared.kernel.KerOp.TheVariants as ker
 use Rattle.kernel_trees.proofs.Trees.{as_expr-roll}
-use Rattle.kernel_shapes.specs.Shape.{Shape, Atom, Num, Set, Fun, Rec, Tup, Seq, Empty, shapes}
+use Rattle.kernel_shapes.specs.Shape.{Shape, Atom, Set, Fun, Rec, Tup, shapes}
 use Rattle.kernel_shapes.specs.Counts.{Count}
 use Rattle.kernel_shapes.specs.Kernel.{ker_sized, ker_shape}
 use Rattle.kernel_shapes.specs.Sized.{Position, walked, picked_from}

@@ -1,12 +1,12 @@
 -- The equations of the types in kernel trees, and the law of shapes for kernel trees.
-use Rattle.std.proofs.Common.{◌≡◌, ℕ, zero, suc, ◌≤◌, Bool, true, ◌&&◌, IsTrue, List, [], ◌∷◌, ◌++◌, map, take, Some, refl, sym, subst}
+use Rattle.std.proofs.Common.{◌≡◌, ℕ, zero, suc, Bool, true, ◌&&◌, IsTrue, List, [], ◌∷◌, ◌++◌, map, take, refl, sym, subst}
 use Rattle.std.specs.List.{list_all}
 use Rattle.tla_values.specs.Order.{Layer}
 use Rattle.tla_values.specs.declared.value.Value.{Value, out-Value}
 use Rattle.tla_values.specs.declared.value.Value.TheOpen as layer
 use Rattle.tla_meaning.specs.declared.expr.Expr.{Expr, roll-Expr}
 use Rattle.tla_meaning.specs.declared.expr.Expr.TheOpen.{Expr-F}
-use Rattle.tla_meaning.specs.declared.expr.Expr.TheFolds.{fold-roll-Expr, map-Expr}
+use Rattle.tla_meaning.specs.declared.expr.Expr.TheFolds.{fold-roll-Expr}
 use Rattle.tla_meaning.specs.declared.job.State.{State}
 use Rattle.tla_meaning.specs.declared.place.Place.{Place}
 use Rattle.tla_meaning.specs.Expanded.{is_expanded_op, is_expanded}
@@ -17,7 +17,7 @@ use Rattle.kernel_trees.specs.declared.kernel.Ker.TheOpen.{Ker-F}
 use Rattle.kernel_trees.specs.declared.kernel.Ker.TheFolds.{fold-roll-Ker, map-Ker}
 use Rattle.kernel_trees.specs.declared.kernel.KerOp.{KerOp}
 use Rattle.kernel_trees.specs.declared.kernel.KerOp.TheVariants as ker
-use Rattle.kernel_trees.specs.Trees.{as_expr, expr_of, op_of, operands, constant, literal}
+use Rattle.kernel_trees.specs.Trees.{as_expr, op_of, operands, constant, literal}
 use Rattle.kernel_trees.specs.TypeKinds.{Kind}
 use Rattle.kernel_trees.proofs.Trees.{Each, by_nodes, as_expr-roll}
 use Rattle.kernel_shapes.specs.Kernel.{kinds_in, node_kinds}

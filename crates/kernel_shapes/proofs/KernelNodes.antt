@@ -1,7 +1,7 @@
 -- What is computed of a kernel node, by what is computed of its children.
-use Rattle.std.proofs.Common.{◌≡◌, ℕ, zero, suc, ◌+◌, Bool, List, [], ◌∷◌, ◌++◌, map, take, drop, length, pos, refl, sym, ◌∙◌, ap, ap₂, subst, arith}
+use Rattle.std.proofs.Common.{◌≡◌, ℕ, zero, suc, ◌+◌, Bool, List, [], ◌∷◌, ◌++◌, map, take, drop, length, refl, sym, ◌∙◌, ap, ap₂, subst, arith}
 use Rattle.std.proofs.lemmas.List.{length-append}
-use Rattle.tla_meaning.specs.declared.expr.Expr.{Expr, roll-Expr}
+use Rattle.tla_meaning.specs.declared.expr.Expr.{Expr}
 use Rattle.tla_meaning.specs.declared.expr.Expr.TheOpen.{Expr-F}
 use Rattle.tla_meaning.specs.declared.place.Place.{Place}
 use Rattle.kernel_trees.specs.declared.kernel.Ker.{Ker, roll-Ker}
@@ -12,7 +12,7 @@ use Rattle.kernel_trees.specs.Trees.{as_expr, op_of, operands, names_of, literal
 use Rattle.kernel_trees.specs.TypeKinds as kind
 use Rattle.kernel_trees.specs.TypeKinds.{Kind, kind_of}
 use Rattle.kernel_trees.proofs.Trees.{Each, by_nodes, as_expr-roll}
-use Rattle.kernel_shapes.specs.Sized.{Extent, Position, Sized, Sizing}
+use Rattle.kernel_shapes.specs.Sized.{Extent, Position, Sizing}
 use Rattle.kernel_shapes.specs.Trees.{SizedTree, tree_sizes, first_kind, sizings, kinds_of, sized_node, is_part, tree_sized}
 use Rattle.kernel_shapes.specs.Kernel.{operand_kinds, kind_or_truth, all_kinds, kinds_in, ker_sized}
 use Rattle.kernel_shapes.proofs.KernelLaw.{kinds-roll}

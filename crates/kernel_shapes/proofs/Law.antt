@@ -1,9 +1,8 @@
 -- The law of shapes: each value that an expression has under a width fits its shape.
-use Rattle.std.proofs.Common.{◌≡◌, ℕ, zero, suc, Bool, true, false, ◌&&◌, IsTrue, List, [], ◌∷◌, ◌++◌, map, zip, not, ◌≤◌, length, take, drop, nat_eq, Option, Some, None, ℤ, refl, sym, ◌∙◌, ap, subst, if◌then◌else◌, arith}
+use Rattle.std.proofs.Common.{◌≡◌, ℕ, zero, suc, Bool, true, false, ◌&&◌, IsTrue, List, [], ◌∷◌, ◌++◌, map, zip, not, ◌≤◌, length, take, drop, nat_eq, Option, Some, None, ℤ, refl, sym, ap, subst, if◌then◌else◌, arith}
 use Rattle.std.specs.Prelude.{slice_get, option_and_then, is_some}
 use Rattle.std.specs.List.{list_all}
 use Rattle.std.proofs.lemmas.Int.{ints}
-use Rattle.std.proofs.lemmas.List.{length-map}
 use Rattle.tla_values.specs.declared.value.Value.{Value, out-Value}
 use Rattle.tla_values.specs.declared.value.Value.TheVariants as value
 use Rattle.tla_meaning.specs.declared.expr.Expr.{Expr, roll-Expr}
@@ -25,7 +24,7 @@ use Rattle.tla_meaning.specs.declared.forms.SetForm.{SetForm}
 use Rattle.tla_meaning.specs.Scopes.{Scope, bind, bound_to, find_last, or_else, same_text, value_found}
 use Rattle.tla_meaning.specs.Meaning.{Meaning, View, outcomes, forms, role, outer, inner, view, value_of, in_form, all_in, argument, bound_table}
 use Rattle.tla_meaning.specs.Shapes.{set_items, choices, the_set, the_function}
-use Rattle.tla_meaning.specs.Actions.{node, meaning, denotation_of, val}
+use Rattle.tla_meaning.specs.Actions.{node, meaning, denotation_of}
 use Rattle.tla_meaning.proofs.MeaningLemmas.{meaning-roll}
 use Rattle.kernel_shapes.proofs.TreeLemmas.{Each, by_nodes, parts_of, tree-roll}
 use Rattle.tla_meaning.proofs.Views.{and_left, and_right, false≢true}
@@ -35,7 +34,7 @@ use Rattle.kernel_shapes.specs.Laws.{FitsItsShape, Ready}
 use Rattle.kernel_trees.specs.TypeKinds as kind
 use Rattle.kernel_trees.specs.TypeKinds.{Kind}
 use Rattle.kernel_shapes.specs.Rows.{Literal, no_literal, Row, the_tuples, the_records, a_power, a_merge, a_record, the_arguments, the_places, the_names, a_truth, a_sum, a_difference, a_product, a_negation, a_quotient, a_remainder, a_size, an_enumeration, a_range, a_union, a_part, the_truths, an_application, a_field, a_big_union, a_single, a_length, a_head, a_shorter, an_append, a_concatenation, a_sequence, a_tuple, a_map, a_function, row_shape, product_of, nth, but_last, last_of, argument_of}
-use Rattle.kernel_shapes.specs.Sized.{Extent, Sized, plain, Sizing, no_size, Seen, found, bound_shapes, bind_shapes, outside, underneath, seen, shapes_of, child_at, body, all_sound, family_sound, row_joins, index_of, sized, is_sequence, is_sequence}
+use Rattle.kernel_shapes.specs.Sized.{Extent, Sized, plain, Sizing, Seen, found, bound_shapes, bind_shapes, outside, underneath, seen, shapes_of, child_at, body, all_sound, family_sound, row_joins, index_of, sized, is_sequence, is_sequence}
 use Rattle.kernel_shapes.specs.Trees.{SizedTree, tree_sized, family_with, domain_row, exponent, read_shape, marks_of, sizings, kinds_of, first_kind, sized_node}
 use Rattle.tla_meaning.specs.Expanded.{is_expanded_op, is_expanded}
 use Rattle.kernel_shapes.proofs.FitLemmas.{IfVal, AllFit, IsSet, is_set, weaker}

@@ -1,28 +1,26 @@
 -- The law of shapes from level to level.
-use Rattle.std.proofs.Common.{◌≡◌, ℕ, zero, suc, ◌<◌, ◌≤◌, ◌⊎◌, inl, inr, Bool, true, false, not, ◌&&◌, IsTrue, List, [], ◌∷◌, map, length, Option, Some, None, refl, sym, ◌∙◌, ap, subst, arith, if◌then◌else◌}
+use Rattle.std.proofs.Common.{◌≡◌, ℕ, zero, suc, ◌<◌, ◌≤◌, inl, inr, Bool, true, false, not, IsTrue, List, [], ◌∷◌, map, length, Option, Some, None, refl, sym, ◌∙◌, ap, subst, arith}
 use Rattle.std.specs.Prelude.{slice_get, option_and_then, is_some, nat_lt}
 use Rattle.std.specs.List.{AllByRecursion, list_all}
 use Rattle.tla_values.specs.Sets.{Normal}
 use Rattle.tla_values.specs.declared.value.Value.{Value, out-Value}
 use Rattle.tla_meaning.specs.declared.job.State.{State}
-use Rattle.tla_meaning.proofs.Laws.{none≢some}
 use Rattle.tla_meaning.proofs.Views.{and_left, and_right, and_both, false≢true}
 use Rattle.kernel_trees.specs.declared.path.Assigned.{Assigned}
-use Rattle.kernel_trees.specs.declared.path.AssignedStep.{AssignedStep}
 use Rattle.kernel_trees.specs.declared.system.System.{System}
 use Rattle.kernel_trees.specs.Assignments.{AssignedHolds, is_in, lacks, reads_late}
 use Rattle.kernel_trees.specs.Paths.{Marks}
 use Rattle.kernel_trees.specs.Picks.{IsOneOf}
 use Rattle.kernel_trees.specs.Sound.{sound_assigned}
 use Rattle.kernel_trees.specs.TypeKinds.{Kind}
-use Rattle.kernel_shapes.specs.Shape.{Shape, join, alike}
+use Rattle.kernel_shapes.specs.Shape.{Shape}
 use Rattle.kernel_shapes.specs.Fits.{Fits, FitAll, StateFits}
-use Rattle.kernel_shapes.specs.Laws.{PathsAre, LevelsFit, Ready, IsNormal}
+use Rattle.kernel_shapes.specs.Laws.{PathsAre, LevelsFit}
 use Rattle.kernel_shapes.specs.Levels.{in_next, after_path, after_paths, kept_constants, from_state, join_each, shapes_at}
 use Rattle.kernel_shapes.specs.Sized.{Extent, found}
 use Rattle.kernel_shapes.specs.Systems.{ConstantsKept, Follows, IsStep, MarksVariables, no_scope, sized_path, sized_paths, system_parts}
-use Rattle.kernel_shapes.specs.TypedExtents.{NamesOfKinds, without_shape}
-use Rattle.kernel_shapes.specs.TypedStates.{EachOfKind, OfKind}
+use Rattle.kernel_shapes.specs.TypedExtents.{NamesOfKinds}
+use Rattle.kernel_shapes.specs.TypedStates.{EachOfKind}
 use Rattle.kernel_shapes.proofs.FitLemmas.{join_left}
 use Rattle.kernel_shapes.proofs.JoinRight.{join_right}
 use Rattle.kernel_shapes.proofs.KindLaw.{join_kind, kinds_alike, empty_kind}

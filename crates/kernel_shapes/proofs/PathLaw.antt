@@ -1,5 +1,5 @@
 -- The law of shapes along a path of the step: where the states fit at its start, they fit at its end.
-use Rattle.std.proofs.Common.{◌≡◌, ℕ, zero, suc, ◌≤◌, Bool, true, false, not, ◌&&◌, ◌||◌, nat_eq, ◌⊎◌, inl, inr, IsTrue, List, [], ◌∷◌, ◌++◌, map, zip, take, length, Option, Some, None, option_map, refl, sym, ◌∙◌, ap, ap₂, subst, arith, if◌then◌else◌}
+use Rattle.std.proofs.Common.{◌≡◌, ℕ, zero, suc, ◌≤◌, Bool, true, false, not, ◌&&◌, ◌||◌, nat_eq, inl, inr, IsTrue, List, [], ◌∷◌, ◌++◌, map, zip, take, length, Option, Some, None, option_map, refl, sym, ◌∙◌, ap, ap₂, subst, arith}
 use Rattle.std.specs.Prelude.{slice_get, option_and_then, is_some, flat_map, nat_lt}
 use Rattle.std.specs.List.{AllByRecursion, list_all, list_any}
 use Rattle.tla_values.specs.Order.{Layer, same_value}
@@ -23,13 +23,12 @@ use Rattle.tla_meaning.proofs.NormalLaw.{NormalDef, NormalScope, meaning_normal}
 use Rattle.tla_meaning.proofs.NormalShapes.{all_plus, truth_normal}
 use Rattle.tla_meaning.proofs.Views.{and_left, and_right, and_both, false≢true}
 use Rattle.tla_meaning.specs.Scopes.{Denotation}
-use Rattle.kernel_trees.specs.declared.kernel.Ker.{Ker, roll-Ker}
-use Rattle.kernel_trees.specs.declared.kernel.Ker.TheOpen.{Ker-F}
+use Rattle.kernel_trees.specs.declared.kernel.Ker.{Ker}
 use Rattle.kernel_trees.specs.declared.kernel.KerOp.{KerOp}
 use Rattle.kernel_trees.specs.declared.kernel.KerOp.TheVariants as ker
 use Rattle.kernel_trees.specs.declared.path.AssignedStep.{AssignedStep}
 use Rattle.kernel_trees.specs.declared.path.AssignedStep.TheVariants as mark
-use Rattle.kernel_trees.specs.Assignments.{AssignedHolds, Has, HasMember, assigned_by, is_in, open_names, reads_late}
+use Rattle.kernel_trees.specs.Assignments.{AssignedHolds, Has, assigned_by, is_in, open_names, reads_late}
 use Rattle.kernel_trees.specs.Paths.{Marks, mentions, mentions_at, names_below, own_below, numbers, sets}
 use Rattle.kernel_trees.specs.Picks.{AreIn, IsOneOf, Picked, picking, set_outcomes}
 use Rattle.kernel_trees.specs.Sound.{Context, infinite_at, infinite_places, is_finite, is_nil, kind_at, passes, picked_kinds, sound, sound_assigned, sound_guard, sound_pick}
@@ -46,14 +45,13 @@ use Rattle.kernel_trees.proofs.SoundNames.{sound_below}
 use Rattle.kernel_trees.proofs.SoundRows.{found, sets_of}
 use Rattle.kernel_trees.proofs.Trees.{Each, as_expr-roll, by_nodes, mentions-roll}
 use Rattle.kernel_shapes.specs.Shape.{Shape, inside}
-use Rattle.kernel_shapes.specs.Fits.{BoundFit, Fits, FitAll, StateFits}
+use Rattle.kernel_shapes.specs.Fits.{Fits, FitAll, StateFits}
 use Rattle.kernel_shapes.specs.Kernel.{kinds_in, ker_sized, ker_shape}
 use Rattle.kernel_shapes.specs.Laws.{IsNormal, Ready}
 use Rattle.kernel_shapes.specs.Levels.{in_next, put, assign, after_path, picked_shapes, picked_names}
 use Rattle.kernel_shapes.specs.Sized.{Extent, Sizing, bind_shapes}
-use Rattle.kernel_shapes.specs.Sized as sized
 use Rattle.kernel_shapes.specs.Systems.{sized_path}
-use Rattle.kernel_shapes.specs.TypedExtents.{NamesOfKinds, BoundOfKinds, OfTypes, without_shape}
+use Rattle.kernel_shapes.specs.TypedExtents.{NamesOfKinds, OfTypes, without_shape}
 use Rattle.kernel_shapes.specs.TypedStates.{EachOfKind, OfKind}
 use Rattle.kernel_shapes.proofs.FormLaw.{finite-roll, form_fits, member_of_fitting}
 use Rattle.kernel_shapes.proofs.KernelLaw.{tree_expanded, each_kernel_value_fits}

@@ -1,5 +1,5 @@
 -- Records, and sets of records and of tuples that are walked.
-use Rattle.std.proofs.Common.{◌≡◌, ℕ, suc, ◌+◌, ◌≤◌, Bool, true, false, not, ◌&&◌, ◌||◌, IsTrue, List, [], ◌∷◌, map, zip, length, nat_eq, Option, Some, None, refl, sym, ◌∙◌, ap, subst, arith, is_some, if◌then◌else◌}
+use Rattle.std.proofs.Common.{◌≡◌, ℕ, suc, Bool, true, false, not, ◌&&◌, ◌||◌, IsTrue, List, [], ◌∷◌, map, zip, length, nat_eq, Option, Some, None, refl, sym, ◌∙◌, ap, subst, arith, is_some, if◌then◌else◌}
 use Rattle.std.proofs.lemmas.List.{length-map}
 use Rattle.std.specs.List.{AllByRecursion, list_all, list_any}
 use Rattle.std.specs.Ordering.{is_eq, is_lt}
@@ -16,13 +16,12 @@ use Rattle.tla_values.proofs.FunLaws.{all_function, apply_domain}
 use Rattle.tla_values.proofs.Extensional.{same_equal, same_itself}
 use Rattle.tla_meaning.specs.declared.op.Op.TheVariants as op
 use Rattle.tla_meaning.specs.declared.place.Place.{Place}
-use Rattle.tla_meaning.specs.Forms.{has_fields, same_set}
 use Rattle.tla_meaning.specs.Scopes.{same_text}
-use Rattle.tla_meaning.specs.Shapes.{choices, record_of, records, tuples, sequence}
+use Rattle.tla_meaning.specs.Shapes.{choices, record_of, sequence}
 use Rattle.tla_meaning.specs.Operators.{table}
 use Rattle.tla_meaning.proofs.NormalShapes.{all_mapped}
 use Rattle.tla_meaning.proofs.Views.{and_left, and_right, and_both, false≢true}
-use Rattle.kernel_shapes.specs.Shape.{Shape, Set, Rec, Tup, shapes}
+use Rattle.kernel_shapes.specs.Shape.{Shape, Set, Tup, shapes}
 use Rattle.kernel_shapes.specs.Rows.{no_literal, a_record, the_records, the_tuples, insides, product_of, put_field, in_order, record_shape, row_shape}
 use Rattle.kernel_shapes.specs.Sized.{Sized, shapes_of, index_of, row_joins, names_differ, is_record_of}
 use Rattle.kernel_shapes.specs.Fits.{OfSome, FitsLayer, Fits, FitAll, FieldsFit}

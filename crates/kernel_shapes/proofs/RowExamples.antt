@@ -1,13 +1,12 @@
 -- One example or more for each row of the table of shapes, by computing: at 8 bits, so from -128 to 127.
-use Rattle.std.proofs.Common.{◌≡◌, ℕ, true, false, List, [], ◌∷◌, pos, neg_ℤ, refl}
+use Rattle.std.proofs.Common.{◌≡◌, true, false, [], ◌∷◌}
 use Rattle.tla_meaning.specs.declared.expr.Expr.{Expr}
 use Rattle.tla_meaning.specs.declared.op.Op.TheVariants as op
 use Rattle.kernel_trees.specs.TypeKinds as kind
 use Rattle.kernel_trees.specs.TypeKinds.{no_kinds, no_fields}
-use Rattle.kernel_shapes.specs.Shape.{Shape, Atom, Num, Set, Fun, Rec, Tup, Seq, Empty, shapes}
-use Rattle.kernel_shapes.specs.Trees.{shape_of_tree}
+use Rattle.kernel_shapes.specs.Shape.{Atom, Set, Fun, Rec, Tup, Seq, Empty, shapes}
 use Rattle.kernel_shapes.proofs.TreeLemmas.{size-roll, shape-roll, literal-roll}
-use Rattle.kernel_shapes.proofs.ExampleTrees.{leaf, tree, binding, number, from_to, from_minus, name, a, b, old, given, names, of_types, shape, shape_in}
+use Rattle.kernel_shapes.proofs.ExampleTrees.{leaf, tree, binding, number, from_to, from_minus, name, a, b, old, of_types, shape, shape_in}
 
 -- ---- literals
 

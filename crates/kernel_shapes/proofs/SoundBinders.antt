@@ -1,5 +1,5 @@
 -- Nodes that bind numbers: where their parts are of their types and sound, so is the node.
-use Rattle.std.proofs.Common.{◌≡◌, ℕ, zero, suc, Bool, true, false, not, ◌&&◌, ◌||◌, nat_eq, IsTrue, List, [], ◌∷◌, ◌++◌, map, zip, take, replicate, length, Option, Some, None, ℤ, pos, refl, sym, ◌∙◌, ap, subst, arith, if◌then◌else◌}
+use Rattle.std.proofs.Common.{◌≡◌, ℕ, zero, suc, Bool, true, false, not, ◌&&◌, ◌||◌, nat_eq, IsTrue, List, [], ◌∷◌, ◌++◌, map, take, replicate, length, Some, None, pos, refl, sym, ◌∙◌, ap, subst, arith, if◌then◌else◌}
 use Rattle.std.specs.List.{list_any}
 use Rattle.tla_values.specs.Order.{Layer}
 use Rattle.tla_values.specs.declared.value.Value.{Value}
@@ -14,8 +14,8 @@ use Rattle.kernel_trees.specs.Sound.{argument_kind, updated_kind}
 use Rattle.kernel_trees.specs.TypeKinds as kind
 use Rattle.kernel_trees.specs.TypeKinds.{Kind, Kinds, Fields, no_kinds, more_kinds, no_fields, more_fields, item_kind, field_kind, same}
 use Rattle.kernel_trees.proofs.SoundRows.{BinderRow, row_some, row_every, row_filter, row_map, row_function}
-use Rattle.kernel_shapes.specs.Shape.{Shape, Atom, Num, Set, Fun, Rec, Tup, Seq, Empty, Shapes, no_shapes, more_shapes, item, field, count, inside, join, alike}
-use Rattle.kernel_shapes.specs.Rows.{Literal, no_literal, row_shape, number, text, Row, a_truth, a_part, a_map, a_function, nth, insides, argument_of, but_last, last_of, applied_at, item_changed, field_changed, joined_at, reached_by}
+use Rattle.kernel_shapes.specs.Shape.{Shape, Fun, Rec, Tup, Seq, Empty, Shapes, no_shapes, more_shapes, join, alike}
+use Rattle.kernel_shapes.specs.Rows.{Literal, no_literal, row_shape, number, text, Row, a_truth, a_part, a_map, a_function, nth, insides, argument_of, applied_at, item_changed, field_changed, joined_at, reached_by}
 use Rattle.kernel_shapes.specs.Sized.{Extent, Sized, Sizing, Seen, no_size, outside, underneath, shapes_of, all_sound, body, step, steps_sound, binder, sized, names_differ, is_once, goes_through}
 use Rattle.kernel_shapes.specs.TypedStates.{EachOfKind, OfKind, OfKinds, OfFields, names_of_fields}
 use Rattle.kernel_shapes.proofs.JoinRight.{text_is}

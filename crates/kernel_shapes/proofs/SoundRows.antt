@@ -1,5 +1,5 @@
 -- The rows of the table of types: where the operands are of their types and sound, so is the node.
-use Rattle.std.proofs.Common.{◌≡◌, ℕ, zero, suc, ◌^◌, Bool, true, false, ◌&&◌, ◌||◌, nat_eq, IsTrue, List, [], ◌∷◌, ◌++◌, map, zip, length, Option, Some, None, ℤ, pos, ◌+ℤ◌, ◌-ℤ◌, ◌*ℤ◌, refl, sym, ◌∙◌, ap, subst, arith, if◌then◌else◌}
+use Rattle.std.proofs.Common.{◌≡◌, ℕ, zero, suc, Bool, true, false, ◌&&◌, ◌||◌, nat_eq, IsTrue, List, [], ◌∷◌, map, zip, length, Some, None, ℤ, pos, ◌+ℤ◌, ◌-ℤ◌, ◌*ℤ◌, refl, sym, ◌∙◌, ap, subst, arith, if◌then◌else◌}
 use Rattle.std.specs.List.{list_any}
 use Rattle.tla_values.specs.Order.{Layer}
 use Rattle.tla_values.specs.declared.value.Value.{Value, out-Value}
@@ -7,7 +7,7 @@ use Rattle.tla_values.specs.declared.value.Value.TheOpen as layer
 use Rattle.tla_meaning.specs.declared.place.Place.{Place}
 use Rattle.tla_meaning.specs.Scopes.{same_text}
 use Rattle.tla_meaning.proofs.Laws.{none≢some}
-use Rattle.tla_meaning.proofs.Views.{and_left, and_right, and_both, false≢true}
+use Rattle.tla_meaning.proofs.Views.{and_both, false≢true}
 use Rattle.kernel_trees.specs.declared.kernel.KerOp.{KerOp}
 use Rattle.kernel_trees.specs.declared.kernel.KerOp.TheVariants as ker
 use Rattle.kernel_trees.specs.Sound.{is_literal}
@@ -15,9 +15,9 @@ use Rattle.kernel_trees.specs.Trees.{op_of, constant}
 use Rattle.kernel_trees.specs.TypeKinds as kind
 use Rattle.kernel_trees.specs.TypeKinds.{Kind, Kinds, Fields, no_kinds, more_kinds, no_fields, more_fields, item_kind, field_kind, fields}
 use Rattle.kernel_trees.proofs.SoundRows.{AreAll, Row, row_const, row_and, row_or, row_not, row_if, row_equal, row_less, row_plus, row_minus, row_times, row_quotient, row_remainder, row_set, row_member, row_included, row_flatten, row_union, row_inter, row_without, row_range, row_subsets, row_functions, row_count, row_at, row_at_number, row_domain, row_domain_sequence, row_domain_tuple, row_domain_record, row_join, row_tuple, row_item, row_record, row_field, row_sequence, row_length, row_push, row_first, row_rest, row_slice, row_glue, row_nocase, row_ints, row_nats, row_texts, row_sequences, row_tuples, row_records}
-use Rattle.kernel_shapes.specs.Shape.{Shape, Atom, Num, Set, Fun, Rec, Tup, Seq, Empty, Shapes, no_shapes, more_shapes, item, field, count, inside, result, join, join_all, alike, alike_all, over_both, interval}
-use Rattle.kernel_shapes.specs.Rows.{Literal, no_literal, number, text, nth, insides, applied_at, quotient_shape, remainder_shape, set_of_interval, branches_of, record_shape}
-use Rattle.kernel_shapes.specs.Sized.{Extent, Sized, Sizing, outside, shapes_of, all_sound, readable, is_record_of, is_sequence, is_function, names_differ, sized, plain, seen, index_of}
+use Rattle.kernel_shapes.specs.Shape.{Shape, Num, Fun, Rec, Tup, Seq, Empty, Shapes, no_shapes, more_shapes, item, field, inside, result, alike, over_both}
+use Rattle.kernel_shapes.specs.Rows.{Literal, no_literal, number, text, nth, insides, applied_at, quotient_shape, remainder_shape, set_of_interval}
+use Rattle.kernel_shapes.specs.Sized.{Extent, Sized, Sizing, outside, shapes_of, all_sound, readable, is_record_of, is_sequence, is_function, names_differ, sized, plain, seen}
 use Rattle.kernel_shapes.specs.Trees.{sized_node, domain_row}
 use Rattle.kernel_shapes.specs.TypedStates.{EachOfKind, OfKind, OfKinds, OfFields}
 use Rattle.kernel_shapes.proofs.KernelNodes.{literal_sizing, operand_sizings}

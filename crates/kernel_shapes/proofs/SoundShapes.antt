@@ -1,19 +1,17 @@
 -- A sound kernel tree has a shape of its type, and what is computed of it is sound, where the names that it reads have shapes
 -- of their types.
-use Rattle.std.proofs.Common.{◌≡◌, ℕ, zero, suc, Bool, true, false, not, ◌&&◌, ◌||◌, nat_eq, IsTrue, List, [], ◌∷◌, ◌++◌, map, zip, take, drop, length, Option, Some, None, ℤ, pos, refl, sym, ◌∙◌, ap, ap₂, subst, arith, if◌then◌else◌}
+use Rattle.std.proofs.Common.{◌≡◌, ℕ, zero, suc, Bool, true, false, not, ◌&&◌, ◌||◌, nat_eq, IsTrue, List, [], ◌∷◌, ◌++◌, map, zip, take, length, Option, Some, None, refl, sym, ◌∙◌, ap, subst, arith, if◌then◌else◌}
 use Rattle.std.specs.Prelude.{slice_get, option_and_then, is_some}
 use Rattle.std.specs.List.{list_any}
 use Rattle.std.proofs.lemmas.List.{length-map}
 use Rattle.tla_values.specs.Order.{Layer}
 use Rattle.tla_values.specs.declared.value.Value.{Value, out-Value}
 use Rattle.tla_values.specs.declared.value.Value.TheOpen as layer
-use Rattle.tla_meaning.specs.declared.op.Op.{Op}
 use Rattle.tla_meaning.specs.declared.place.Place.{Place}
 use Rattle.tla_meaning.specs.declared.job.State.{State}
 use Rattle.tla_meaning.specs.Scopes.{Scope, same_text, or_else, find_last}
 use Rattle.tla_meaning.proofs.Laws.{none≢some}
-use Rattle.tla_meaning.proofs.Views.{and_left, and_right, and_both, false≢true}
-use Rattle.snowcat_rows.specs.declared.types.Ty.{Ty}
+use Rattle.tla_meaning.proofs.Views.{and_both, false≢true}
 use Rattle.kernel_trees.specs.declared.kernel.Ker.{Ker, roll-Ker, out-Ker, out-roll-Ker}
 use Rattle.kernel_trees.specs.declared.kernel.Ker.TheOpen.{Ker-F}
 use Rattle.kernel_trees.specs.declared.kernel.KerOp.{KerOp}
@@ -25,21 +23,21 @@ use Rattle.kernel_trees.specs.TypeKinds as kind
 use Rattle.kernel_trees.specs.TypeKinds.{Kind, kind_of}
 use Rattle.kernel_trees.proofs.Reading.{nat_same}
 use Rattle.kernel_trees.proofs.SoundRows.{Row, row_const, row_nocase, row_range, row_item, BinderRow, row_some, row_every, row_filter, row_map, row_function}
-use Rattle.kernel_trees.proofs.SoundTrees.{Child, Children, Sets, Bound, Node, node_name, node_bound, node_plain, node_bounded, node_binder, node_update, node_fold, sound_step}
+use Rattle.kernel_trees.proofs.SoundTrees.{Child, Children, Sets, Node, node_name, node_bound, node_plain, node_bounded, node_binder, node_update, node_fold, sound_step}
 use Rattle.kernel_trees.proofs.Trees.{Each, by_nodes, mentions-roll}
 use Rattle.kernel_shapes.specs.Shape.{Shape, inside, count, alike}
-use Rattle.kernel_shapes.specs.Rows.{Literal, nth, insides, applied_at, joined_at}
-use Rattle.kernel_shapes.specs.Sized.{Extent, Sized, Sizing, Seen, no_size, found, bound_shapes, bind_shapes, outside, underneath, seen, shapes_of, all_sound, body, step, binder, sized, is_sequence, goes_through}
-use Rattle.kernel_shapes.specs.Trees.{first_kind, read_shape, marks_of, sized_node}
+use Rattle.kernel_shapes.specs.Rows.{nth, insides, applied_at}
+use Rattle.kernel_shapes.specs.Sized.{Extent, Sized, Sizing, Seen, found, bound_shapes, bind_shapes, outside, seen, shapes_of, all_sound, body, step, is_sequence, goes_through}
+use Rattle.kernel_shapes.specs.Trees.{first_kind, read_shape, sized_node}
 use Rattle.kernel_shapes.specs.Kernel.{operand_kinds, kind_or_truth, kinds_in, ker_sized}
 use Rattle.kernel_shapes.specs.TypedStates.{EachOfKind, OfKind}
 use Rattle.kernel_shapes.specs.TypedExtents.{NamesOfKinds, BoundOfKinds, OfTypes, without_shape}
 use Rattle.kernel_shapes.specs.Laws.{HasSoundShape, KernelFitsItsShape}
 use Rattle.kernel_shapes.proofs.JoinRight.{text_is}
 use Rattle.kernel_shapes.proofs.KernelLaw.{each_kernel_value_fits}
-use Rattle.kernel_shapes.proofs.KernelNodes.{operand_sizings, node_sizing, ker_parts, first_kinds, firsts, ker_sized-roll, first_of_kinds}
+use Rattle.kernel_shapes.proofs.KernelNodes.{node_sizing, ker_parts, first_kinds, firsts, ker_sized-roll, first_of_kinds}
 use Rattle.kernel_shapes.proofs.KindLaw.{text_itself, kinds_alike, member_kind, place_kind, seq_is}
-use Rattle.kernel_shapes.proofs.SoundBinders.{evaluated, behind_sets, here_front, here_size, under_body, binder_row_of, BinderParts, binder_good, IsConstant, Updated, updated_good, reached_kind, steps_good}
+use Rattle.kernel_shapes.proofs.SoundBinders.{evaluated, behind_sets, here_front, here_size, under_body, BinderParts, binder_good, IsConstant, Updated, updated_good, reached_kind, steps_good}
 use Rattle.kernel_shapes.proofs.SoundRows.{Good, Goods, no_goods, more_goods, node_at, NodeGood, plain_good}
 use Rattle.kernel_shapes.proofs.WellNamed.{well_named, kind_named}
 

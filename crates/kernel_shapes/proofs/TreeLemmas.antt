@@ -4,9 +4,6 @@ use Rattle.tla_meaning.specs.declared.expr.Expr.{Expr, roll-Expr}
 use Rattle.tla_meaning.specs.declared.expr.Expr.TheOpen.{Expr-F}
 use Rattle.tla_meaning.specs.declared.expr.Expr.TheFolds.{fold-roll-Expr, map-Expr, ind-Expr}
 use Rattle.kernel_trees.specs.TypeKinds.{Kind}
-use Rattle.kernel_shapes.specs.Shape.{Shape}
-use Rattle.kernel_shapes.specs.Counts.{Count}
-use Rattle.kernel_shapes.specs.Rows.{Literal}
 use Rattle.kernel_shapes.specs.Sized.{Extent, Sized, Position}
 use Rattle.kernel_shapes.specs.Trees.{SizedTree, with_trees, recur, is_part, tree_node, tree_sized, tree_sizes, sized_node, first_kind, kinds_of, sizings}
 

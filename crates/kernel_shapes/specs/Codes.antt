@@ -1,5 +1,5 @@
 -- The shape that one of the code means.
-use Rattle.std.specs.Prelude.{List, map}
+use Rattle.std.specs.Prelude.{map}
 use Rattle.kernel_shapes.specs.declared.bounds.Shape.{Shape as Code}
 use Rattle.kernel_shapes.specs.declared.bounds.Shape.TheOpen as code
 use Rattle.kernel_shapes.specs.declared.bounds.Shape.TheFolds.{fold-Shape}

@@ -1,5 +1,5 @@
 -- Shapes of typed trees: each operator's row, and the fold over the tree.
-use Rattle.std.specs.Prelude.{ℕ, zero, suc, ◌+◌, Bool, true, false, ◌&&◌, List, [], ◌∷◌, map, take, drop, length, Option, None, nat_abs, slice_get, option_and_then, if◌then◌else◌}
+use Rattle.std.specs.Prelude.{ℕ, suc, ◌+◌, Bool, true, false, ◌&&◌, List, [], ◌∷◌, map, take, drop, length, Option, None, nat_abs, slice_get, option_and_then, if◌then◌else◌}
 use Rattle.tla_meaning.specs.declared.expr.Expr.{Expr, roll-Expr, out-Expr}
 use Rattle.tla_meaning.specs.declared.expr.Expr.TheOpen.{Expr-F}
 use Rattle.tla_meaning.specs.declared.expr.Expr.TheFolds.{fold-Expr, map-Expr}

@@ -1,5 +1,5 @@
 -- Shapes of names that are of the types of these names.
-use Rattle.std.specs.Prelude.{ℕ, ◌≡◌, Bool, not, is_some, List, [], ◌∷◌, Option, Some, None, slice_get, option_and_then, if◌then◌else◌}
+use Rattle.std.specs.Prelude.{ℕ, ◌≡◌, not, is_some, List, [], ◌∷◌, Option, Some, None, slice_get, option_and_then, if◌then◌else◌}
 use Rattle.kernel_trees.specs.Paths.{Marks}
 use Rattle.kernel_trees.specs.Sound.{Context}
 use Rattle.kernel_trees.specs.Trees.{number_name}
