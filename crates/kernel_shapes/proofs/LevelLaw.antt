@@ -185,7 +185,7 @@ kept_none (false ∷ bs) (k ∷ ks) (a ∷ as') (suc i) e h l f = kept_none bs k
     lower j n q = grind (arith, q)
 
 module _ (w : ℕ) (wide : 2 ≤ w) (names : List Kind) (m : Marks) (fixed : List Bool) (many : length fixed ≡ length names) (marks : MarksVariables m fixed) where
-  stands_at : (as' : List Shape) → EachOfKind names as' → Standing names m [] [] (from_state fixed as')
+  stands_at : (as' : List Shape) → EachOfKind names as' → Standing in_next names m [] [] (from_state fixed as')
   stands_at as' h = record {
     types = record { now = now_kinds names as' h; next = kept_kinds fixed names as' many h; bound = tt };
     now = λ i l. now_there names as' i h l;
@@ -200,7 +200,7 @@ module _ (w : ℕ) (wide : 2 ≤ w) (names : List Kind) (m : Marks) (fixed : Lis
       let g : Extent = from_state fixed as' in
       joined_kinds names (map found (after_path in_next (sized_path w x.steps) g).next) (after_paths in_next (sized_paths w xs) g)
       (found_kinds names (after_path in_next (sized_path w x.steps) g).next
-      (kinds_law w wide names m x.steps [] [] g (stands_at as' h) (and_left (sound_assigned names [] x.steps) _ e) (and_left (reads_late m [] x.steps) _ l)))
+      (kinds_law in_next w wide names m x.steps [] [] g (stands_at as' h) (and_left (sound_assigned names [] x.steps) _ e) (and_left (reads_late m [] x.steps) _ l)))
       (ends_of_kinds as' xs h (and_right (sound_assigned names [] x.steps) _ e) (and_right (reads_late m [] x.steps) _ l))
 
   -- the state behind one path
@@ -209,12 +209,13 @@ module _ (w : ℕ) (wide : 2 ≤ w) (names : List Kind) (m : Marks) (fixed : Lis
       FitAll (map found (after_path in_next (sized_path w x.steps) (from_state fixed as')).next) t.vals
   path_fits as' x s t vss h f k ns nt e l n holds =
       let g : Extent = from_state fixed as' in
-      let start : Along names m [] [] no_scope g s t = record {
+      let start : Along in_next names m [] [] no_scope g s t = record {
         stands = stands_at as' h;
         ready = record { bound = tt; now = now_fits as' s.vals f; next = kept_fits fixed names as' s.vals t.vals many h f k };
         normal = record { bound = tt; named = refl; now = ns; next = nt };
+        one = tt;
       } in
-      let z : AtEnd names m [] x.steps (after_path in_next (sized_path w x.steps) g) t = path_law w wide names m x.steps vss [] [] no_scope g s t start e l holds in
+      let z : AtEnd names m [] x.steps (after_path in_next (sized_path w x.steps) g) t = path_law in_next w wide names m x.steps vss [] [] no_scope g s t start e l holds in
       found_fits names (after_path in_next (sized_path w x.steps) g).next t.vals z.kinds z.fits (λ i q r.
       let y = z.left i q r in
       false≢true (sym (n i) ∙ and_both (m i true) (not (is_in (given x.steps) i)) y.0 (ap not y.2)))
@@ -235,7 +236,7 @@ module _ (w : ℕ) (wide : 2 ≤ w) (names : List Kind) (m : Marks) (fixed : Lis
       let e1 = and_right (sound_assigned names [] x.steps) (list_all (λ (y : Assigned). sound_assigned names [] y.steps) xs) e in
       let l0 = and_left (reads_late m [] x.steps) (list_all (λ (y : Assigned). reads_late m [] y.steps) xs) l in
       let l1 = and_right (reads_late m [] x.steps) (list_all (λ (y : Assigned). reads_late m [] y.steps) xs) l in
-      let one : EachOfKind names end = found_kinds names (after_path in_next (sized_path w x.steps) g).next (kinds_law w wide names m x.steps [] [] g (stands_at as' h) e0 l0) in
+      let one : EachOfKind names end = found_kinds names (after_path in_next (sized_path w x.steps) g).next (kinds_law in_next w wide names m x.steps [] [] g (stands_at as' h) e0 l0) in
       let rest : EachOfKind names (after_paths in_next (sized_paths w xs) g) = ends_of_kinds as' xs h e1 l1 in
       by r.1 one rest e0 l0
       (λ q. step_fits as' xs s t h f k ns nt e1 l1 (λ i. and_right (not (lacks m x.steps i)) (list_all (λ (y : Assigned). not (lacks m y.steps i)) xs) (n i)) (r.0, q, r.2))

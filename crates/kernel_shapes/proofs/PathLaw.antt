@@ -48,7 +48,7 @@ use Rattle.kernel_shapes.specs.Shape.{Shape, inside}
 use Rattle.kernel_shapes.specs.Fits.{Fits, FitAll, StateFits}
 use Rattle.kernel_shapes.specs.Kernel.{kinds_in, ker_sized, ker_shape}
 use Rattle.kernel_shapes.specs.Laws.{IsNormal, Ready}
-use Rattle.kernel_shapes.specs.Levels.{in_next, put, assign, after_path, picked_shapes, picked_names}
+use Rattle.kernel_shapes.specs.Levels.{Assigns, in_next, in_state, put, assign, after_path, picked_shapes, picked_names}
 use Rattle.kernel_shapes.specs.Sized.{Extent, Sizing, bind_shapes}
 use Rattle.kernel_shapes.specs.Systems.{sized_path}
 use Rattle.kernel_shapes.specs.TypedExtents.{NamesOfKinds, OfTypes, without_shape}
@@ -127,21 +127,34 @@ not_is : (b : Bool) → IsTrue (not b) → b ≡ false
 not_is true h = absurd (false≢true h)
 not_is false h = refl
 
--- by the types alone
-pub record Standing (names : List Kind) (m : Marks) (before : List ℕ) (c : Context) (g : Extent) : Type 0 where
-  pub types : OfTypes names c g
-  -- all names have shapes in the state, and in the next one those that are not marked or that are assigned
-  pub now : (i : ℕ) → nat_lt i (length names) ≡ true → without_shape g i false ≡ false
-  pub next : (i : ℕ) → nat_lt i (length names) ≡ true → without_shape g i true ≡ true → (m i true ≡ true) × (is_in before i ≡ false)
+-- a name without a shape is marked and not assigned
+abbrev pub IsOpen : Marks → List ℕ → ℕ → Bool → Type 0
+IsOpen m before i primed = (m i primed ≡ true) × (is_in before i ≡ false)
 
-pub record Along (names : List Kind) (m : Marks) (before : List ℕ) (c : Context) (sc : Scope) (g : Extent) (s t : State) : Type 0 where
-  pub stands : Standing names m before c g
+-- on a path of the step all names have shapes in the state; in CInit and Init the state is its own next one
+abbrev pub NowIs : Assigns → Marks → List ℕ → Extent → ℕ → Type 0
+NowIs in_next m before g i = without_shape g i false ≡ false
+NowIs in_state m before g i = without_shape g i false ≡ true → IsOpen m before i false
+
+abbrev pub One : Assigns → State → State → Type 0
+One in_next s t = Unit {0}
+One in_state s t = s ≡ t
+
+-- by the types alone
+pub record Standing (how : Assigns) (names : List Kind) (m : Marks) (before : List ℕ) (c : Context) (g : Extent) : Type 0 where
+  pub types : OfTypes names c g
+  pub now : (i : ℕ) → nat_lt i (length names) ≡ true → NowIs how m before g i
+  pub next : (i : ℕ) → nat_lt i (length names) ≡ true → without_shape g i true ≡ true → IsOpen m before i true
+
+pub record Along (how : Assigns) (names : List Kind) (m : Marks) (before : List ℕ) (c : Context) (sc : Scope) (g : Extent) (s t : State) : Type 0 where
+  pub stands : Standing how names m before c g
   pub ready : Ready sc g s t
   pub normal : IsNormal sc s t
+  pub one : One how s t
 
-module _ (w : ℕ) (wide : 2 ≤ w) (names : List Kind) (m : Marks) where
+module _ (how : Assigns) (w : ℕ) (wide : 2 ≤ w) (names : List Kind) (m : Marks) where
   -- a tree that reads no marked name before its assignment reads names with shapes alone
-  reads_shaped : (before : List ℕ) (c : Context) (g : Extent) (k : Ker) (b : Bool) → Standing names m before c g → sound names k c b ≡ true →
+  reads_shaped : (before : List ℕ) (c : Context) (g : Extent) (k : Ker) (b : Bool) → Standing how names m before c g → sound names k c b ≡ true →
       IsTrue (not (mentions (open_names m before) k)) → mentions (without_shape g) k ≡ false
   reads_shaped before c g k b a h e =
       quiet (length names) (without_shape g) (open_names m before) within k (sound_below names k c b h) (not_is (mentions (open_names m before) k) e)
@@ -150,14 +163,18 @@ module _ (w : ℕ) (wide : 2 ≤ w) (names : List Kind) (m : Marks) where
       within i true l f =
           let z = a.next i l f in
           and_both (m i true) (not (is_in before i)) z.0 (ap not z.1)
-      within i false l f = absurd (false≢true (sym (a.now i l) ∙ f))
+      within i false l f = by how (a.now i l)
+        where
+          by : (how : Assigns) → NowIs how m before g i → (m i false && not (is_in before i)) ≡ true
+          by in_next n = absurd (false≢true (sym n ∙ f))
+          by in_state n = let z = n f in and_both (m i false) (not (is_in before i)) z.0 (ap not z.1)
 
   -- its shape is of its type, and its value fits it
-  pub tree_shape : (before : List ℕ) (c : Context) (g : Extent) (k : Ker) (b : Bool) (d : Kind) → Standing names m before c g → sound names k c b ≡ true → kind_at k ≡ Some d →
+  pub tree_shape : (before : List ℕ) (c : Context) (g : Extent) (k : Ker) (b : Bool) (d : Kind) → Standing how names m before c g → sound names k c b ≡ true → kind_at k ≡ Some d →
       IsTrue (not (mentions (open_names m before) k)) → OfKind d (ker_shape w k g) × IsTrue (ker_sized w k g).sound
   tree_shape before c g k b d a h q e = sound_shapes w k names c b g d h a.types (reads_shaped before c g k b a h e) q
 
-  value_fits : (before : List ℕ) (c : Context) (sc : Scope) (g : Extent) (s t : State) (k : Ker) (b : Bool) (d : Kind) (v : Value) → Along names m before c sc g s t → sound names k c b ≡ true → kind_at k ≡ Some d →
+  value_fits : (before : List ℕ) (c : Context) (sc : Scope) (g : Extent) (s t : State) (k : Ker) (b : Bool) (d : Kind) (v : Value) → Along how names m before c sc g s t → sound names k c b ≡ true → kind_at k ≡ Some d →
       IsTrue (not (mentions (open_names m before) k)) → ker_val (Some w) k sc s t ≡ Val v → Fits (ker_shape w k g) v
   value_fits before c sc g s t k b d v a h q e is = each_kernel_value_fits w k sc g s t v wide a.ready (tree_shape before c g k b d a.stands h q e).1 is
 
@@ -324,18 +341,18 @@ as_many_picks [] (k ∷ ks) h = absurd h
 as_many_picks (p ∷ ps) [] h = absurd h
 as_many_picks (p ∷ ps) (k ∷ ks) h = ap suc (as_many_picks ps ks h.1)
 
-module _ (w : ℕ) (wide : 2 ≤ w) (names : List Kind) (m : Marks) where
+module _ (how : Assigns) (w : ℕ) (wide : 2 ≤ w) (names : List Kind) (m : Marks) where
   -- the members of a pick's sets are of their types
-  pub picks_of_kinds : (before : List ℕ) (c : Context) (g : Extent) (ps : List (ℕ × Ker)) (ms : List Kind) → Standing names m before c g → SetsAre w names c m before ps → KindsAre ps ms →
+  pub picks_of_kinds : (before : List ℕ) (c : Context) (g : Extent) (ps : List (ℕ × Ker)) (ms : List Kind) → Standing how names m before c g → SetsAre w names c m before ps → KindsAre ps ms →
       EachOfKind ms (picked_shapes (pick_sizings w ps) g)
   picks_of_kinds before c g [] [] a h k = tt
   picks_of_kinds before c g [] (j ∷ js) a h k = absurd k
   picks_of_kinds before c g (p ∷ ps) [] a h k = absurd k
   picks_of_kinds before c g (p ∷ ps) (j ∷ js) a h k =
-      (member_kind j (ker_shape w p.1 g) (tree_shape w wide names m before c g p.1 false (kind.Set j) a h.0.0 k.0 h.0.1).0, picks_of_kinds before c g ps js a h.1 k.1)
+      (member_kind j (ker_shape w p.1 g) (tree_shape how w wide names m before c g p.1 false (kind.Set j) a h.0.0 k.0 h.0.1).0, picks_of_kinds before c g ps js a h.1 k.1)
 
   -- and fit, and are normal
-  picks_fit : (before : List ℕ) (c : Context) (sc : Scope) (g : Extent) (s t : State) (ps : List (ℕ × Ker)) (ms : List Kind) (vs : List Value) (xss : List (List Value)) → Along names m before c sc g s t →
+  picks_fit : (before : List ℕ) (c : Context) (sc : Scope) (g : Extent) (s t : State) (ps : List (ℕ × Ker)) (ms : List Kind) (vs : List Value) (xss : List (List Value)) → Along how names m before c sc g s t →
       SetsAre w names c m before ps → KindsAre ps ms → Opened (set_outcomes (Some w) s t ps sc) xss → AreIn vs xss →
       FitAll (picked_shapes (pick_sizings w ps) g) vs × AllByRecursion Normal vs
   picks_fit before c sc g s t [] ms [] [] a h k o i = (tt, tt)
@@ -345,26 +362,30 @@ module _ (w : ℕ) (wide : 2 ≤ w) (names : List Kind) (m : Marks) where
   picks_fit before c sc g s t (p ∷ ps) [] vs (xs ∷ xss) a h k o i = absurd k
   picks_fit before c sc g s t (p ∷ ps) (j ∷ js) [] (xs ∷ xss) a h k o i = absurd i
   picks_fit before c sc g s t (p ∷ ps) (j ∷ js) (v ∷ vs) (xs ∷ xss) a h k o i =
-      let fits = value_fits w wide names m before c sc g s t p.1 false (kind.Set j) (value.Set xs) a h.0.0 k.0 h.0.1 o.0 in
+      let fits = value_fits how w wide names m before c sc g s t p.1 false (kind.Set j) (value.Set xs) a h.0.0 k.0 h.0.1 o.0 in
       let norm = set_members xs (value_normal w p.1 sc s t (value.Set xs) a.normal o.0) in
       let rest = picks_fit before c sc g s t ps js vs xss a h.1 k.1 o.1 i.1 in
       ((member_of_fitting (ker_shape w p.1 g) xs v fits (is_member v xs i.0), rest.0), (one_normal v xs i.0 norm, rest.1))
 
   -- behind a pick
-  pick_stands : (before : List ℕ) (c : Context) (g : Extent) (ps : List (ℕ × Ker)) (ms : List Kind) → Standing names m before c g → SetsAre w names c m before ps → KindsAre ps ms →
-      Standing names m before (c ++ zip (numbers ps) ms) (bind_shapes (picked_names (pick_sizings w ps)) (picked_shapes (pick_sizings w ps) g) g)
+  pick_stands : (before : List ℕ) (c : Context) (g : Extent) (ps : List (ℕ × Ker)) (ms : List Kind) → Standing how names m before c g → SetsAre w names c m before ps → KindsAre ps ms →
+      Standing how names m before (c ++ zip (numbers ps) ms) (bind_shapes (picked_names (pick_sizings w ps)) (picked_shapes (pick_sizings w ps) g) g)
   pick_stands before c g ps ms a h k =
       let inner : List Shape = picked_shapes (pick_sizings w ps) g in
-      subst (λ (xs : List (List ℕ)). Standing names m before (c ++ zip (numbers ps) ms) (bind_shapes xs inner g)) (sym (pick_names w ps))
+      subst (λ (xs : List (List ℕ)). Standing how names m before (c ++ zip (numbers ps) ms) (bind_shapes xs inner g)) (sym (pick_names w ps))
       (record {
         types = more_types names c g (numbers ps) ms inner a.types (as_many_picks ps ms k) (picks_of_kinds before c g ps ms a h k);
-        now = a.now;
+        now = λ i l. still how i (a.now i l);
         next = a.next;
       })
+    where
+      still : (how : Assigns) (i : ℕ) → NowIs how m before g i → NowIs how m before (bind_shapes (names_of (numbers ps)) (picked_shapes (pick_sizings w ps) g) g) i
+      still in_next i n = n
+      still in_state i n = n
 
-  pick_along : (before : List ℕ) (c : Context) (sc : Scope) (g : Extent) (s t : State) (ps : List (ℕ × Ker)) (ms : List Kind) (vs : List Value) → Along names m before c sc g s t →
+  pick_along : (before : List ℕ) (c : Context) (sc : Scope) (g : Extent) (s t : State) (ps : List (ℕ × Ker)) (ms : List Kind) (vs : List Value) → Along how names m before c sc g s t →
       SetsAre w names c m before ps → KindsAre ps ms → Picked (set_outcomes (Some w) s t ps sc) vs →
-      Along names m before (c ++ zip (numbers ps) ms) (picking ps vs sc) (bind_shapes (picked_names (pick_sizings w ps)) (picked_shapes (pick_sizings w ps) g) g) s t
+      Along how names m before (c ++ zip (numbers ps) ms) (picking ps vs sc) (bind_shapes (picked_names (pick_sizings w ps)) (picked_shapes (pick_sizings w ps) g) g) s t
   pick_along before c sc g s t ps ms vs a h k q =
       let opened = sets_open (set_outcomes (Some w) s t ps sc) q.members q.sound q.are_sets in
       let z = picks_fit before c sc g s t ps ms vs q.members a h k opened q.are_in in
@@ -374,6 +395,7 @@ module _ (w : ℕ) (wide : 2 ≤ w) (names : List Kind) (m : Marks) where
         ready = subst (λ (xs : List (List ℕ)). Ready (picking ps vs sc) (bind_shapes xs inner g) s t) (sym (pick_names w ps))
             (bind_ready (names_of (numbers ps)) vs inner sc g s t z.0 a.ready);
         normal = bind_normal (names_of (numbers ps)) vs sc s t z.1 a.normal;
+        one = a.one;
       }
 
 -- ---- assignments
@@ -438,23 +460,43 @@ put_open (k ∷ ks) (o ∷ os) (suc i) (suc j) a h l e =
     rest (Some d) h = h.1
 
 -- behind an assignment of a value of the name's type
-assign_stands : (names : List Kind) (m : Marks) (before : List ℕ) (c : Context) (g : Extent) (i : ℕ) (d : Kind) (b : Shape) → Standing names m before c g →
-    slice_get names i ≡ Some d → OfKind d b → Standing names m (i ∷ before) c (assign in_next i b g)
-assign_stands names m before c g i d b a e k = record {
+assigned_open : (names : List Kind) (m : Marks) (before : List ℕ) (os : List (Option Shape)) (i j : ℕ) (b : Shape) (primed : Bool) → NamesOfKinds names os → nat_lt j (length names) ≡ true →
+    (has_none os j ≡ true → IsOpen m before j primed) → has_none (put i b os) j ≡ true → IsOpen m (i ∷ before) j primed
+assigned_open names m before os i j b primed h l k f =
+    let z = put_open names os i j b h l f in
+    let y = k z.0 in
+    (y.0, none_or (nat_eq j i) (is_in before j) z.1 y.1)
+
+assign_stands : (how : Assigns) (names : List Kind) (m : Marks) (before : List ℕ) (c : Context) (g : Extent) (i : ℕ) (d : Kind) (b : Shape) → Standing how names m before c g →
+    slice_get names i ≡ Some d → OfKind d b → Standing how names m (i ∷ before) c (assign how i b g)
+assign_stands in_next names m before c g i d b a e k = record {
   types = record { now = a.types.now; next = put_kinds names g.next i d b a.types.next e k; bound = a.types.bound };
   now = a.now;
-  next = λ j l f.
-      let z = put_open names g.next i j b a.types.next l f in
-      let y = a.next j l z.0 in
-      (y.0, none_or (nat_eq j i) (is_in before j) z.1 y.1);
+  next = λ j l f. assigned_open names m before g.next i j b true a.types.next l (a.next j l) f;
+}
+assign_stands in_state names m before c g i d b a e k = record {
+  types = record { now = put_kinds names g.now i d b a.types.now e k; next = put_kinds names g.next i d b a.types.next e k; bound = a.types.bound };
+  now = λ j l f. assigned_open names m before g.now i j b false a.types.now l (a.now j l) f;
+  next = λ j l f. assigned_open names m before g.next i j b true a.types.next l (a.next j l) f;
 }
 
-assign_along : (names : List Kind) (m : Marks) (before : List ℕ) (c : Context) (sc : Scope) (g : Extent) (s t : State) (i : ℕ) (d : Kind) (b : Shape) (v : Value) → Along names m before c sc g s t →
-    slice_get names i ≡ Some d → OfKind d b → Has t i v → Fits b v → Along names m (i ∷ before) c sc (assign in_next i b g) s t
-assign_along names m before c sc g s t i d b v a e k has fits = record {
-  stands = assign_stands names m before c g i d b a.stands e k;
+assign_along : (how : Assigns) (names : List Kind) (m : Marks) (before : List ℕ) (c : Context) (sc : Scope) (g : Extent) (s t : State) (i : ℕ) (d : Kind) (b : Shape) (v : Value) → Along how names m before c sc g s t →
+    slice_get names i ≡ Some d → OfKind d b → Has t i v → Fits b v → Along how names m (i ∷ before) c sc (assign how i b g) s t
+assign_along in_next names m before c sc g s t i d b v a e k has fits = record {
+  stands = assign_stands in_next names m before c g i d b a.stands e k;
   ready = record { bound = a.ready.bound; now = a.ready.now; next = put_state i b g.next t.vals v a.ready.next has fits };
   normal = a.normal;
+  one = a.one;
+}
+assign_along in_state names m before c sc g s t i d b v a e k has fits = record {
+  stands = assign_stands in_state names m before c g i d b a.stands e k;
+  ready = record {
+    bound = a.ready.bound;
+    now = put_state i b g.now s.vals v a.ready.now (subst (λ (x : State). slice_get x.vals i ≡ Some v) (sym a.one) has) fits;
+    next = put_state i b g.next t.vals v a.ready.next has fits;
+  };
+  normal = a.normal;
+  one = a.one;
 }
 
 -- ---- finite forms
@@ -551,9 +593,9 @@ kinds_there : (o : Option (List Kind)) (ms : List Kind) → option_and_then memb
 kinds_there None ms e = absurd (none≢some e)
 kinds_there (Some as') ms e = (as', refl, e)
 
-module _ (w : ℕ) (wide : 2 ≤ w) (names : List Kind) (m : Marks) where
-  pub path_law : (zs : List AssignedStep) (vss : List (List Value)) (before : List ℕ) (c : Context) (sc : Scope) (g : Extent) (s t : State) → Along names m before c sc g s t →
-      IsTrue (sound_assigned names c zs) → IsTrue (reads_late m before zs) → AssignedHolds (Some w) s t zs vss sc → AtEnd names m before zs (after_path in_next (sized_path w zs) g) t
+module _ (how : Assigns) (w : ℕ) (wide : 2 ≤ w) (names : List Kind) (m : Marks) where
+  pub path_law : (zs : List AssignedStep) (vss : List (List Value)) (before : List ℕ) (c : Context) (sc : Scope) (g : Extent) (s t : State) → Along how names m before c sc g s t →
+      IsTrue (sound_assigned names c zs) → IsTrue (reads_late m before zs) → AssignedHolds (Some w) s t zs vss sc → AtEnd names m before zs (after_path how (sized_path w zs) g) t
   path_law [] vss before c sc g s t a h r k = record {
     kinds = a.stands.types.next;
     fits = a.ready.next;
@@ -572,7 +614,7 @@ module _ (w : ℕ) (wide : 2 ≤ w) (names : List Kind) (m : Marks) where
       let kinds_well = kinds_are ps y.0 z.0 y.1 (sets_of y.0 z.0 y.2) in
       end_same names m before (mark.Pick ps) zs _ t refl
       (path_law zs vss before (c ++ zip (numbers ps) z.0) (picking ps vs sc) (bind_shapes (picked_names (pick_sizings w ps)) (picked_shapes (pick_sizings w ps) g) g) s t
-      (pick_along w wide names m before c sc g s t ps z.0 vs a sets_well kinds_well k.0) z.2
+      (pick_along how w wide names m before c sc g s t ps z.0 vs a sets_well kinds_well k.0) z.2
       (and_right (list_all (λ (q : Ker). not (mentions (open_names m before) q)) (sets ps)) (reads_late m before zs) r) k.1)
   path_law (mark.Equals i e ∷ zs) vss before c sc g s t a h r k =
       let typed : Bool = passes (λ d. is_kind d (kind_at e)) (slice_get names i) in
@@ -583,10 +625,10 @@ module _ (w : ℕ) (wide : 2 ≤ w) (names : List Kind) (m : Marks) where
       let quiet_e = and_left (not (mentions (open_names m before) e)) (reads_late m (i ∷ before) zs) r in
       let q : kind_at e ≡ Some z.0 = found z.0 (kind_at e) z.2 in
       let v : Value = k.0.0 in
-      let shaped = tree_shape w wide names m before c g e false z.0 a.stands sound_e q quiet_e in
-      let fits = value_fits w wide names m before c sc g s t e false z.0 v a sound_e q quiet_e k.0.1.0 in
+      let shaped = tree_shape how w wide names m before c g e false z.0 a.stands sound_e q quiet_e in
+      let fits = value_fits how w wide names m before c sc g s t e false z.0 v a sound_e q quiet_e k.0.1.0 in
       end_more names m before i (mark.Equals i e) zs _ t refl
-      (path_law zs vss (i ∷ before) c sc (assign in_next i (ker_shape w e g) g) s t (assign_along names m before c sc g s t i z.0 (ker_shape w e g) v a z.1 shaped.0 k.0.1.1 fits)
+      (path_law zs vss (i ∷ before) c sc (assign how i (ker_shape w e g) g) s t (assign_along how names m before c sc g s t i z.0 (ker_shape w e g) v a z.1 shaped.0 k.0.1.1 fits)
       (and_right (typed && own) (sound_assigned names c zs) h) (and_right (not (mentions (open_names m before) e)) (reads_late m (i ∷ before) zs) r) k.1)
   path_law (mark.Among i e ∷ zs) vss before c sc g s t a h r k =
       let typed : Bool = passes (λ d. is_kind (kind.Set d) (kind_at e)) (slice_get names i) in
@@ -598,18 +640,18 @@ module _ (w : ℕ) (wide : 2 ≤ w) (names : List Kind) (m : Marks) where
       let quiet_e = and_left (not (mentions (open_names m before) e)) (reads_late m (i ∷ before) zs) r in
       let q : kind_at e ≡ Some (kind.Set z.0) = found (kind.Set z.0) (kind_at e) z.2 in
       let v : Value = k.0.value in
-      let shaped = tree_shape w wide names m before c g e true (kind.Set z.0) a.stands sound_e q quiet_e in
+      let shaped = tree_shape how w wide names m before c g e true (kind.Set z.0) a.stands sound_e q quiet_e in
       let member_of : OfKind z.0 (inside (ker_shape w e g)) = member_kind z.0 (ker_shape w e g) shaped.0 in
       let fits : Fits (inside (ker_shape w e g)) v =
       form_fits w (as_expr e) (kinds_in e) sc g s t k.0.form v wide (tree_expanded e) (finite_tree e (and_right typed (is_finite e) ends)) a.ready
       (normal_scope sc a.normal.bound a.normal.named) a.normal.now a.normal.next shaped.1 k.0.made k.0.set (normal_there t.vals i v a.normal.next k.0.has) k.0.belongs in
       end_more names m before i (mark.Among i e) zs _ t refl
-      (path_law zs vss (i ∷ before) c sc (assign in_next i (inside (ker_shape w e g)) g) s t (assign_along names m before c sc g s t i z.0 (inside (ker_shape w e g)) v a z.1 member_of k.0.has fits)
+      (path_law zs vss (i ∷ before) c sc (assign how i (inside (ker_shape w e g)) g) s t (assign_along how names m before c sc g s t i z.0 (inside (ker_shape w e g)) v a z.1 member_of k.0.has fits)
       (and_right ((typed && is_finite e) && own) (sound_assigned names c zs) h) (and_right (not (mentions (open_names m before) e)) (reads_late m (i ∷ before) zs) r) k.1)
 
   -- by the types alone, whether the path holds or not
-  pub kinds_law : (zs : List AssignedStep) (before : List ℕ) (c : Context) (g : Extent) → Standing names m before c g →
-      IsTrue (sound_assigned names c zs) → IsTrue (reads_late m before zs) → NamesOfKinds names (after_path in_next (sized_path w zs) g).next
+  pub kinds_law : (zs : List AssignedStep) (before : List ℕ) (c : Context) (g : Extent) → Standing how names m before c g →
+      IsTrue (sound_assigned names c zs) → IsTrue (reads_late m before zs) → NamesOfKinds names (after_path how (sized_path w zs) g).next
   kinds_law [] before c g a h r = a.types.next
   kinds_law (mark.Guard e b ∷ zs) before c g a h r =
       kinds_law zs before c g a (and_right (sound_guard names c e) (sound_assigned names c zs) h) (and_right (not (mentions (open_names m before) e)) (reads_late m before zs) r)
@@ -620,16 +662,16 @@ module _ (w : ℕ) (wide : 2 ≤ w) (names : List Kind) (m : Marks) where
       let sets_well = sets_are w names c m before ps (and_left (sound_pick names c ps) (passes test (picked_kinds ps)) h)
       (and_left (list_all (λ (q : Ker). not (mentions (open_names m before) q)) (sets ps)) (reads_late m before zs) r) in
       kinds_law zs before (c ++ zip (numbers ps) z.0) (bind_shapes (picked_names (pick_sizings w ps)) (picked_shapes (pick_sizings w ps) g) g)
-      (pick_stands w wide names m before c g ps z.0 a sets_well (kinds_are ps y.0 z.0 y.1 (sets_of y.0 z.0 y.2))) z.2
+      (pick_stands how w wide names m before c g ps z.0 a sets_well (kinds_are ps y.0 z.0 y.1 (sets_of y.0 z.0 y.2))) z.2
       (and_right (list_all (λ (q : Ker). not (mentions (open_names m before) q)) (sets ps)) (reads_late m before zs) r)
   kinds_law (mark.Equals i e ∷ zs) before c g a h r =
       let typed : Bool = passes (λ d. is_kind d (kind_at e)) (slice_get names i) in
       let own : Bool = sound names e c false in
       let front = and_left (typed && own) (sound_assigned names c zs) h in
       let z = of_type (λ d. is_kind d (kind_at e)) (slice_get names i) (and_left typed own front) in
-      let shaped = tree_shape w wide names m before c g e false z.0 a (and_right typed own front) (found z.0 (kind_at e) z.2)
+      let shaped = tree_shape how w wide names m before c g e false z.0 a (and_right typed own front) (found z.0 (kind_at e) z.2)
       (and_left (not (mentions (open_names m before) e)) (reads_late m (i ∷ before) zs) r) in
-      kinds_law zs (i ∷ before) c (assign in_next i (ker_shape w e g) g) (assign_stands names m before c g i z.0 (ker_shape w e g) a z.1 shaped.0)
+      kinds_law zs (i ∷ before) c (assign how i (ker_shape w e g) g) (assign_stands how names m before c g i z.0 (ker_shape w e g) a z.1 shaped.0)
       (and_right (typed && own) (sound_assigned names c zs) h) (and_right (not (mentions (open_names m before) e)) (reads_late m (i ∷ before) zs) r)
   kinds_law (mark.Among i e ∷ zs) before c g a h r =
       let typed : Bool = passes (λ d. is_kind (kind.Set d) (kind_at e)) (slice_get names i) in
@@ -637,8 +679,8 @@ module _ (w : ℕ) (wide : 2 ≤ w) (names : List Kind) (m : Marks) where
       let front = and_left ((typed && is_finite e) && own) (sound_assigned names c zs) h in
       let ends = and_left (typed && is_finite e) own front in
       let z = of_type (λ d. is_kind (kind.Set d) (kind_at e)) (slice_get names i) (and_left typed (is_finite e) ends) in
-      let shaped = tree_shape w wide names m before c g e true (kind.Set z.0) a (and_right (typed && is_finite e) own front) (found (kind.Set z.0) (kind_at e) z.2)
+      let shaped = tree_shape how w wide names m before c g e true (kind.Set z.0) a (and_right (typed && is_finite e) own front) (found (kind.Set z.0) (kind_at e) z.2)
       (and_left (not (mentions (open_names m before) e)) (reads_late m (i ∷ before) zs) r) in
       let member_of : OfKind z.0 (inside (ker_shape w e g)) = member_kind z.0 (ker_shape w e g) shaped.0 in
-      kinds_law zs (i ∷ before) c (assign in_next i (inside (ker_shape w e g)) g) (assign_stands names m before c g i z.0 (inside (ker_shape w e g)) a z.1 member_of)
+      kinds_law zs (i ∷ before) c (assign how i (inside (ker_shape w e g)) g) (assign_stands how names m before c g i z.0 (inside (ker_shape w e g)) a z.1 member_of)
       (and_right ((typed && is_finite e) && own) (sound_assigned names c zs) h) (and_right (not (mentions (open_names m before) e)) (reads_late m (i ∷ before) zs) r)
