@@ -28,7 +28,7 @@ use Rattle.kernel_shapes.proofs.PathLaw.{Along, Standing, AtEnd, given, path_law
 
 -- ---- joins over paths
 
-joined_kinds : (ks : List Kind) (as' bs : List Shape) → EachOfKind ks as' → EachOfKind ks bs → EachOfKind ks (join_each as' bs)
+pub joined_kinds : (ks : List Kind) (as' bs : List Shape) → EachOfKind ks as' → EachOfKind ks bs → EachOfKind ks (join_each as' bs)
 joined_kinds [] [] [] h k = tt
 joined_kinds [] [] (b ∷ bs) h k = absurd k
 joined_kinds [] (a ∷ as') bs h k = absurd h
@@ -36,7 +36,7 @@ joined_kinds (j ∷ js) [] bs h k = absurd h
 joined_kinds (j ∷ js) (a ∷ as') [] h k = absurd k
 joined_kinds (j ∷ js) (a ∷ as') (b ∷ bs) h k = (join_kind j a b h.0 k.0, joined_kinds js as' bs h.1 k.1)
 
-joined_left : (ks : List Kind) (as' bs : List Shape) (vs : List Value) → EachOfKind ks as' → EachOfKind ks bs → FitAll as' vs → FitAll (join_each as' bs) vs
+pub joined_left : (ks : List Kind) (as' bs : List Shape) (vs : List Value) → EachOfKind ks as' → EachOfKind ks bs → FitAll as' vs → FitAll (join_each as' bs) vs
 joined_left [] [] [] vs h k f = f
 joined_left [] [] (b ∷ bs) vs h k f = absurd k
 joined_left [] (a ∷ as') bs vs h k f = absurd h
@@ -45,7 +45,7 @@ joined_left (j ∷ js) (a ∷ as') [] vs h k f = absurd k
 joined_left (j ∷ js) (a ∷ as') (b ∷ bs) [] h k f = absurd f
 joined_left (j ∷ js) (a ∷ as') (b ∷ bs) (v ∷ vs) h k f = (join_left a b (out-Value v) f.0, joined_left js as' bs vs h.1 k.1 f.1)
 
-joined_right : (ks : List Kind) (as' bs : List Shape) (vs : List Value) → EachOfKind ks as' → EachOfKind ks bs → FitAll bs vs → FitAll (join_each as' bs) vs
+pub joined_right : (ks : List Kind) (as' bs : List Shape) (vs : List Value) → EachOfKind ks as' → EachOfKind ks bs → FitAll bs vs → FitAll (join_each as' bs) vs
 joined_right [] [] bs vs h k f = f
 joined_right [] (a ∷ as') bs vs h k f = absurd h
 joined_right (j ∷ js) [] bs vs h k f = absurd h
@@ -54,7 +54,7 @@ joined_right (j ∷ js) (a ∷ as') (b ∷ bs) [] h k f = absurd f
 joined_right (j ∷ js) (a ∷ as') (b ∷ bs) (v ∷ vs) h k f =
     (join_right a b (out-Value v) (kinds_alike j a b h.0 k.0) f.0, joined_right js as' bs vs h.1 k.1 f.1)
 
-found_kinds : (ks : List Kind) (os : List (Option Shape)) → NamesOfKinds ks os → EachOfKind ks (map found os)
+pub found_kinds : (ks : List Kind) (os : List (Option Shape)) → NamesOfKinds ks os → EachOfKind ks (map found os)
 found_kinds [] [] h = tt
 found_kinds [] (o ∷ os) h = absurd h
 found_kinds (k ∷ ks) [] h = absurd h
@@ -62,10 +62,10 @@ found_kinds (k ∷ ks) (None ∷ os) h = (empty_kind k, found_kinds ks os h)
 found_kinds (k ∷ ks) (Some a ∷ os) h = (h.0, found_kinds ks os h.1)
 
 -- where each name has a shape
-abbrev has_none : List (Option Shape) → ℕ → Bool
+abbrev pub has_none : List (Option Shape) → ℕ → Bool
 has_none os i = not (is_some (option_and_then (λ o. o) (slice_get os i)))
 
-found_fits : (ks : List Kind) (os : List (Option Shape)) (vs : List Value) → NamesOfKinds ks os → StateFits os vs → ((i : ℕ) → nat_lt i (length ks) ≡ true → has_none os i ≡ true → ⊥) →
+pub found_fits : (ks : List Kind) (os : List (Option Shape)) (vs : List Value) → NamesOfKinds ks os → StateFits os vs → ((i : ℕ) → nat_lt i (length ks) ≡ true → has_none os i ≡ true → ⊥) →
     FitAll (map found os) vs
 found_fits [] [] [] h f n = tt
 found_fits [] [] (v ∷ vs) h f n = absurd f
@@ -107,7 +107,7 @@ now_there (k ∷ ks) (a ∷ as') (suc i) h l = now_there ks as' i h.1 (less i (l
     less : (j n : ℕ) → nat_lt (suc j) (suc n) ≡ true → nat_lt j n ≡ true
     less j n q = grind (arith, q)
 
-kept_kinds : (bs : List Bool) (ks : List Kind) (as' : List Shape) → length bs ≡ length ks → EachOfKind ks as' → NamesOfKinds ks (kept_constants bs as')
+pub kept_kinds : (bs : List Bool) (ks : List Kind) (as' : List Shape) → length bs ≡ length ks → EachOfKind ks as' → NamesOfKinds ks (kept_constants bs as')
 kept_kinds [] [] as' e h = tt
 kept_kinds [] (k ∷ ks) as' e h = absurd (none (length ks) e)
   where
@@ -156,7 +156,7 @@ kept_fits (false ∷ bs) (j ∷ js) (a ∷ as') (u ∷ us) (v ∷ vs) e h f k = 
     less m n q = omega (arith, q)
 
 -- a name without a shape is a variable
-kept_none : (bs : List Bool) (ks : List Kind) (as' : List Shape) (i : ℕ) → length bs ≡ length ks → EachOfKind ks as' → nat_lt i (length ks) ≡ true → has_none (kept_constants bs as') i ≡ true →
+pub kept_none : (bs : List Bool) (ks : List Kind) (as' : List Shape) (i : ℕ) → length bs ≡ length ks → EachOfKind ks as' → nat_lt i (length ks) ≡ true → has_none (kept_constants bs as') i ≡ true →
     slice_get bs i ≡ Some false
 kept_none bs [] as' i e h l f = absurd (none i l)
   where

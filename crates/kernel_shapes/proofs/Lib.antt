@@ -35,3 +35,4 @@ pub mod FormLaw
 pub mod PathLaw
 pub mod LevelLaw
 pub mod KernelExamples
+pub mod StartLaw

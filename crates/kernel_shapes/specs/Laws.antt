@@ -21,9 +21,9 @@ use Rattle.kernel_trees.specs.Sound.{Context, kind_at, sound, sound_assigned}
 use Rattle.kernel_trees.specs.Trees.{ker_val}
 use Rattle.kernel_shapes.specs.FiniteForms.{is_finite_form}
 use Rattle.kernel_shapes.specs.Fits.{BoundFit, FitAll, Fits, StateFits}
-use Rattle.kernel_shapes.specs.Levels.{shapes_at}
+use Rattle.kernel_shapes.specs.Levels.{shapes_at, start_shapes}
 use Rattle.kernel_shapes.specs.Shape.{Shape, inside}
-use Rattle.kernel_shapes.specs.Systems.{IsStep, MarksVariables, system_parts}
+use Rattle.kernel_shapes.specs.Systems.{Follows, IsStep, MarksInInit, MarksVariables, every_name, system_parts, the_constants_of}
 use Rattle.kernel_shapes.specs.Sized.{Extent}
 use Rattle.kernel_shapes.specs.Kernel.{ker_sized, ker_shape}
 use Rattle.kernel_shapes.specs.TypedExtents.{OfTypes, without_shape}
@@ -92,3 +92,17 @@ LevelsFit w sys names m first run n =
     EachOfKind names first → FitAll first (run 0).vals → ((i : ℕ) → AllByRecursion Normal (run i).vals) →
     ((i : ℕ) → i < n → IsStep w sys (run i) (run (suc i))) →
     FitAll (shapes_at (system_parts w sys) first n) (run n).vals
+
+-- the paths of CInit are sound, read no name that is not assigned before, and assign each constant
+pub record ConstantPathsAre (names : List Kind) (fixed : List Bool) (xs : List Assigned) : Type 0 where
+  pub sound : IsTrue (list_all (λ x. sound_assigned names [] x.steps) xs)
+  pub late : IsTrue (list_all (λ x. reads_late every_name [] x.steps) xs)
+  pub assign : (i : ℕ) → IsTrue (list_all (λ x. not (lacks (the_constants_of fixed) x.steps i)) xs)
+
+-- a state with which paths of CInit and of Init hold fits the shapes of the start, which are of the types
+abbrev pub StartFits : ℕ → System → List Kind → Marks → State → Type 0
+StartFits w sys names m s =
+    2 ≤ w → length sys.ker.fixed ≡ length names → length s.vals ≡ length names → MarksInInit m sys.ker.fixed →
+    ConstantPathsAre names sys.ker.fixed sys.constants → PathsAre names m sys.start → AllByRecursion Normal s.vals →
+    Follows w sys.constants s s → Follows w sys.start s s →
+    FitAll (start_shapes (system_parts w sys)) s.vals × EachOfKind names (start_shapes (system_parts w sys))

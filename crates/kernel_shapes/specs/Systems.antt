@@ -1,5 +1,5 @@
 -- A system by what is computed of its trees, and its runs along paths.
-use Rattle.std.specs.Prelude.{ℕ, ◌≡◌, Bool, true, false, List, [], ◌∷◌, map, length, Some, slice_get}
+use Rattle.std.specs.Prelude.{ℕ, ◌≡◌, Bool, true, false, List, [], ◌∷◌, map, length, Some, get_or, slice_get}
 use Rattle.tla_values.specs.declared.value.Value.{Value}
 use Rattle.tla_meaning.specs.declared.job.State.{State}
 use Rattle.tla_meaning.specs.Scopes.{Scope}
@@ -62,3 +62,13 @@ IsStep w sys s t = ConstantsKept sys.ker.fixed s.vals t.vals × Follows w sys.ne
 -- each variable is marked under a prime
 abbrev pub MarksVariables : Marks → List Bool → Type 0
 MarksVariables m fixed = (i : ℕ) → slice_get fixed i ≡ Some false → m i true ≡ true
+
+-- so is each in the state itself, as in Init
+abbrev pub MarksInInit : Marks → List Bool → Type 0
+MarksInInit m fixed = (i : ℕ) (primed : Bool) → slice_get fixed i ≡ Some false → m i primed ≡ true
+
+abbrev pub every_name : Marks
+every_name i primed = true
+
+abbrev pub the_constants_of : List Bool → Marks
+the_constants_of fixed i primed = get_or fixed i false

@@ -10,7 +10,7 @@ ghost use Rattle.kernel_trees.specs.Sound.{Context};
 ghost use Rattle.kernel_trees.specs.TypeKinds.{Kind};
 ghost use Rattle.kernel_trees.specs.declared.kernel.Ker.{Ker};
 ghost use Rattle.kernel_trees.specs.declared.system.System.{System};
-ghost use Rattle.kernel_shapes.specs.Laws.{FitsItsShape, FormFitsItsShape, HasSoundShape, KernelFitsItsShape, LevelsFit};
+ghost use Rattle.kernel_shapes.specs.Laws.{FitsItsShape, FormFitsItsShape, HasSoundShape, KernelFitsItsShape, LevelsFit, StartFits};
 ghost use Rattle.kernel_shapes.specs.Shape.{Shape};
 ghost use Rattle.kernel_shapes.specs.Sized.{Extent};
 
@@ -29,8 +29,10 @@ pub fn sound_trees_have_shapes_of_their_types()
     ensures { (w : ℕ) (names : List Kind) (k : Ker) (c : Context) (b : Bool) (g : Extent) (a : Kind) → HasSoundShape w names k c b g a }
 {}
 
-/// Where a state fits shapes of the types of its names, the state that a run along the paths of a system reaches n
-/// steps later fits the shapes of level n.
+/// A state with which paths of CInit and of Init hold fits the shapes of the start, which are of the types of its names;
+/// and where a state fits such shapes, the state that a run along the paths of the step reaches n steps later fits the
+/// shapes of level n.
 pub fn states_fit_the_shapes_of_their_levels()
-    ensures { (w : ℕ) (sys : System) (names : List Kind) (m : Marks) (first : List Shape) (run : ℕ → State) (n : ℕ) → LevelsFit w sys names m first run n }
+    ensures start { (w : ℕ) (sys : System) (names : List Kind) (m : Marks) (s : State) → StartFits w sys names m s }
+    ensures levels { (w : ℕ) (sys : System) (names : List Kind) (m : Marks) (first : List Shape) (run : ℕ → State) (n : ℕ) → LevelsFit w sys names m first run n }
 {}
