@@ -36,3 +36,4 @@ pub mod PathLaw
 pub mod LevelLaw
 pub mod KernelExamples
 pub mod StartLaw
+pub mod TypedLaw

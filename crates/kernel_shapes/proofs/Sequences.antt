@@ -34,7 +34,7 @@ number_itself n = ap (is_int n) (value.outs-Int (pos n)) ∙ same
     same = grind (arith, ints)
 
 -- the items of a sequence are those that it was made of
-items_numbered : (n : ℕ) (xs : List Value) → items_from n (numbered n xs) ≡ Some xs
+pub items_numbered : (n : ℕ) (xs : List Value) → items_from n (numbered n xs) ≡ Some xs
 items_numbered n [] = refl
 items_numbered n (x ∷ xs) =
     ap (λ (b : Bool). if b then option_map (λ ys. x ∷ ys) (items_from (n + 1) (numbered (n + 1) xs)) else None) (number_itself n)

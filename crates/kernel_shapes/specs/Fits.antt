@@ -38,7 +38,9 @@ abbrev mutual
   FitsLayer (Num a b) x = OfInt (λ n. (a ≤ℤ n) × (n ≤ℤ b)) x
   FitsLayer (Set n a) x = OfSet (λ vs. (length vs ≤ n) × AllByRecursion (λ v. FitsLayer a (out-Value v)) vs) x
   FitsLayer (Fun n a r) x =
-      OfFun (λ ps. (length ps ≤ n) × AllByRecursion (λ p. FitsLayer a (out-Value p.0) × FitsLayer r (out-Value p.1)) ps) x
+      OfFun
+      (λ ps. (length ps ≤ n) × AllByRecursion (λ p. FitsLayer a (out-Value p.0) × FitsLayer r (out-Value p.1)) ps)
+      x
   FitsLayer (Rec xs as') x =
       OfFun (λ ps. (length ps ≤ length xs) × IsTrue (has_fields xs ps) × FieldsFit xs as' ps) x
   FitsLayer (Tup as') x = OfFun (λ ps. OfSome (ItemsFit as') (items_of ps)) x

@@ -12,8 +12,8 @@ use Rattle.kernel_shapes.specs.Shape.{Shape}
 use Rattle.kernel_shapes.specs.Sized.{Extent, Sizing}
 use Rattle.kernel_shapes.specs.Trees.{tree_sized}
 
--- the types of the operands of the expression for which a node stands, each list in preorder: an item has its number as a
--- literal, the bounds of a range are no operands, and a constant and no case have none
+-- the types of the operands of the expression for which a node stands, each list in preorder: an item has its number
+-- as a literal, the bounds of a range are no operands, and a constant and no case have none
 abbrev pub operand_kinds : KerOp → List (List Kind) → List (List Kind)
 operand_kinds (ker.Const v) kss = []
 operand_kinds ker.NoCase kss = []

@@ -1,5 +1,5 @@
 -- What the law of shapes says of a tree.
-use Rattle.std.specs.Prelude.{ℕ, suc, ◌<◌, ◌≤◌, ◌≡◌, Bool, not, IsTrue, List, [], Some, length}
+use Rattle.std.specs.Prelude.{ℕ, suc, ◌<◌, ◌≤◌, ◌≡◌, Bool, not, IsTrue, List, [], Some, length, ℤ}
 use Rattle.std.specs.List.{AllByRecursion, list_all}
 use Rattle.tla_values.specs.Sets.{Normal}
 use Rattle.tla_values.specs.declared.value.Value.{Value}
@@ -11,7 +11,10 @@ use Rattle.tla_meaning.specs.Actions.{meaning, val}
 use Rattle.tla_meaning.specs.Forms.{Made, belongs, is_set_form}
 use Rattle.tla_meaning.specs.Expanded.{is_expanded}
 use Rattle.tla_meaning.specs.Scopes.{Scope}
-use Rattle.kernel_trees.specs.TypeKinds.{Kind}
+use Rattle.snowcat_rows.specs.Types.{mean}
+use Rattle.snowcat_rows.specs.Values.{InBounds}
+use Rattle.snowcat_rows.specs.declared.types.Ty.{Ty}
+use Rattle.kernel_trees.specs.TypeKinds.{Kind, kind_of}
 use Rattle.kernel_trees.specs.declared.kernel.Ker.{Ker}
 use Rattle.kernel_trees.specs.declared.path.Assigned.{Assigned}
 use Rattle.kernel_trees.specs.declared.system.System.{System}
@@ -27,7 +30,7 @@ use Rattle.kernel_shapes.specs.Systems.{Follows, IsStep, MarksInInit, MarksVaria
 use Rattle.kernel_shapes.specs.Sized.{Extent}
 use Rattle.kernel_shapes.specs.Kernel.{ker_sized, ker_shape}
 use Rattle.kernel_shapes.specs.TypedExtents.{OfTypes, without_shape}
-use Rattle.kernel_shapes.specs.TypedStates.{OfKind, EachOfKind}
+use Rattle.kernel_shapes.specs.TypedStates.{OfKind, EachOfKind, shape_of_kind}
 use Rattle.kernel_shapes.specs.Trees.{tree_sized, shape_of_tree}
 
 -- bound names, a state and a next state have values that fit the shapes of their names
@@ -36,8 +39,8 @@ pub record Ready (sc : Scope) (g : Extent) (s t : State) : Type 0 where
   pub now : StateFits g.now s.vals
   pub next : StateFits g.next t.vals
 
--- the value that a tree with these types has under a width fits its shape, where it is sound: it reads only names that have
--- a shape, and what it joins is of one kind. (At a width of one bit the third power of -1 does not fit its shape.)
+-- the value that a tree with these types has under a width fits its shape, where it is sound: it reads only names that
+-- have a shape, and what it joins is of one kind. (At a width of one bit the third power of -1 does not fit its shape.)
 abbrev pub FitsItsShape : ℕ → Expr → List Kind → Scope → Extent → State → State → Value → Type 0
 FitsItsShape w e ks sc g s t v =
     2 ≤ w → IsTrue (is_expanded e) → Ready sc g s t → IsTrue ((tree_sized w e).sizing ks g).sound →
@@ -46,10 +49,11 @@ FitsItsShape w e ks sc g s t v =
 -- what is computed of a kernel tree is so, too
 abbrev pub SizedFits : ℕ → Ker → Scope → Extent → State → State → Value → Type 0
 SizedFits w k sc g s t v =
-    2 ≤ w → Ready sc g s t → IsTrue (ker_sized w k g).sound → ker_val (Some w) k sc s t ≡ Val v → Fits (ker_shape w k g) v
+    2 ≤ w → Ready sc g s t → IsTrue (ker_sized w k g).sound → ker_val (Some w) k sc s t ≡ Val v →
+    Fits (ker_shape w k g) v
 
--- a sound kernel tree has a shape of its type, and what is computed of it is sound, where the names that it reads have shapes
--- of their types
+-- a sound kernel tree has a shape of its type, and what is computed of it is sound, where the names that it reads have
+-- shapes of their types
 abbrev pub HasSoundShape : ℕ → List Kind → Ker → Context → Bool → Extent → Kind → Type 0
 HasSoundShape w names k c b g a =
     IsTrue (sound names k c b) → OfTypes names c g → IsTrue (not (mentions (without_shape g) k)) → kind_at k ≡ Some a →
@@ -85,7 +89,8 @@ pub record PathsAre (names : List Kind) (m : Marks) (xs : List Assigned) : Type 
   pub late : IsTrue (list_all (λ x. reads_late m [] x.steps) xs)
   pub assign : (i : ℕ) → IsTrue (list_all (λ x. not (lacks m x.steps i)) xs)
 
--- where a state fits shapes of the types, the state that n steps later is reached along the paths fits the shapes of level n
+-- where a state fits shapes of the types, the state that is reached along the paths n steps later fits the shapes of
+-- level n
 abbrev pub LevelsFit : ℕ → System → List Kind → Marks → List Shape → (ℕ → State) → ℕ → Type 0
 LevelsFit w sys names m first run n =
     2 ≤ w → length sys.ker.fixed ≡ length names → MarksVariables m sys.ker.fixed → PathsAre names m sys.next →
@@ -106,3 +111,10 @@ StartFits w sys names m s =
     ConstantPathsAre names sys.ker.fixed sys.constants → PathsAre names m sys.start → AllByRecursion Normal s.vals →
     Follows w sys.constants s s → Follows w sys.start s s →
     FitAll (start_shapes (system_parts w sys)) s.vals × EachOfKind names (start_shapes (system_parts w sys))
+
+-- ---- typed states
+
+-- a normal value of a type within bounds fits the shape of the type in these bounds
+abbrev pub TypedFits : List (List ℕ) → ℤ → ℤ → ℕ → Ty → Kind → Value → Type 0
+TypedFits literals low high size t k v =
+    kind_of t ≡ Some k → Normal v → InBounds literals low high size v (mean t) → Fits (shape_of_kind low high size k) v

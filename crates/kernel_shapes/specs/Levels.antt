@@ -151,7 +151,10 @@ level_numbers p start first n =
 abbrev pub first_refusal : Parts → List Count → List Shape → ℕ → ℕ → Option (ℕ × Count)
 first_refusal p start first n zero = None
 first_refusal p start first n (suc m) =
-    elim (refusal (level_numbers p start first n)) [ Some c ↦ Some (n, c) | None ↦ first_refusal p start first (suc n) m ]
+    elim (refusal (level_numbers p start first n)) [
+      | Some c ↦ Some (n, c)
+      | None ↦ first_refusal p start first (suc n) m
+    ]
 
 -- at a typed state Init does not count
 abbrev pub typed_numbers : Parts → List Count

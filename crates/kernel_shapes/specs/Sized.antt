@@ -100,8 +100,8 @@ pub data Family : Type 0 where
   infinite : Family
   -- an annotation
   noted : Family
-  -- EXCEPT, with the number of indexes of each update, and of each child behind the function whether it is a right side that
-  -- goes on along the path
+  -- EXCEPT, with the number of indexes of each update, and of each child behind the function whether it is a right side
+  -- that goes on along the path
   excepts : List ℕ → List Bool → Family
   folds : Family
 
@@ -315,7 +315,8 @@ excepted_sound (n ∷ ns) ks under a =
 abbrev pub steps_sound : ℕ → Seen → Shape → Bool
 steps_sound zero v a = true
 steps_sound (suc n) v a =
-    (step v a).sound && (alike a (reached_by n (λ b. (step v b).shape) (step v a).shape) && steps_sound n v (step v a).shape)
+    (step v a).sound
+    && (alike a (reached_by n (λ b. (step v b).shape) (step v a).shape) && steps_sound n v (step v a).shape)
 
 -- a filter has one name, its set and its test
 abbrev pub has_one_name : Row → ℕ → ℕ → Bool
@@ -330,7 +331,9 @@ family_sound (binder n r) v =
 family_sound (excepts ns ps) v =
     (child_at 0 v.here).sound && excepted_sound ns (drop 1 v.here) (λ bs. drop 1 (v.under bs)) (child_at 0 v.here).shape
 family_sound folds v =
-    all_sound (drop 1 v.here) && (is_sequence (child_at 2 v.here).shape && steps_sound (count (child_at 2 v.here).shape) v (child_at 1 v.here).shape)
+    all_sound (drop 1 v.here)
+    && (is_sequence (child_at 2 v.here).shape
+    && steps_sound (count (child_at 2 v.here).shape) v (child_at 1 v.here).shape)
 family_sound (product_set r) v = all_sound v.here && row_joins r no_literal (shapes_of v.here)
 family_sound s v = all_sound v.here
 

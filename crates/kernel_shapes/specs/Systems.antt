@@ -54,7 +54,8 @@ ConstantsKept (b ∷ bs) (u ∷ us) [] = ⊥
 
 -- a state follows another where one of the paths holds for some picks
 abbrev pub Follows : ℕ → List Assigned → State → State → Type 0
-Follows w xs s t = (x : Assigned) × IsOneOf x xs × ((vss : List (List Value)) × AssignedHolds (Some w) s t x.steps vss no_scope)
+Follows w xs s t =
+    (x : Assigned) × IsOneOf x xs × ((vss : List (List Value)) × AssignedHolds (Some w) s t x.steps vss no_scope)
 
 abbrev pub IsStep : ℕ → System → State → State → Type 0
 IsStep w sys s t = ConstantsKept sys.ker.fixed s.vals t.vals × Follows w sys.next s t

@@ -28,8 +28,8 @@ abbrev pub exponent : Literal → ℕ
 exponent (number n) = nat_abs n
 exponent l = 0
 
--- the row of an operator: `k` is the node's type, `ks` those of its children, `e` the second child where it is a literal,
--- and `ps` says which children are right sides that go on along the path of an EXCEPT
+-- the row of an operator: `k` is the node's type, `ks` those of its children, `e` the second child where it is a
+-- literal, and `ps` says which children are right sides that go on along the path of an EXCEPT
 abbrev pub family_of : Op → Kind → List Kind → Literal → List Bool → Family
 family_of (op.Bool b) k ks e ps = plain a_truth no_literal
 family_of (op.Int n) k ks e ps = plain (a_number n) (number n)
@@ -117,9 +117,9 @@ abbrev pub begins_with_name : List ℕ → List Expr → Bool
 begins_with_name x [] = false
 begins_with_name x (e ∷ es) = is_bound_name x (out-Expr e).op
 
--- whether a right side of an EXCEPT at p that binds these names is the rest of a path of several indexes: an EXCEPT at the
--- same place, of what the bound name stands for. No module has two EXCEPTs at one place, and a kernel tree takes a path of
--- several indexes apart in this way.
+-- whether a right side of an EXCEPT at p that binds these names is the rest of a path of several indexes: an EXCEPT at
+-- the same place, of what the bound name stands for. No module has two EXCEPTs at one place, and a kernel tree takes a
+-- path of several indexes apart in this way.
 abbrev pub is_part : Place → List (List ℕ) → Expr → Bool
 is_part p (x ∷ []) e =
     is_except (out-Expr e).op && (same_place p (out-Expr e).place && begins_with_name x (out-Expr e).args)

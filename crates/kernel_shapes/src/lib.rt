@@ -11,5 +11,5 @@ mod theorems;
 pub use bounds::{Bounds, Shape, Shapes, copy_shape};
 pub use theorems::{
     sound_trees_have_shapes_of_their_types, states_fit_the_shapes_of_their_levels,
-    values_fit_their_shapes,
+    typed_values_fit_the_shapes_of_their_types, values_fit_their_shapes,
 };

@@ -1,16 +1,17 @@
 // Laws of shapes, each as the contract of a function that does nothing.
-ghost use Rattle.std.specs.Prelude.{Bool, List, ℕ};
+ghost use Rattle.std.specs.Prelude.{Bool, List, ℕ, ℤ};
 ghost use Rattle.tla_meaning.specs.Scopes.{Scope};
 ghost use Rattle.tla_meaning.specs.declared.expr.Expr.{Expr};
 ghost use Rattle.tla_meaning.specs.declared.forms.SetForm.{SetForm};
 ghost use Rattle.tla_meaning.specs.declared.job.State.{State};
 ghost use Rattle.tla_values.specs.declared.value.Value.{Value};
+ghost use Rattle.snowcat_rows.specs.declared.types.Ty.{Ty};
 ghost use Rattle.kernel_trees.specs.Paths.{Marks};
 ghost use Rattle.kernel_trees.specs.Sound.{Context};
 ghost use Rattle.kernel_trees.specs.TypeKinds.{Kind};
 ghost use Rattle.kernel_trees.specs.declared.kernel.Ker.{Ker};
 ghost use Rattle.kernel_trees.specs.declared.system.System.{System};
-ghost use Rattle.kernel_shapes.specs.Laws.{FitsItsShape, FormFitsItsShape, HasSoundShape, KernelFitsItsShape, LevelsFit, StartFits};
+ghost use Rattle.kernel_shapes.specs.Laws.{FitsItsShape, FormFitsItsShape, HasSoundShape, KernelFitsItsShape, LevelsFit, StartFits, TypedFits};
 ghost use Rattle.kernel_shapes.specs.Shape.{Shape};
 ghost use Rattle.kernel_shapes.specs.Sized.{Extent};
 
@@ -35,4 +36,10 @@ pub fn sound_trees_have_shapes_of_their_types()
 pub fn states_fit_the_shapes_of_their_levels()
     ensures start { (w : ℕ) (sys : System) (names : List Kind) (m : Marks) (s : State) → StartFits w sys names m s }
     ensures levels { (w : ℕ) (sys : System) (names : List Kind) (m : Marks) (first : List Shape) (run : ℕ → State) (n : ℕ) → LevelsFit w sys names m first run n }
+{}
+
+/// A normal value of a type whose integers lie between two bounds and whose collections have at most so many elements
+/// fits the shape of the type in these bounds.
+pub fn typed_values_fit_the_shapes_of_their_types()
+    ensures { (literals : List (List ℕ)) (low : ℤ) (high : ℤ) (size : ℕ) (t : Ty) (k : Kind) (v : Value) → TypedFits literals low high size t k v }
 {}
