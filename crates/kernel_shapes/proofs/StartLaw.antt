@@ -1,11 +1,9 @@
 -- The law of shapes at the start: a state with which paths of CInit and Init hold fits the shapes of level 0.
-use Rattle.std.proofs.Common.{◌≡◌, ℕ, zero, suc, ◌≤◌, ◌⊎◌, inl, inr, Bool, true, false, not, ◌&&◌, IsTrue, List, [], ◌∷◌, map, length, Option, Some, None, refl, sym, ◌∙◌, ap, subst, arith, if◌then◌else◌}
-use Rattle.std.specs.Prelude.{slice_get, get_or, nat_lt}
-use Rattle.std.specs.List.{AllByRecursion, list_all}
-use Rattle.tla_values.specs.Sets.{Normal}
+use Rattle.std.proofs.Common.{◌≡◌, ℕ, suc, ◌≤◌, inl, inr, Bool, true, false, not, IsTrue, List, [], ◌∷◌, map, length, Option, Some, None, refl, sym, ◌∙◌, ap, subst, arith}
+use Rattle.std.specs.Prelude.{get_or, nat_lt}
+use Rattle.std.specs.List.{list_all}
 use Rattle.tla_values.specs.declared.value.Value.{Value, out-Value}
 use Rattle.tla_meaning.specs.declared.job.State.{State}
-use Rattle.tla_meaning.proofs.Laws.{none≢some}
 use Rattle.tla_meaning.proofs.Views.{and_left, and_right, and_both, false≢true}
 use Rattle.kernel_trees.specs.declared.path.Assigned.{Assigned}
 use Rattle.kernel_trees.specs.declared.system.System.{System}
@@ -14,14 +12,14 @@ use Rattle.kernel_trees.specs.Paths.{Marks}
 use Rattle.kernel_trees.specs.Picks.{IsOneOf}
 use Rattle.kernel_trees.specs.Sound.{sound_assigned}
 use Rattle.kernel_trees.specs.TypeKinds.{Kind}
-use Rattle.kernel_shapes.specs.Shape.{Shape, join}
-use Rattle.kernel_shapes.specs.Fits.{Fits, FitAll, StateFits}
-use Rattle.kernel_shapes.specs.Laws.{ConstantPathsAre, PathsAre, StartFits}
-use Rattle.kernel_shapes.specs.Levels.{in_state, after_path, after_paths, at_names, constant_shapes, join_each, kept_constants, start_shapes}
+use Rattle.kernel_shapes.specs.Shape.{Shape}
+use Rattle.kernel_shapes.specs.Fits.{FitAll, StateFits}
+use Rattle.kernel_shapes.specs.Laws.{StartFits}
+use Rattle.kernel_shapes.specs.Levels.{in_state, after_path, after_paths, at_names, constant_shapes, join_each, kept_constants}
 use Rattle.kernel_shapes.specs.Sized.{Extent, found}
-use Rattle.kernel_shapes.specs.Systems.{Follows, MarksInInit, every_name, no_scope, sized_path, sized_paths, system_parts, the_constants_of}
-use Rattle.kernel_shapes.specs.TypedExtents.{NamesOfKinds, without_shape}
-use Rattle.kernel_shapes.specs.TypedStates.{EachOfKind, OfKind}
+use Rattle.kernel_shapes.specs.Systems.{Follows, every_name, no_scope, sized_path, sized_paths, system_parts, the_constants_of}
+use Rattle.kernel_shapes.specs.TypedExtents.{NamesOfKinds}
+use Rattle.kernel_shapes.specs.TypedStates.{EachOfKind}
 use Rattle.kernel_shapes.proofs.FitLemmas.{join_left}
 use Rattle.kernel_shapes.proofs.JoinRight.{join_right}
 use Rattle.kernel_shapes.proofs.KindLaw.{kinds_alike}

@@ -1,43 +1,40 @@
 -- The law of typed states: a normal value of a type within bounds fits the shape of the type.
-use Rattle.std.proofs.Common.{◌≡◌, ℕ, zero, suc, ◌+◌, ◌≤◌, Bool, true, false, not, ◌&&◌, ◌||◌, IsTrue, List, [], ◌∷◌, ◌++◌, map, length, Option, Some, None, option_map, ◌⊎◌, inl, inr, ⊎_elim, ℤ, pos, ◌≤ℤ◌, int_le, is_some, bytes_eq, refl, sym, ◌∙◌, ap, ap₂, subst, arith, if◌then◌else◌}
-use Rattle.std.specs.Prelude.{option_and_then, All}
+use Rattle.std.proofs.Common.{◌≡◌, ℕ, suc, ◌≤◌, Bool, true, false, not, ◌||◌, IsTrue, List, [], ◌∷◌, ◌++◌, map, length, Option, Some, None, option_map, ◌⊎◌, inl, inr, ⊎_elim, ℤ, is_some, bytes_eq, refl, sym, ◌∙◌, ap, subst, arith, if◌then◌else◌}
+use Rattle.std.specs.Prelude.{option_and_then}
 use Rattle.std.proofs.lemmas.Int.{ints}
 use Rattle.std.proofs.lemmas.List.{length-map}
 use Rattle.std.proofs.lemmas.Slice.Eq.{bytes_eq-Decides}
 use Rattle.std.proofs.lemmas.List.Elements.{recursion_from_All}
-use Rattle.std.specs.List.{AllByRecursion, list_all, list_any}
+use Rattle.std.specs.List.{AllByRecursion, list_all}
 use Rattle.std.specs.Ordering.{is_lt}
 use Rattle.tla_values.specs.Order.{same_value, text_cmp}
 use Rattle.tla_values.specs.Sets.{Normal, apply, arguments, member, set_of, subset}
 use Rattle.tla_values.specs.declared.value.Value.{Value, out-Value}
 use Rattle.tla_values.specs.declared.value.Value.TheVariants as value
-use Rattle.tla_values.proofs.Extensional.{member-set_of, same_equal, same_itself}
+use Rattle.tla_values.proofs.Extensional.{member-set_of, same_itself}
 use Rattle.tla_values.proofs.FunLaws.{apply_domain}
 use Rattle.tla_values.proofs.NormalLemmas.{fun_order, fun_pairs, set_members}
 use Rattle.tla_values.proofs.SetLaws.{Rising, rising_from, rising_set_of}
-use Rattle.tla_meaning.specs.Forms.{has_fields}
-use Rattle.tla_meaning.specs.Scopes.{same_text}
-use Rattle.tla_meaning.specs.Shapes.{items_of, numbered, sequence, sublists}
+use Rattle.tla_meaning.specs.Shapes.{numbered, sequence, sublists}
 use Rattle.tla_meaning.proofs.Laws.{none≢some}
 use Rattle.tla_meaning.proofs.NormalShapes.{IfSomes, apply_normal, items_normal}
 use Rattle.tla_meaning.proofs.Views.{and_left, and_right, and_both, false≢true}
 use Rattle.snowcat_rows.specs.TypeTexts.{are_distinct, is_among}
-use Rattle.snowcat_rows.specs.Types.{Term, Slot, lookup, mean, mean_layer, none, row, some}
-use Rattle.snowcat_rows.specs.Values.{InBounds, Limits, OfField, OfItems, OfType, bounded}
+use Rattle.snowcat_rows.specs.Types.{Term, Slot, lookup, mean, mean_layer, row, some}
+use Rattle.snowcat_rows.specs.Values.{Limits, OfField, OfItems, OfType, bounded}
 use Rattle.snowcat_rows.specs.declared.types.Ty.{Ty, roll-Ty}
 use Rattle.snowcat_rows.specs.declared.types.Ty.TheOpen as ty
 use Rattle.snowcat_rows.specs.declared.types.Ty.TheFolds.{fold-roll-Ty, ind-Ty, map-Ty}
 use Rattle.kernel_trees.specs.TypeKinds as kind
 use Rattle.kernel_trees.specs.TypeKinds.{Kind, Kinds, Fields, all_fields_there, all_there, fields, insert_field, kind_layer, kind_of, more_fields, more_kinds, no_fields, no_kinds}
-use Rattle.kernel_shapes.specs.Shape.{Shape, Atom, Rec, Tup, Shapes, more_shapes, no_shapes, shapes}
-use Rattle.kernel_shapes.specs.Fits.{FieldsFit, Fits, FitsLayer, FitAll, ItemsFit, OfSome}
+use Rattle.kernel_shapes.specs.Shape.{Shape, Atom, Tup, Shapes, more_shapes, shapes}
+use Rattle.kernel_shapes.specs.Fits.{FieldsFit, Fits, FitsLayer, FitAll, OfSome}
 use Rattle.kernel_shapes.specs.Laws.{TypedFits}
 use Rattle.kernel_shapes.specs.TypedStates.{names_of_fields, shape_of_kind, shapes_of_fields, shapes_of_kinds}
 use Rattle.kernel_shapes.proofs.Choices.{OneOf, sublist_there}
 use Rattle.kernel_shapes.proofs.FitLemmas.{AllFit}
-use Rattle.kernel_shapes.proofs.Intervals.{Between}
 use Rattle.kernel_shapes.proofs.Operators.{fits_int, fits_set, fits_truth}
-use Rattle.kernel_shapes.proofs.Records.{same_texts, texts}
+use Rattle.kernel_shapes.proofs.Records.{texts}
 use Rattle.kernel_shapes.proofs.Sequences.{fits_sequence, fits_tuple, items_numbered}
 use Rattle.kernel_shapes.proofs.Sizes.{set_size}
 
@@ -214,9 +211,10 @@ module _ (literals : List (List ℕ)) (low high : ℤ) (size : ℕ) where
   finds_all : (fs : List Field) → IsTrue (are_distinct (names fs)) → Finds (lookup (named fs)) fs
   finds_all [] e = tt
   finds_all (f ∷ fs) e =
-      let fresh : Bool = not (is_among f.0 (names fs)) in
-      (ap (λ (b : Bool). if b then some (mean f.1.0) else lookup (named fs) f.0) ((bytes_eq-Decides f.0 f.0).1 refl),
-      finds_behind f.0 (mean f.1.0) (lookup (named fs)) fs (and_left fresh (are_distinct (names fs)) e) (finds_all fs (and_right fresh (are_distinct (names fs)) e)))
+      let fresh : Bool = not (is_among f.0 (names fs)) in (
+        ap (λ (b : Bool). if b then some (mean f.1.0) else lookup (named fs) f.0) ((bytes_eq-Decides f.0 f.0).1 refl),
+        finds_behind f.0 (mean f.1.0) (lookup (named fs)) fs (and_left fresh (are_distinct (names fs)) e) (finds_all fs (and_right fresh (are_distinct (names fs)) e)),
+      )
 
   -- the function has a value of the field's shape at the field's name
   abbrev Held : List (Value × Value) → List ℕ × Kind → Type 0
