@@ -1,7 +1,8 @@
 -- The law of shapes at the start: a state with which paths of CInit and Init hold fits the shapes of level 0.
 use Rattle.std.proofs.Common.{◌≡◌, ℕ, suc, ◌≤◌, inl, inr, Bool, true, false, not, IsTrue, List, [], ◌∷◌, map, length, Option, Some, None, refl, sym, ◌∙◌, ap, subst, arith}
 use Rattle.std.specs.Prelude.{get_or, nat_lt}
-use Rattle.std.specs.List.{list_all}
+use Rattle.std.specs.List.{AllByRecursion, list_all}
+use Rattle.tla_values.specs.Sets.{Normal}
 use Rattle.tla_values.specs.declared.value.Value.{Value, out-Value}
 use Rattle.tla_meaning.specs.declared.job.State.{State}
 use Rattle.tla_meaning.proofs.Views.{and_left, and_right, and_both, false≢true}
@@ -14,7 +15,7 @@ use Rattle.kernel_trees.specs.Sound.{sound_assigned}
 use Rattle.kernel_trees.specs.TypeKinds.{Kind}
 use Rattle.kernel_shapes.specs.Shape.{Shape}
 use Rattle.kernel_shapes.specs.Fits.{FitAll, StateFits}
-use Rattle.kernel_shapes.specs.Laws.{StartFits}
+use Rattle.kernel_shapes.specs.Laws.{ConstantPathsAre, StartFits}
 use Rattle.kernel_shapes.specs.Levels.{in_state, after_path, after_paths, at_names, constant_shapes, join_each, kept_constants}
 use Rattle.kernel_shapes.specs.Sized.{Extent, found}
 use Rattle.kernel_shapes.specs.Systems.{Follows, every_name, no_scope, sized_path, sized_paths, system_parts, the_constants_of}
@@ -148,8 +149,11 @@ module _ (w : ℕ) (wide : 2 ≤ w) (names : List Kind) (m : Marks) (g : Extent)
 
 -- ---- the start
 
-pub each_start_fits : (w : ℕ) (sys : System) (names : List Kind) (m : Marks) (s : State) → StartFits w sys names m s
-each_start_fits w sys names m s wide many filled marks cs ps norm rc ri =
+-- the constants of a state with which a path of CInit holds fit their shapes, which are of the types
+pub constants_fit : (w : ℕ) (sys : System) (names : List Kind) (s : State) → 2 ≤ w → length sys.ker.fixed ≡ length names → length s.vals ≡ length names →
+    ConstantPathsAre names sys.ker.fixed sys.constants → AllByRecursion Normal s.vals → Follows w sys.constants s s →
+    StateFits (kept_constants sys.ker.fixed (constant_shapes (system_parts w sys))) s.vals × EachOfKind names (constant_shapes (system_parts w sys))
+constants_fit w sys names s wide many filled cs norm rc =
     let fixed : List Bool = sys.ker.fixed in
     let g1 : Extent = at_names (nones fixed) in
     let st1 : Standing in_state names every_name [] [] g1 = record {
@@ -166,12 +170,21 @@ each_start_fits w sys names m s wide many filled marks cs ps norm rc ri =
     } in
     let consts : List Shape = constant_shapes (system_parts w sys) in
     let const_kinds : EachOfKind names consts = ends_of_kinds w wide names every_name g1 st1 sys.constants cs.sound cs.late in
-    let kept : StateFits (kept_constants fixed consts) s.vals =
+    (
     some_path w wide names every_name g1 st1 s a1 (λ as'. StateFits (kept_constants fixed as') s.vals) (λ as' ds h k f. kept_left fixed names as' ds s.vals h k f) (λ as' ds h k f. kept_right fixed names as' ds s.vals h k f)
     (the_constants_of fixed) (λ x z n. kept_found fixed names (after_path in_state (sized_path w x.steps) g1).next s.vals many z.kinds z.fits (λ i l q r.
     let y = z.left i l r in
     false≢true (sym (n i) ∙ and_both (get_or fixed i false) (not (is_in (given x.steps) i)) q (ap not y.2))))
-    sys.constants cs.sound cs.late cs.assign rc in
+    sys.constants cs.sound cs.late cs.assign rc,
+    const_kinds)
+
+pub each_start_fits : (w : ℕ) (sys : System) (names : List Kind) (m : Marks) (s : State) → StartFits w sys names m s
+each_start_fits w sys names m s wide many filled marks cs ps norm rc ri =
+    let fixed : List Bool = sys.ker.fixed in
+    let consts : List Shape = constant_shapes (system_parts w sys) in
+    let both = constants_fit w sys names s wide many filled cs norm rc in
+    let kept : StateFits (kept_constants fixed consts) s.vals = both.0 in
+    let const_kinds : EachOfKind names consts = both.1 in
     let g2 : Extent = at_names (kept_constants fixed consts) in
     let types2 = kept_kinds fixed names consts many const_kinds in
     let st2 : Standing in_state names m [] [] g2 = record {

@@ -25,18 +25,24 @@ use Rattle.snowcat_rows.specs.Values.{Limits, OfField, OfItems, OfType, bounded}
 use Rattle.snowcat_rows.specs.declared.types.Ty.{Ty, roll-Ty}
 use Rattle.snowcat_rows.specs.declared.types.Ty.TheOpen as ty
 use Rattle.snowcat_rows.specs.declared.types.Ty.TheFolds.{fold-roll-Ty, ind-Ty, map-Ty}
+use Rattle.tla_meaning.specs.declared.job.State.{State}
+use Rattle.kernel_trees.specs.declared.system.System.{System}
 use Rattle.kernel_trees.specs.TypeKinds as kind
 use Rattle.kernel_trees.specs.TypeKinds.{Kind, Kinds, Fields, all_fields_there, all_there, fields, insert_field, kind_layer, kind_of, more_fields, more_kinds, no_fields, no_kinds}
 use Rattle.kernel_shapes.specs.Shape.{Shape, Atom, Tup, Shapes, more_shapes, shapes}
-use Rattle.kernel_shapes.specs.Fits.{FieldsFit, Fits, FitsLayer, FitAll, OfSome}
-use Rattle.kernel_shapes.specs.Laws.{TypedFits}
-use Rattle.kernel_shapes.specs.TypedStates.{names_of_fields, shape_of_kind, shapes_of_fields, shapes_of_kinds}
+use Rattle.kernel_shapes.specs.Fits.{FieldsFit, StateFits, Fits, FitsLayer, FitAll, OfSome}
+use Rattle.kernel_shapes.specs.Laws.{EachInBounds, TypedFits, TypedStateFits}
+use Rattle.kernel_shapes.specs.Levels.{constant_shapes, kept_constants}
+use Rattle.kernel_shapes.specs.Systems.{system_parts}
+use Rattle.kernel_shapes.specs.TypedStates.{EachOfKind, typed_shapes, names_of_fields, shape_of_kind, shapes_of_fields, shapes_of_kinds}
 use Rattle.kernel_shapes.proofs.Choices.{OneOf, sublist_there}
 use Rattle.kernel_shapes.proofs.FitLemmas.{AllFit}
+use Rattle.kernel_shapes.proofs.KindLaw.{typed_kind}
 use Rattle.kernel_shapes.proofs.Operators.{fits_int, fits_set, fits_truth}
 use Rattle.kernel_shapes.proofs.Records.{texts}
 use Rattle.kernel_shapes.proofs.Sequences.{fits_sequence, fits_tuple, items_numbered}
 use Rattle.kernel_shapes.proofs.Sizes.{set_size}
+use Rattle.kernel_shapes.proofs.StartLaw.{constants_fit}
 
 some_is : {X : Type 0} {x y : X} → Some x ≡ Some y → x ≡ y
 some_is e = cc
@@ -372,3 +378,34 @@ module _ (literals : List (List ℕ)) (low high : ℤ) (size : ℕ) where
 
 pub each_typed_value_fits : (literals : List (List ℕ)) (low high : ℤ) (size : ℕ) (t : Ty) (k : Kind) (v : Value) → TypedFits literals low high size t k v
 each_typed_value_fits literals low high size t k v e n h = typed literals low high size t k e v n h
+
+-- ---- typed states
+
+typed_fit : (literals : List (List ℕ)) (low high : ℤ) (size : ℕ) (bs : List Bool) (ts : List Ty) (as' : List Shape) (ks : List Kind) (vs : List Value) → EachOfKind ks as' →
+    StateFits (kept_constants bs as') vs → AllByRecursion Normal vs → EachInBounds literals low high size bs ts ks vs →
+    FitAll (typed_shapes low high size bs as' ks) vs × EachOfKind ks (typed_shapes low high size bs as' ks)
+typed_fit literals low high size [] [] [] [] [] e f n h = (tt, tt)
+typed_fit literals low high size [] [] (a ∷ as') [] [] e f n h = absurd e
+typed_fit literals low high size [] [] as' [] (v ∷ vs) e f n h = absurd h
+typed_fit literals low high size [] [] as' (k ∷ ks) vs e f n h = absurd h
+typed_fit literals low high size [] (t ∷ ts) as' ks vs e f n h = absurd h
+typed_fit literals low high size (true ∷ bs) [] as' ks vs e f n h = absurd h
+typed_fit literals low high size (true ∷ bs) (t ∷ ts) as' [] vs e f n h = absurd h
+typed_fit literals low high size (true ∷ bs) (t ∷ ts) as' (k ∷ ks) [] e f n h = absurd h
+typed_fit literals low high size (true ∷ bs) (t ∷ ts) [] (k ∷ ks) (v ∷ vs) e f n h = absurd e
+typed_fit literals low high size (true ∷ bs) (t ∷ ts) (a ∷ as') (k ∷ ks) (v ∷ vs) e f n h =
+    let z = typed_fit literals low high size bs ts as' ks vs e.1 f.1 n.1 h in
+    ((f.0, z.0), (e.0, z.1))
+typed_fit literals low high size (false ∷ bs) [] as' ks vs e f n h = absurd h
+typed_fit literals low high size (false ∷ bs) (t ∷ ts) as' [] vs e f n h = absurd h
+typed_fit literals low high size (false ∷ bs) (t ∷ ts) as' (k ∷ ks) [] e f n h = absurd h
+typed_fit literals low high size (false ∷ bs) (t ∷ ts) [] (k ∷ ks) (v ∷ vs) e f n h = absurd e
+typed_fit literals low high size (false ∷ bs) (t ∷ ts) (a ∷ as') (k ∷ ks) (v ∷ vs) e f n h =
+    let z = typed_fit literals low high size bs ts as' ks vs e.1 f.1 n.1 h.2 in
+    ((each_typed_value_fits literals low high size t k v h.0 n.0 h.1, z.0), (typed_kind low high size k, z.1))
+
+pub each_typed_state_fits : (w : ℕ) (sys : System) (names : List Kind) (literals : List (List ℕ)) (low high : ℤ) (size : ℕ) (ts : List Ty) (s : State) →
+    TypedStateFits w sys names literals low high size ts s
+each_typed_state_fits w sys names literals low high size ts s wide many filled cs norm rc h =
+    let z = constants_fit w sys names s wide many filled cs norm rc in
+    typed_fit literals low high size sys.ker.fixed ts (constant_shapes (system_parts w sys)) names s.vals z.1 z.0 norm h

@@ -1,5 +1,5 @@
 -- What the law of shapes says of a tree.
-use Rattle.std.specs.Prelude.{ℕ, suc, ◌<◌, ◌≤◌, ◌≡◌, Bool, not, IsTrue, List, [], Some, length, ℤ}
+use Rattle.std.specs.Prelude.{ℕ, suc, ◌<◌, ◌≤◌, ◌≡◌, Bool, true, false, not, IsTrue, List, [], ◌∷◌, Some, length, ℤ}
 use Rattle.std.specs.List.{AllByRecursion, list_all}
 use Rattle.tla_values.specs.Sets.{Normal}
 use Rattle.tla_values.specs.declared.value.Value.{Value}
@@ -30,7 +30,7 @@ use Rattle.kernel_shapes.specs.Systems.{Follows, IsStep, MarksInInit, MarksVaria
 use Rattle.kernel_shapes.specs.Sized.{Extent}
 use Rattle.kernel_shapes.specs.Kernel.{ker_sized, ker_shape}
 use Rattle.kernel_shapes.specs.TypedExtents.{OfTypes, without_shape}
-use Rattle.kernel_shapes.specs.TypedStates.{OfKind, EachOfKind, shape_of_kind}
+use Rattle.kernel_shapes.specs.TypedStates.{OfKind, EachOfKind, shape_of_kind, typed_first}
 use Rattle.kernel_shapes.specs.Trees.{tree_sized, shape_of_tree}
 
 -- bound names, a state and a next state have values that fit the shapes of their names
@@ -118,3 +118,22 @@ StartFits w sys names m s =
 abbrev pub TypedFits : List (List ℕ) → ℤ → ℤ → ℕ → Ty → Kind → Value → Type 0
 TypedFits literals low high size t k v =
     kind_of t ≡ Some k → Normal v → InBounds literals low high size v (mean t) → Fits (shape_of_kind low high size k) v
+
+-- the variables of a state have values of their types within bounds, which have the kinds of the names
+abbrev pub EachInBounds : List (List ℕ) → ℤ → ℤ → ℕ → List Bool → List Ty → List Kind → List Value → Type 0
+EachInBounds literals low high size [] [] [] [] = Unit {0}
+EachInBounds literals low high size (true ∷ bs) (t ∷ ts) (k ∷ ks) (v ∷ vs) =
+    EachInBounds literals low high size bs ts ks vs
+EachInBounds literals low high size (false ∷ bs) (t ∷ ts) (k ∷ ks) (v ∷ vs) =
+    (kind_of t ≡ Some k) × InBounds literals low high size v (mean t) × EachInBounds literals low high size bs ts ks vs
+EachInBounds literals low high size bs ts ks vs = ⊥
+
+-- a state with which a path of CInit holds and whose variables have values of their types within bounds fits the shapes
+-- of a typed state, which are of the types
+abbrev pub TypedStateFits : ℕ → System → List Kind → List (List ℕ) → ℤ → ℤ → ℕ → List Ty → State → Type 0
+TypedStateFits w sys names literals low high size ts s =
+    2 ≤ w → length sys.ker.fixed ≡ length names → length s.vals ≡ length names →
+    ConstantPathsAre names sys.ker.fixed sys.constants → AllByRecursion Normal s.vals → Follows w sys.constants s s →
+    EachInBounds literals low high size sys.ker.fixed ts names s.vals →
+    FitAll (typed_first low high size (system_parts w sys) names) s.vals ×
+    EachOfKind names (typed_first low high size (system_parts w sys) names)

@@ -11,7 +11,7 @@ ghost use Rattle.kernel_trees.specs.Sound.{Context};
 ghost use Rattle.kernel_trees.specs.TypeKinds.{Kind};
 ghost use Rattle.kernel_trees.specs.declared.kernel.Ker.{Ker};
 ghost use Rattle.kernel_trees.specs.declared.system.System.{System};
-ghost use Rattle.kernel_shapes.specs.Laws.{FitsItsShape, FormFitsItsShape, HasSoundShape, KernelFitsItsShape, LevelsFit, StartFits, TypedFits};
+ghost use Rattle.kernel_shapes.specs.Laws.{FitsItsShape, FormFitsItsShape, HasSoundShape, KernelFitsItsShape, LevelsFit, StartFits, TypedFits, TypedStateFits};
 ghost use Rattle.kernel_shapes.specs.Shape.{Shape};
 ghost use Rattle.kernel_shapes.specs.Sized.{Extent};
 
@@ -39,7 +39,9 @@ pub fn states_fit_the_shapes_of_their_levels()
 {}
 
 /// A normal value of a type whose integers lie between two bounds and whose collections have at most so many elements
-/// fits the shape of the type in these bounds.
+/// fits the shape of the type in these bounds; and a state whose constants are those of CInit and whose variables have
+/// such values fits the shapes of a typed state, which are of the types of its names.
 pub fn typed_values_fit_the_shapes_of_their_types()
-    ensures { (literals : List (List ℕ)) (low : ℤ) (high : ℤ) (size : ℕ) (t : Ty) (k : Kind) (v : Value) → TypedFits literals low high size t k v }
+    ensures values { (literals : List (List ℕ)) (low : ℤ) (high : ℤ) (size : ℕ) (t : Ty) (k : Kind) (v : Value) → TypedFits literals low high size t k v }
+    ensures states { (w : ℕ) (sys : System) (names : List Kind) (literals : List (List ℕ)) (low : ℤ) (high : ℤ) (size : ℕ) (ts : List Ty) (s : State) → TypedStateFits w sys names literals low high size ts s }
 {}
