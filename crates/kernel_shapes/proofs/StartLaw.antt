@@ -169,14 +169,14 @@ constants_fit w sys names s wide many filled cs norm rc =
       one = refl;
     } in
     let consts : List Shape = constant_shapes (system_parts w sys) in
-    let const_kinds : EachOfKind names consts = ends_of_kinds w wide names every_name g1 st1 sys.constants cs.sound cs.late in
-    (
-    some_path w wide names every_name g1 st1 s a1 (λ as'. StateFits (kept_constants fixed as') s.vals) (λ as' ds h k f. kept_left fixed names as' ds s.vals h k f) (λ as' ds h k f. kept_right fixed names as' ds s.vals h k f)
-    (the_constants_of fixed) (λ x z n. kept_found fixed names (after_path in_state (sized_path w x.steps) g1).next s.vals many z.kinds z.fits (λ i l q r.
-    let y = z.left i l r in
-    false≢true (sym (n i) ∙ and_both (get_or fixed i false) (not (is_in (given x.steps) i)) q (ap not y.2))))
-    sys.constants cs.sound cs.late cs.assign rc,
-    const_kinds)
+    let const_kinds : EachOfKind names consts = ends_of_kinds w wide names every_name g1 st1 sys.constants cs.sound cs.late in (
+      some_path w wide names every_name g1 st1 s a1 (λ as'. StateFits (kept_constants fixed as') s.vals) (λ as' ds h k f. kept_left fixed names as' ds s.vals h k f) (λ as' ds h k f. kept_right fixed names as' ds s.vals h k f)
+          (the_constants_of fixed) (λ x z n. kept_found fixed names (after_path in_state (sized_path w x.steps) g1).next s.vals many z.kinds z.fits (λ i l q r.
+          let y = z.left i l r in
+          false≢true (sym (n i) ∙ and_both (get_or fixed i false) (not (is_in (given x.steps) i)) q (ap not y.2))))
+          sys.constants cs.sound cs.late cs.assign rc,
+      const_kinds,
+    )
 
 pub each_start_fits : (w : ℕ) (sys : System) (names : List Kind) (m : Marks) (s : State) → StartFits w sys names m s
 each_start_fits w sys names m s wide many filled marks cs ps norm rc ri =
