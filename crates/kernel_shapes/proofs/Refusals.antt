@@ -1,5 +1,5 @@
 -- The refusal of a level's numbers does not depend on their order or on how often one stands there.
-use Rattle.std.proofs.Common.{◌≡◌, Bool, true, false, true≢false, List, [], ◌∷◌, ◌++◌, Option, Some, None, option_map, refl, sym, ◌∙◌, ap, subst, if◌then◌else◌}
+use Rattle.std.proofs.Common.{◌≡◌, Bool, true, false, not, true≢false, inl, inr, is_some, List, [], ◌∷◌, ◌++◌, Option, Some, None, option_map, refl, sym, ◌∙◌, ap, subst, if◌then◌else◌}
 use Rattle.std.specs.declared.cmp.Ordering.{Ordering}
 use Rattle.std.specs.declared.cmp.Ordering.TheVariants.{Less, Equal, Greater}
 use Rattle.std.specs.Ordering.{nat_cmp, is_lt, is_eq, ordering_reverse}
@@ -7,7 +7,9 @@ use Rattle.std.specs.Cmp.Lexicographic.{slice_cmp}
 use Rattle.std.proofs.lemmas.Cmp.{nat_list_cmp_total}
 use Rattle.std.proofs.lemmas.Map.Text.{is_eq-slice_cmp}
 use Rattle.std.proofs.lemmas.Slice.Eq.{bytes_eq-Decides}
-use Rattle.kernel_shapes.specs.Counts.{Count, Rank, first_of_two, either_rank, rank_of_one, first_rank, refusal, refused_at}
+use Rattle.kernel_trees.specs.Picks.{IsOneOf}
+use Rattle.kernel_shapes.specs.Counts.{Count, Rank, first_of_two, either_rank, rank_of_one, first_rank, passes_limit, rank, refused_at, within_limits}
+use Rattle.kernel_shapes.specs.Laws.{Refuses, SameRefusal}
 
 abbrev cmp : Rank → Rank → Ordering
 cmp a b = slice_cmp nat_cmp a b
@@ -95,25 +97,44 @@ pub rank_append : (cs ds : List Count) → first_rank (cs ++ ds) ≡ either_rank
 rank_append [] ds = refl
 rank_append (c ∷ cs) ds = ap (either_rank (rank_of_one c)) (rank_append cs ds) ∙ sym (either_assoc (rank_of_one c) (first_rank cs) (first_rank ds))
 
--- a number stands in a list
-pub data Stands (c : Count) : List Count → Type 0 where
-  stands_first : {cs : List Count} → Stands c (c ∷ cs)
-  stands_later : {d : Count} {cs : List Count} → Stands c cs → Stands c (d ∷ cs)
-
-absorbed : (c : Count) (cs : List Count) → Stands c cs → either_rank (rank_of_one c) (first_rank cs) ≡ first_rank cs
-absorbed c _ (stands_first {cs = cs}) =
-    sym (either_assoc (rank_of_one c) (rank_of_one c) (first_rank cs)) ∙ ap (λ (x : Option Rank). either_rank x (first_rank cs)) (either_same (rank_of_one c))
-absorbed c _ (stands_later {d = d} {cs = cs} h) =
+absorbed : (c : Count) (cs : List Count) → IsOneOf c cs → either_rank (rank_of_one c) (first_rank cs) ≡ first_rank cs
+absorbed c [] h = absurd h
+absorbed c (d ∷ cs) (inl e) =
+    sym (either_assoc (rank_of_one c) (rank_of_one d) (first_rank cs))
+    ∙ ap (λ (x : Option Rank). either_rank x (first_rank cs)) (ap (λ (x : Count). either_rank (rank_of_one x) (rank_of_one d)) e ∙ either_same (rank_of_one d))
+absorbed c (d ∷ cs) (inr h) =
     sym (either_assoc (rank_of_one c) (rank_of_one d) (first_rank cs)) ∙ ap (λ (x : Option Rank). either_rank x (first_rank cs)) (either_comm (rank_of_one c) (rank_of_one d))
     ∙ either_assoc (rank_of_one d) (rank_of_one c) (first_rank cs) ∙ ap (either_rank (rank_of_one d)) (absorbed c cs h)
 
-all_absorbed : (cs ds : List Count) → ((c : Count) → Stands c cs → Stands c ds) → either_rank (first_rank cs) (first_rank ds) ≡ first_rank ds
+all_absorbed : (cs ds : List Count) → ((c : Count) → IsOneOf c cs → IsOneOf c ds) → either_rank (first_rank cs) (first_rank ds) ≡ first_rank ds
 all_absorbed [] ds h = refl
 all_absorbed (c ∷ cs) ds h =
-    either_assoc (rank_of_one c) (first_rank cs) (first_rank ds) ∙ ap (either_rank (rank_of_one c)) (all_absorbed cs ds (λ d k. h d (stands_later k)))
-    ∙ absorbed c ds (h c stands_first)
+    either_assoc (rank_of_one c) (first_rank cs) (first_rank ds) ∙ ap (either_rank (rank_of_one c)) (all_absorbed cs ds (λ d k. h d (inr k)))
+    ∙ absorbed c ds (h c (inl refl))
 
 -- the same numbers, in any order and any number of times, make the same refusal
-pub same_refusal : (cs ds : List Count) → ((c : Count) → Stands c cs → Stands c ds) → ((c : Count) → Stands c ds → Stands c cs) → refusal cs ≡ refusal ds
-same_refusal cs ds h k =
+pub each_same_refusal : (cs ds : List Count) → SameRefusal cs ds
+each_same_refusal cs ds h k =
     ap (option_map refused_at) (sym (all_absorbed ds cs k) ∙ either_comm (first_rank ds) (first_rank cs) ∙ all_absorbed cs ds h)
+
+-- ---- what is refused
+
+some_either : (r : Rank) (o : Option Rank) → is_some (either_rank (Some r) o) ≡ true
+some_either r None = refl
+some_either r (Some q) = refl
+
+ranked : (cs : List Count) → is_some (first_rank cs) ≡ not (within_limits cs)
+ranked [] = refl
+ranked (c ∷ cs) = by (passes_limit c) (ranked cs)
+  where
+    by : (b : Bool) → is_some (first_rank cs) ≡ not (within_limits cs) → is_some (either_rank (if b then Some (rank c) else None) (first_rank cs)) ≡ not (if b then false else within_limits cs)
+    by true e = some_either (rank c) (first_rank cs)
+    by false e = e
+
+mapped : (o : Option Rank) → is_some (option_map refused_at o) ≡ is_some o
+mapped None = refl
+mapped (Some r) = refl
+
+-- a level is refused where one of its numbers is past its limit
+pub each_refuses : (cs : List Count) → Refuses cs
+each_refuses cs = mapped (first_rank cs) ∙ ranked cs

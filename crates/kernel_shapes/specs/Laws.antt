@@ -1,5 +1,5 @@
 -- What the law of shapes says of a tree.
-use Rattle.std.specs.Prelude.{ℕ, suc, ◌<◌, ◌≤◌, ◌≡◌, Bool, true, false, not, IsTrue, List, [], ◌∷◌, Some, length, ℤ}
+use Rattle.std.specs.Prelude.{ℕ, suc, ◌<◌, ◌≤◌, ◌≡◌, Bool, true, false, not, IsTrue, List, [], ◌∷◌, Some, is_some, length, ℤ}
 use Rattle.std.specs.List.{AllByRecursion, list_all}
 use Rattle.tla_values.specs.Sets.{Normal}
 use Rattle.tla_values.specs.declared.value.Value.{Value}
@@ -14,6 +14,7 @@ use Rattle.tla_meaning.specs.Scopes.{Scope}
 use Rattle.snowcat_rows.specs.Types.{mean}
 use Rattle.snowcat_rows.specs.Values.{InBounds}
 use Rattle.snowcat_rows.specs.declared.types.Ty.{Ty}
+use Rattle.kernel_trees.specs.Picks.{IsOneOf}
 use Rattle.kernel_trees.specs.TypeKinds.{Kind, kind_of}
 use Rattle.kernel_trees.specs.declared.kernel.Ker.{Ker}
 use Rattle.kernel_trees.specs.declared.path.Assigned.{Assigned}
@@ -28,6 +29,7 @@ use Rattle.kernel_shapes.specs.Levels.{shapes_at, start_shapes}
 use Rattle.kernel_shapes.specs.Shape.{Shape, inside}
 use Rattle.kernel_shapes.specs.Systems.{Follows, IsStep, MarksInInit, MarksVariables, every_name, system_parts, the_constants_of}
 use Rattle.kernel_shapes.specs.Sized.{Extent}
+use Rattle.kernel_shapes.specs.Counts.{Count, refusal, within_limits}
 use Rattle.kernel_shapes.specs.Kernel.{ker_sized, ker_shape}
 use Rattle.kernel_shapes.specs.TypedExtents.{OfTypes, without_shape}
 use Rattle.kernel_shapes.specs.TypedStates.{OfKind, EachOfKind, shape_of_kind, typed_first}
@@ -137,3 +139,14 @@ TypedStateFits w sys names literals low high size ts s =
     EachInBounds literals low high size sys.ker.fixed ts names s.vals →
     FitAll (typed_first low high size (system_parts w sys) names) s.vals ×
     EachOfKind names (typed_first low high size (system_parts w sys) names)
+
+-- ---- refusals
+
+-- the same numbers, in any order and any number of times, make the same refusal
+abbrev pub SameRefusal : List Count → List Count → Type 0
+SameRefusal cs ds =
+    ((c : Count) → IsOneOf c cs → IsOneOf c ds) → ((c : Count) → IsOneOf c ds → IsOneOf c cs) → refusal cs ≡ refusal ds
+
+-- numbers make a refusal where one of them is past its limit
+abbrev pub Refuses : List Count → Type 0
+Refuses cs = is_some (refusal cs) ≡ not (within_limits cs)

@@ -11,7 +11,8 @@ ghost use Rattle.kernel_trees.specs.Sound.{Context};
 ghost use Rattle.kernel_trees.specs.TypeKinds.{Kind};
 ghost use Rattle.kernel_trees.specs.declared.kernel.Ker.{Ker};
 ghost use Rattle.kernel_trees.specs.declared.system.System.{System};
-ghost use Rattle.kernel_shapes.specs.Laws.{FitsItsShape, FormFitsItsShape, HasSoundShape, KernelFitsItsShape, LevelsFit, StartFits, TypedFits, TypedStateFits};
+ghost use Rattle.kernel_shapes.specs.Counts.{Count};
+ghost use Rattle.kernel_shapes.specs.Laws.{FitsItsShape, FormFitsItsShape, HasSoundShape, KernelFitsItsShape, LevelsFit, Refuses, SameRefusal, StartFits, TypedFits, TypedStateFits};
 ghost use Rattle.kernel_shapes.specs.Shape.{Shape};
 ghost use Rattle.kernel_shapes.specs.Sized.{Extent};
 
@@ -44,4 +45,11 @@ pub fn states_fit_the_shapes_of_their_levels()
 pub fn typed_values_fit_the_shapes_of_their_types()
     ensures values { (literals : List (List ℕ)) (low : ℤ) (high : ℤ) (size : ℕ) (t : Ty) (k : Kind) (v : Value) → TypedFits literals low high size t k v }
     ensures states { (w : ℕ) (sys : System) (names : List Kind) (literals : List (List ℕ)) (low : ℤ) (high : ℤ) (size : ℕ) (ts : List Ty) (s : State) → TypedStateFits w sys names literals low high size ts s }
+{}
+
+/// Numbers make a refusal where one of them is past its limit, and which one they make depends neither on their order
+/// nor on how often one of them stands there.
+pub fn refusals_depend_on_the_numbers_alone()
+    ensures limits { (cs : List Count) → Refuses cs }
+    ensures order { (cs ds : List Count) → SameRefusal cs ds }
 {}
