@@ -10,6 +10,7 @@ mod theorems;
 
 pub use bounds::{Bounds, Shape, Shapes, copy_shape};
 pub use theorems::{
-    refusals_depend_on_the_numbers_alone, sound_trees_have_shapes_of_their_types, states_fit_the_shapes_of_their_levels,
-    typed_values_fit_the_shapes_of_their_types, values_fit_their_shapes,
+    refusals_depend_on_the_numbers_alone, sound_trees_have_shapes_of_their_types,
+    states_fit_the_shapes_of_their_levels, typed_values_fit_the_shapes_of_their_types,
+    values_fit_their_shapes,
 };
