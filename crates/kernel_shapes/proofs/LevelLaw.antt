@@ -18,12 +18,13 @@ use Rattle.kernel_shapes.specs.Fits.{Fits, FitAll, StateFits}
 use Rattle.kernel_shapes.specs.Laws.{PathsAre, LevelsFit}
 use Rattle.kernel_shapes.specs.Levels.{in_next, after_path, after_paths, kept_constants, from_state, join_each, shapes_at}
 use Rattle.kernel_shapes.specs.Sized.{Extent, found}
-use Rattle.kernel_shapes.specs.Systems.{ConstantsKept, Follows, IsStep, MarksVariables, no_scope, sized_path, sized_paths, system_parts}
+use Rattle.kernel_shapes.specs.Systems.{ConstantsKept, Follows, IsStep, MarksVariables, assigns, no_scope, sized_path, sized_paths, system_parts}
 use Rattle.kernel_shapes.specs.TypedExtents.{NamesOfKinds}
 use Rattle.kernel_shapes.specs.TypedStates.{EachOfKind}
 use Rattle.kernel_shapes.proofs.FitLemmas.{join_left}
 use Rattle.kernel_shapes.proofs.JoinRight.{join_right}
 use Rattle.kernel_shapes.proofs.KindLaw.{join_kind, kinds_alike, empty_kind}
+use Rattle.kernel_shapes.proofs.Ended.{not_lacking}
 use Rattle.kernel_shapes.proofs.PathLaw.{Along, Standing, AtEnd, given, path_law, kinds_law}
 
 -- ---- joins over paths
@@ -220,13 +221,9 @@ module _ (w : ℕ) (wide : 2 ≤ w) (names : List Kind) (m : Marks) (fixed : Lis
       let y = z.left i q r in
       false≢true (sym (n i) ∙ and_both (m i true) (not (is_in (given x.steps) i)) y.0 (ap not y.2)))
 
-  not_lacking : (b : Bool) → IsTrue (not b) → b ≡ false
-  not_lacking true h = absurd (false≢true h)
-  not_lacking false h = refl
-
   -- and behind some path
   step_fits : (as' : List Shape) (xs : List Assigned) (s t : State) → EachOfKind names as' → FitAll as' s.vals → ConstantsKept fixed s.vals t.vals → AllByRecursion Normal s.vals → AllByRecursion Normal t.vals →
-      IsTrue (list_all (λ x. sound_assigned names [] x.steps) xs) → IsTrue (list_all (λ x. reads_late m [] x.steps) xs) → ((i : ℕ) → IsTrue (list_all (λ x. not (lacks m x.steps i)) xs)) →
+      IsTrue (list_all (λ x. sound_assigned names [] x.steps) xs) → IsTrue (list_all (λ x. reads_late m [] x.steps) xs) → ((i : ℕ) → IsTrue (list_all (λ x. assigns m x.steps i) xs)) →
       Follows w xs s t → FitAll (after_paths in_next (sized_paths w xs) (from_state fixed as')) t.vals
   step_fits as' [] s t h f k ns nt e l n r = absurd r.1
   step_fits as' (x ∷ xs) s t h f k ns nt e l n r =
@@ -239,7 +236,7 @@ module _ (w : ℕ) (wide : 2 ≤ w) (names : List Kind) (m : Marks) (fixed : Lis
       let one : EachOfKind names end = found_kinds names (after_path in_next (sized_path w x.steps) g).next (kinds_law in_next w wide names m x.steps [] [] g (stands_at as' h) e0 l0) in
       let rest : EachOfKind names (after_paths in_next (sized_paths w xs) g) = ends_of_kinds as' xs h e1 l1 in
       by r.1 one rest e0 l0
-      (λ q. step_fits as' xs s t h f k ns nt e1 l1 (λ i. and_right (not (lacks m x.steps i)) (list_all (λ (y : Assigned). not (lacks m y.steps i)) xs) (n i)) (r.0, q, r.2))
+      (λ q. step_fits as' xs s t h f k ns nt e1 l1 (λ i. and_right (assigns m x.steps i) (list_all (λ (y : Assigned). assigns m y.steps i) xs) (n i)) (r.0, q, r.2))
     where
       abbrev_g : Extent
       abbrev_g = from_state fixed as'
@@ -249,8 +246,10 @@ module _ (w : ℕ) (wide : 2 ≤ w) (names : List Kind) (m : Marks) (fixed : Lis
           FitAll (join_each (map found (after_path in_next (sized_path w x.steps) abbrev_g).next) (after_paths in_next (sized_paths w xs) abbrev_g)) t.vals
       by (inl q) one rest e0 l0 go =
           joined_left names (map found (after_path in_next (sized_path w x.steps) abbrev_g).next) (after_paths in_next (sized_paths w xs) abbrev_g) t.vals one rest
-          (path_fits as' x s t r.2.0 h f k ns nt e0 l0 (λ i. not_lacking (lacks m x.steps i) (and_left (not (lacks m x.steps i)) (list_all (λ (y : Assigned). not (lacks m y.steps i)) xs) (n i)))
-          (subst (λ (y : Assigned). AssignedHolds (Some w) s t y.steps r.2.0 no_scope) q r.2.1))
+          (path_fits as' x s t r.2.0 h f k ns nt e0 l0 (λ i. not_lacking (Some w) s t x.steps r.2.0 no_scope m i (and_left (assigns m x.steps i) (list_all (λ (y : Assigned). assigns m y.steps i) xs) (n i)) holds) holds)
+        where
+          holds : AssignedHolds (Some w) s t x.steps r.2.0 no_scope
+          holds = subst (λ (y : Assigned). AssignedHolds (Some w) s t y.steps r.2.0 no_scope) q r.2.1
       by (inr q) one rest e0 l0 go =
           joined_right names (map found (after_path in_next (sized_path w x.steps) abbrev_g).next) (after_paths in_next (sized_paths w xs) abbrev_g) t.vals one rest (go q)
 

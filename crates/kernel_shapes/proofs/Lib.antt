@@ -33,6 +33,7 @@ pub mod Choices
 pub mod FormMembers
 pub mod FormLaw
 pub mod PathLaw
+pub mod Ended
 pub mod LevelLaw
 pub mod KernelExamples
 pub mod StartLaw

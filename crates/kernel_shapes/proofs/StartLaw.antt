@@ -18,9 +18,10 @@ use Rattle.kernel_shapes.specs.Fits.{FitAll, StateFits}
 use Rattle.kernel_shapes.specs.Laws.{ConstantPathsAre, StartFits}
 use Rattle.kernel_shapes.specs.Levels.{in_state, after_path, after_paths, at_names, constant_shapes, join_each, kept_constants}
 use Rattle.kernel_shapes.specs.Sized.{Extent, found}
-use Rattle.kernel_shapes.specs.Systems.{Follows, every_name, no_scope, sized_path, sized_paths, system_parts, the_constants_of}
+use Rattle.kernel_shapes.specs.Systems.{Follows, assigns, every_name, no_scope, sized_path, sized_paths, system_parts, the_constants_of}
 use Rattle.kernel_shapes.specs.TypedExtents.{NamesOfKinds}
 use Rattle.kernel_shapes.specs.TypedStates.{EachOfKind}
+use Rattle.kernel_shapes.proofs.Ended.{not_lacking}
 use Rattle.kernel_shapes.proofs.FitLemmas.{join_left}
 use Rattle.kernel_shapes.proofs.JoinRight.{join_right}
 use Rattle.kernel_shapes.proofs.KindLaw.{kinds_alike}
@@ -106,10 +107,6 @@ nones_fit [] (v ∷ vs) e = absurd (no_first (length vs) e)
 nones_fit (b ∷ bs) [] e = absurd (no_last (length bs) e)
 nones_fit (b ∷ bs) (v ∷ vs) e = (tt, nones_fit bs vs (less (length bs) (length vs) e))
 
-not_lacking : (b : Bool) → IsTrue (not b) → b ≡ false
-not_lacking true h = absurd (false≢true h)
-not_lacking false h = refl
-
 -- ---- paths from one start
 
 module _ (w : ℕ) (wide : 2 ≤ w) (names : List Kind) (m : Marks) (g : Extent) (st : Standing in_state names m [] [] g) where
@@ -127,7 +124,7 @@ module _ (w : ℕ) (wide : 2 ≤ w) (names : List Kind) (m : Marks) (g : Extent)
     some_path : (P : List Shape → Type 0) → ((as' ds : List Shape) → EachOfKind names as' → EachOfKind names ds → P as' → P (join_each as' ds)) →
         ((as' ds : List Shape) → EachOfKind names as' → EachOfKind names ds → P ds → P (join_each as' ds)) → (q : Marks) →
         ((x : Assigned) → AtEnd names m [] x.steps (after_path in_state (sized_path w x.steps) g) s → ((i : ℕ) → lacks q x.steps i ≡ false) → P (map found (after_path in_state (sized_path w x.steps) g).next)) →
-        (xs : List Assigned) → IsTrue (list_all (λ x. sound_assigned names [] x.steps) xs) → IsTrue (list_all (λ x. reads_late m [] x.steps) xs) → ((i : ℕ) → IsTrue (list_all (λ x. not (lacks q x.steps i)) xs)) →
+        (xs : List Assigned) → IsTrue (list_all (λ x. sound_assigned names [] x.steps) xs) → IsTrue (list_all (λ x. reads_late m [] x.steps) xs) → ((i : ℕ) → IsTrue (list_all (λ x. assigns q x.steps i) xs)) →
         Follows w xs s s → P (after_paths in_state (sized_paths w xs) g)
     some_path P to_left to_right q one [] e l n r = absurd r.1
     some_path P to_left to_right q one (x ∷ xs) e l n r =
@@ -139,9 +136,11 @@ module _ (w : ℕ) (wide : 2 ≤ w) (names : List Kind) (m : Marks) (g : Extent)
         let l1 = and_right (reads_late m [] x.steps) (list_all (λ (y : Assigned). reads_late m [] y.steps) xs) l in
         let end_kinds : EachOfKind names end = found_kinds names (after_path in_state (sized_path w x.steps) g).next (kinds_law in_state w wide names m x.steps [] [] g st e0 l0) in
         by r.1 end rest (to_left end rest end_kinds (ends_of_kinds xs e1 l1)) (to_right end rest end_kinds (ends_of_kinds xs e1 l1))
-        (λ k. one x (path_law in_state w wide names m x.steps r.2.0 [] [] no_scope g s s a e0 l0 (subst (λ (y : Assigned). AssignedHolds (Some w) s s y.steps r.2.0 no_scope) k r.2.1))
-        (λ i. not_lacking (lacks q x.steps i) (and_left (not (lacks q x.steps i)) (list_all (λ (y : Assigned). not (lacks q y.steps i)) xs) (n i))))
-        (λ k. some_path P to_left to_right q one xs e1 l1 (λ i. and_right (not (lacks q x.steps i)) (list_all (λ (y : Assigned). not (lacks q y.steps i)) xs) (n i)) (r.0, k, r.2))
+        (λ k.
+          let holds : AssignedHolds (Some w) s s x.steps r.2.0 no_scope = subst (λ (y : Assigned). AssignedHolds (Some w) s s y.steps r.2.0 no_scope) k r.2.1 in
+          one x (path_law in_state w wide names m x.steps r.2.0 [] [] no_scope g s s a e0 l0 holds)
+          (λ i. not_lacking (Some w) s s x.steps r.2.0 no_scope q i (and_left (assigns q x.steps i) (list_all (λ (y : Assigned). assigns q y.steps i) xs) (n i)) holds))
+        (λ k. some_path P to_left to_right q one xs e1 l1 (λ i. and_right (assigns q x.steps i) (list_all (λ (y : Assigned). assigns q y.steps i) xs) (n i)) (r.0, k, r.2))
       where
         by : IsOneOf r.0 (x ∷ xs) → (end rest : List Shape) → (P end → P (join_each end rest)) → (P rest → P (join_each end rest)) → (r.0 ≡ x → P end) → (IsOneOf r.0 xs → P rest) → P (join_each end rest)
         by (inl k) end rest f h go more = f (go k)

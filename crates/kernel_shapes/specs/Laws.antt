@@ -19,7 +19,7 @@ use Rattle.kernel_trees.specs.TypeKinds.{Kind, kind_of}
 use Rattle.kernel_trees.specs.declared.kernel.Ker.{Ker}
 use Rattle.kernel_trees.specs.declared.path.Assigned.{Assigned}
 use Rattle.kernel_trees.specs.declared.system.System.{System}
-use Rattle.kernel_trees.specs.Assignments.{lacks, reads_late}
+use Rattle.kernel_trees.specs.Assignments.{reads_late}
 use Rattle.kernel_trees.specs.Paths.{Marks, mentions}
 use Rattle.kernel_trees.specs.Sound.{Context, kind_at, sound, sound_assigned}
 use Rattle.kernel_trees.specs.Trees.{ker_val}
@@ -27,7 +27,7 @@ use Rattle.kernel_shapes.specs.FiniteForms.{is_finite_form}
 use Rattle.kernel_shapes.specs.Fits.{BoundFit, FitAll, Fits, StateFits}
 use Rattle.kernel_shapes.specs.Levels.{shapes_at, start_shapes}
 use Rattle.kernel_shapes.specs.Shape.{Shape, inside}
-use Rattle.kernel_shapes.specs.Systems.{Follows, IsStep, MarksInInit, MarksVariables, every_name, system_parts, the_constants_of}
+use Rattle.kernel_shapes.specs.Systems.{Follows, IsStep, MarksInInit, MarksVariables, assigns, every_name, system_parts, the_constants_of}
 use Rattle.kernel_shapes.specs.Sized.{Extent}
 use Rattle.kernel_shapes.specs.Counts.{Count, refusal, within_limits}
 use Rattle.kernel_shapes.specs.Kernel.{ker_sized, ker_shape}
@@ -85,11 +85,11 @@ FormFitsItsShape w e ks sc g s t f v =
 
 -- ---- levels
 
--- the paths of a system are sound, read late and assign each marked name
+-- the paths of a system are sound, read late and, if they have not ended, assign each marked name
 pub record PathsAre (names : List Kind) (m : Marks) (xs : List Assigned) : Type 0 where
   pub sound : IsTrue (list_all (λ x. sound_assigned names [] x.steps) xs)
   pub late : IsTrue (list_all (λ x. reads_late m [] x.steps) xs)
-  pub assign : (i : ℕ) → IsTrue (list_all (λ x. not (lacks m x.steps i)) xs)
+  pub assign : (i : ℕ) → IsTrue (list_all (λ x. assigns m x.steps i) xs)
 
 -- where a state fits shapes of the types, the state that is reached along the paths n steps later fits the shapes of
 -- level n
@@ -100,11 +100,12 @@ LevelsFit w sys names m first run n =
     ((i : ℕ) → i < n → IsStep w sys (run i) (run (suc i))) →
     FitAll (shapes_at (system_parts w sys) first n) (run n).vals
 
--- the paths of CInit are sound, read no name that is not assigned before, and assign each constant
+-- the paths of CInit are sound, read no name that is not assigned before, and, if they have not ended, assign each
+-- constant
 pub record ConstantPathsAre (names : List Kind) (fixed : List Bool) (xs : List Assigned) : Type 0 where
   pub sound : IsTrue (list_all (λ x. sound_assigned names [] x.steps) xs)
   pub late : IsTrue (list_all (λ x. reads_late every_name [] x.steps) xs)
-  pub assign : (i : ℕ) → IsTrue (list_all (λ x. not (lacks (the_constants_of fixed) x.steps i)) xs)
+  pub assign : (i : ℕ) → IsTrue (list_all (λ x. assigns (the_constants_of fixed) x.steps i) xs)
 
 -- a state with which paths of CInit and of Init hold fits the shapes of the start, which are of the types
 abbrev pub StartFits : ℕ → System → List Kind → Marks → State → Type 0

@@ -1,16 +1,18 @@
 -- A system by what is computed of its trees, and its runs along paths.
-use Rattle.std.specs.Prelude.{ℕ, ◌≡◌, Bool, true, false, List, [], ◌∷◌, map, length, Some, get_or, slice_get}
+use Rattle.std.specs.Prelude.{ℕ, ◌≡◌, Bool, true, false, not, ◌||◌, List, [], ◌∷◌, map, length, Some, get_or, slice_get}
 use Rattle.tla_values.specs.declared.value.Value.{Value}
 use Rattle.tla_meaning.specs.declared.job.State.{State}
 use Rattle.tla_meaning.specs.Scopes.{Scope}
+use Rattle.kernel_trees.specs.declared.kernel.Ker.{out-Ker}
 use Rattle.kernel_trees.specs.declared.path.Assigned.{Assigned}
 use Rattle.kernel_trees.specs.declared.path.AssignedStep.{AssignedStep}
 use Rattle.kernel_trees.specs.declared.path.AssignedStep.TheVariants as mark
 use Rattle.kernel_trees.specs.declared.system.System.{System}
-use Rattle.kernel_trees.specs.Assignments.{AssignedHolds}
-use Rattle.kernel_trees.specs.Paths.{Marks}
+use Rattle.kernel_trees.specs.Assignments.{AssignedHolds, lacks}
+use Rattle.kernel_trees.specs.Paths.{Marks, is_end}
 use Rattle.kernel_trees.specs.Picks.{IsOneOf}
 use Rattle.kernel_trees.specs.Trees.{number_name}
+use Rattle.kernel_trees.specs.Ways.{has_ended}
 use Rattle.kernel_shapes.specs.Kernel.{ker_sized}
 use Rattle.kernel_shapes.specs.Levels.{Step, Guard, Pick, Equals, Among, Path, Parts}
 
@@ -73,3 +75,21 @@ every_name i primed = true
 
 abbrev pub the_constants_of : List Bool → Marks
 the_constants_of fixed i primed = get_or fixed i false
+
+-- ---- what paths assign
+
+-- the constant FALSE and a CASE of which no guard is TRUE, where they are to be TRUE: no state has them so
+abbrev pub is_assigned_end : AssignedStep → Bool
+is_assigned_end (mark.Guard k true) = is_end (out-Ker k).op
+is_assigned_end (mark.Guard k false) = false
+is_assigned_end (mark.Pick ps) = false
+is_assigned_end (mark.Equals i e) = false
+is_assigned_end (mark.Among i e) = false
+
+-- a path has ended where its last step is such a guard
+abbrev pub assigned_ended : List AssignedStep → Bool
+assigned_ended = has_ended is_assigned_end
+
+-- a path assigns the name, if it is marked; one that has ended never holds, and needs no assignment
+abbrev pub assigns : Marks → List AssignedStep → ℕ → Bool
+assigns m zs i = assigned_ended zs || not (lacks m zs i)
