@@ -1,5 +1,5 @@
 -- The law of shapes from level to level.
-use Rattle.std.proofs.Common.{◌≡◌, ℕ, zero, suc, ◌<◌, ◌≤◌, inl, inr, Bool, true, false, not, IsTrue, List, [], ◌∷◌, map, length, Option, Some, None, refl, sym, ◌∙◌, ap, subst, arith}
+use Rattle.std.proofs.Common.{◌≡◌, ℕ, zero, suc, ◌≤◌, inl, inr, Bool, true, false, not, IsTrue, List, [], ◌∷◌, map, length, Option, Some, None, refl, sym, ◌∙◌, ap, subst, arith}
 use Rattle.std.specs.Prelude.{slice_get, option_and_then, is_some, nat_lt}
 use Rattle.std.specs.List.{AllByRecursion, list_all}
 use Rattle.tla_values.specs.Sets.{Normal}
@@ -15,10 +15,10 @@ use Rattle.kernel_trees.specs.Sound.{sound_assigned}
 use Rattle.kernel_trees.specs.TypeKinds.{Kind}
 use Rattle.kernel_shapes.specs.Shape.{Shape}
 use Rattle.kernel_shapes.specs.Fits.{Fits, FitAll, StateFits}
-use Rattle.kernel_shapes.specs.Laws.{PathsAre, LevelsFit}
+use Rattle.kernel_shapes.specs.Laws.{LevelsFit}
 use Rattle.kernel_shapes.specs.Levels.{in_next, after_path, after_paths, kept_constants, from_state, join_each, shapes_at}
 use Rattle.kernel_shapes.specs.Sized.{Extent, found}
-use Rattle.kernel_shapes.specs.Systems.{ConstantsKept, Follows, IsStep, MarksVariables, assigns, no_scope, sized_path, sized_paths, system_parts}
+use Rattle.kernel_shapes.specs.Systems.{ConstantsKept, Follows, MarksVariables, assigns, no_scope, sized_path, sized_paths, system_parts}
 use Rattle.kernel_shapes.specs.TypedExtents.{NamesOfKinds}
 use Rattle.kernel_shapes.specs.TypedStates.{EachOfKind}
 use Rattle.kernel_shapes.proofs.FitLemmas.{join_left}
@@ -254,16 +254,11 @@ module _ (w : ℕ) (wide : 2 ≤ w) (names : List Kind) (m : Marks) (fixed : Lis
           joined_right names (map found (after_path in_next (sized_path w x.steps) abbrev_g).next) (after_paths in_next (sized_paths w xs) abbrev_g) t.vals one rest (go q)
 
 -- the state at each level fits the shapes of the level, and these are of the types
-level_law : (w : ℕ) (sys : System) (names : List Kind) (m : Marks) (first : List Shape) (run : ℕ → State) (n : ℕ) → 2 ≤ w → length sys.ker.fixed ≡ length names → MarksVariables m sys.ker.fixed → PathsAre names m sys.next →
-    EachOfKind names first → FitAll first (run 0).vals → ((i : ℕ) → AllByRecursion Normal (run i).vals) → ((i : ℕ) → i < n → IsStep w sys (run i) (run (suc i))) →
-    FitAll (shapes_at (system_parts w sys) first n) (run n).vals × EachOfKind names (shapes_at (system_parts w sys) first n)
-level_law w sys names m first run zero wide many marks ps k f norm r = (f, k)
-level_law w sys names m first run (suc n) wide many marks ps k f norm r =
-    let before = level_law w sys names m first run n wide many marks ps k f norm (λ i l. r i (omega (arith, l))) in
+pub each_level_fits : (w : ℕ) (sys : System) (names : List Kind) (m : Marks) (first : List Shape) (run : ℕ → State) (n : ℕ) → LevelsFit w sys names m first run n
+each_level_fits w sys names m first run zero wide many marks ps f norm r = f
+each_level_fits w sys names m first run (suc n) wide many marks ps f norm r =
+    let before = each_level_fits w sys names m first run n wide many marks ps f norm (λ i l. r i (omega (arith, l))) in
     let one = r n (omega arith) in (
       step_fits w wide names m sys.ker.fixed many marks (shapes_at (system_parts w sys) first n) sys.next (run n) (run (suc n)) before.1 before.0 one.0 (norm n) (norm (suc n)) ps.sound ps.late ps.assign one.1,
       ends_of_kinds w wide names m sys.ker.fixed many marks (shapes_at (system_parts w sys) first n) sys.next before.1 ps.sound ps.late,
     )
-
-pub each_level_fits : (w : ℕ) (sys : System) (names : List Kind) (m : Marks) (first : List Shape) (run : ℕ → State) (n : ℕ) → LevelsFit w sys names m first run n
-each_level_fits w sys names m first run n wide many marks ps k f norm r = (level_law w sys names m first run n wide many marks ps k f norm r).0

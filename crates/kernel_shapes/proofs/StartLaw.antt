@@ -137,9 +137,9 @@ module _ (w : ℕ) (wide : 2 ≤ w) (names : List Kind) (m : Marks) (g : Extent)
         let end_kinds : EachOfKind names end = found_kinds names (after_path in_state (sized_path w x.steps) g).next (kinds_law in_state w wide names m x.steps [] [] g st e0 l0) in
         by r.1 end rest (to_left end rest end_kinds (ends_of_kinds xs e1 l1)) (to_right end rest end_kinds (ends_of_kinds xs e1 l1))
         (λ k.
-          let holds : AssignedHolds (Some w) s s x.steps r.2.0 no_scope = subst (λ (y : Assigned). AssignedHolds (Some w) s s y.steps r.2.0 no_scope) k r.2.1 in
-          one x (path_law in_state w wide names m x.steps r.2.0 [] [] no_scope g s s a e0 l0 holds)
-          (λ i. not_lacking (Some w) s s x.steps r.2.0 no_scope q i (and_left (assigns q x.steps i) (list_all (λ (y : Assigned). assigns q y.steps i) xs) (n i)) holds))
+        let holds : AssignedHolds (Some w) s s x.steps r.2.0 no_scope = subst (λ (y : Assigned). AssignedHolds (Some w) s s y.steps r.2.0 no_scope) k r.2.1 in
+        one x (path_law in_state w wide names m x.steps r.2.0 [] [] no_scope g s s a e0 l0 holds)
+        (λ i. not_lacking (Some w) s s x.steps r.2.0 no_scope q i (and_left (assigns q x.steps i) (list_all (λ (y : Assigned). assigns q y.steps i) xs) (n i)) holds))
         (λ k. some_path P to_left to_right q one xs e1 l1 (λ i. and_right (assigns q x.steps i) (list_all (λ (y : Assigned). assigns q y.steps i) xs) (n i)) (r.0, k, r.2))
       where
         by : IsOneOf r.0 (x ∷ xs) → (end rest : List Shape) → (P end → P (join_each end rest)) → (P rest → P (join_each end rest)) → (r.0 ≡ x → P end) → (IsOneOf r.0 xs → P rest) → P (join_each end rest)

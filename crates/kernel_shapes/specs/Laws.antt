@@ -85,20 +85,26 @@ FormFitsItsShape w e ks sc g s t f v =
 
 -- ---- levels
 
+-- a state fits shapes, and these are of the types of its names
+abbrev pub FitsTyped : List Kind → List Shape → State → Type 0
+FitsTyped names as' s = FitAll as' s.vals × EachOfKind names as'
+
 -- the paths of a system are sound, read late and, if they have not ended, assign each marked name
 pub record PathsAre (names : List Kind) (m : Marks) (xs : List Assigned) : Type 0 where
   pub sound : IsTrue (list_all (λ x. sound_assigned names [] x.steps) xs)
   pub late : IsTrue (list_all (λ x. reads_late m [] x.steps) xs)
   pub assign : (i : ℕ) → IsTrue (list_all (λ x. assigns m x.steps i) xs)
 
--- where a state fits shapes of the types, the state that is reached along the paths n steps later fits the shapes of
--- level n
+-- where a state fits shapes of the types, the state that is reached n steps later along paths of the step fits the
+-- shapes of level n, which are of the types. The paths are sound and read no marked name before its assignment; each
+-- variable is marked in the next state, and a path that has not ended assigns it. (Values are to be normal in all of
+-- `run`, which goes on behind n: there any state may stand.)
 abbrev pub LevelsFit : ℕ → System → List Kind → Marks → List Shape → (ℕ → State) → ℕ → Type 0
 LevelsFit w sys names m first run n =
     2 ≤ w → length sys.ker.fixed ≡ length names → MarksVariables m sys.ker.fixed → PathsAre names m sys.next →
-    EachOfKind names first → FitAll first (run 0).vals → ((i : ℕ) → AllByRecursion Normal (run i).vals) →
+    FitsTyped names first (run 0) → ((i : ℕ) → AllByRecursion Normal (run i).vals) →
     ((i : ℕ) → i < n → IsStep w sys (run i) (run (suc i))) →
-    FitAll (shapes_at (system_parts w sys) first n) (run n).vals
+    FitsTyped names (shapes_at (system_parts w sys) first n) (run n)
 
 -- the paths of CInit are sound, read no name that is not assigned before, and, if they have not ended, assign each
 -- constant
@@ -113,7 +119,7 @@ StartFits w sys names m s =
     2 ≤ w → length sys.ker.fixed ≡ length names → length s.vals ≡ length names → MarksInInit m sys.ker.fixed →
     ConstantPathsAre names sys.ker.fixed sys.constants → PathsAre names m sys.start → AllByRecursion Normal s.vals →
     Follows w sys.constants s s → Follows w sys.start s s →
-    FitAll (start_shapes (system_parts w sys)) s.vals × EachOfKind names (start_shapes (system_parts w sys))
+    FitsTyped names (start_shapes (system_parts w sys)) s
 
 -- ---- typed states
 
@@ -138,8 +144,7 @@ TypedStateFits w sys names literals low high size ts s =
     2 ≤ w → length sys.ker.fixed ≡ length names → length s.vals ≡ length names →
     ConstantPathsAre names sys.ker.fixed sys.constants → AllByRecursion Normal s.vals → Follows w sys.constants s s →
     EachInBounds literals low high size sys.ker.fixed ts names s.vals →
-    FitAll (typed_first low high size (system_parts w sys) names) s.vals ×
-    EachOfKind names (typed_first low high size (system_parts w sys) names)
+    FitsTyped names (typed_first low high size (system_parts w sys) names) s
 
 -- ---- refusals
 
