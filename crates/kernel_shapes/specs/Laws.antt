@@ -110,6 +110,8 @@ LevelsFit w sys names m first run n =
 -- constant
 pub record ConstantPathsAre (names : List Kind) (fixed : List Bool) (xs : List Assigned) : Type 0 where
   pub sound : IsTrue (list_all (λ x. sound_assigned names [] x.steps) xs)
+  -- every name is marked here: CInit reads no variable, and a constant only behind its assignment. Whoever builds the
+  -- system owes this, and that the assumption, whose numbers count beside those of CInit, reads no variable either.
   pub late : IsTrue (list_all (λ x. reads_late every_name [] x.steps) xs)
   pub assign : (i : ℕ) → IsTrue (list_all (λ x. assigns (the_constants_of fixed) x.steps i) xs)
 
