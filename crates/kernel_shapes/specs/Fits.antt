@@ -1,4 +1,5 @@
--- Which values fit a shape.
+-- Which values fit a shape. Source: Konnov, Kukovec and Tran, "TLA+ Model Checking Made Symbolic", OOPSLA 2019, on the
+-- static bounds of cells and arenas.
 use Rattle.std.specs.Prelude.{ℕ, ◌≤◌, ◌≤ℤ◌, List, [], ◌∷◌, length, Option, Some, None, ℤ, IsTrue, ◌≡◌}
 use Rattle.std.specs.List.{AllByRecursion}
 use Rattle.tla_values.specs.Order.{Layer}

@@ -1,4 +1,5 @@
--- Shapes of names at levels, the numbers of a level, and the refusal of a system.
+-- Shapes of names at levels, the numbers of a level, and the refusal of a system. Source: Konnov, Kukovec and Tran,
+-- "TLA+ Model Checking Made Symbolic", OOPSLA 2019, on the static bounds of cells and arenas, and on assignments.
 use Rattle.std.specs.Prelude.{ℕ, zero, suc, Bool, true, false, List, [], ◌∷◌, ◌++◌, map, length, Option, Some, None}
 use Rattle.kernel_shapes.specs.Shape.{Shape, inside, join}
 use Rattle.kernel_shapes.specs.Counts.{Count, refusal}

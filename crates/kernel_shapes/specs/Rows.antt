@@ -1,4 +1,5 @@
--- The table of shapes: a row for each kind of node, by the shapes of its children.
+-- The table of shapes: a row for each kind of node, by the shapes of its children. Source: Konnov, Kukovec and Tran,
+-- "TLA+ Model Checking Made Symbolic", OOPSLA 2019, on the static bounds of cells and arenas.
 use Rattle.std.specs.Prelude.{ℕ, zero, suc, ◌+◌, ◌*◌, ◌^◌, max, List, [], ◌∷◌, map, length, ℤ, pos, ◌+ℤ◌, ◌-ℤ◌, ◌*ℤ◌, neg_ℤ, nat_abs, int_le, if◌then◌else◌}
 use Rattle.std.specs.Int.{int_max}
 use Rattle.std.specs.Ordering.{is_lt}
@@ -47,7 +48,6 @@ pub data Row : Type 0 where
   -- f[e], r.x, Head
   an_application : Row
   a_field : List ℕ → Row
-  an_item : ℕ → Row
   a_head : Row
   -- DOMAIN of a function, of a sequence or tuple, of a record
   the_arguments : Row
@@ -161,7 +161,6 @@ row_shape w (a_function n) l as' = Fun (product_of (but_last as')) (argument_of 
 row_shape w a_choice l as' = join_all (branches_of as')
 row_shape w an_application l (a ∷ as') = applied_at a l
 row_shape w (a_field x) l (a ∷ as') = applied_at a (text x)
-row_shape w (an_item n) l (a ∷ as') = applied_at a (number (pos n))
 row_shape w a_head l (a ∷ as') = result a
 row_shape w the_arguments l (a ∷ as') = Set (count a) (inside a)
 row_shape w the_places l (a ∷ as') = Set (count a) (interval w (pos 1) (pos (count a)))

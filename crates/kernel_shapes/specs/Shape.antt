@@ -53,7 +53,7 @@ count (Tup (more_shapes a as')) = count (Tup as') + 1
 count (Rec xs as') = length xs
 count a = 0
 
--- the members of a set, the arguments of a function
+-- the members of a set, the arguments of a function, the places of a sequence
 abbrev pub inside : Shape → Shape
 inside (Set n a) = a
 inside (Fun n a r) = a
@@ -85,12 +85,13 @@ abbrev mutual
   join_items (more_shapes a as') no_shapes = more_shapes a as'
   join_items (more_shapes a as') (more_shapes b bs) = more_shapes (join a b) (join_items as' bs)
 
--- whether two shapes are of one kind, so that they may be joined
+-- the same names in the same order
 abbrev pub same_names : List (List ℕ) → List (List ℕ) → Bool
 same_names [] [] = true
 same_names (x ∷ xs) (y ∷ ys) = same_text x y && same_names xs ys
 same_names xs ys = false
 
+-- whether two shapes are of one kind, so that they may be joined
 abbrev mutual
   pub alike : Shape → Shape → Bool
   alike Empty b = true

@@ -1,10 +1,11 @@
--- The shape of a node and the numbers that count, by those of its children.
+-- The shape of a node and the numbers that count, by those of its children. Source: Konnov, Kukovec and Tran,
+-- "TLA+ Model Checking Made Symbolic", OOPSLA 2019, on the static bounds of cells and arenas.
 use Rattle.std.specs.Prelude.{ℕ, zero, suc, Bool, true, false, not, ◌&&◌, is_some, List, [], ◌∷◌, ◌++◌, map, take, drop, length, Option, Some, None, pos, nat_eq, if◌then◌else◌}
 use Rattle.tla_meaning.specs.declared.place.Place.{Place}
 use Rattle.std.specs.List.{list_any}
 use Rattle.tla_meaning.specs.Scopes.{same_text}
 use Rattle.kernel_shapes.specs.Shape.{Shape, Atom, Fun, Seq, Rec, Tup, Empty, count, inside, result, alike, alike_all}
-use Rattle.kernel_shapes.specs.Rows.{Literal, no_literal, number, text, Row, an_application, a_power, a_field, an_item, a_part, a_length, a_head, a_shorter, a_record, the_records, the_subsets, the_functions, the_arguments, the_places, the_names, an_enumeration, a_sequence, a_choice, a_union, a_merge, an_append, a_concatenation, row_shape, nth, branches_of, insides, applied_at, shape_at, joined_at, reached_by}
+use Rattle.kernel_shapes.specs.Rows.{Literal, no_literal, number, text, Row, an_application, a_power, a_field, a_part, a_length, a_head, a_shorter, a_record, the_records, the_subsets, the_functions, the_arguments, the_places, the_names, an_enumeration, a_sequence, a_choice, a_union, a_merge, an_append, a_concatenation, row_shape, nth, branches_of, insides, applied_at, shape_at, joined_at, reached_by}
 use Rattle.kernel_shapes.specs.Counts.{Count, count_at}
 
 -- where a node stands: in every other place it is walked
@@ -13,7 +14,7 @@ pub data Position : Type 0 where
   walked : Position
   -- the right side of a membership or an inclusion, and operands there in turn
   as_form : Position
-  -- S of an assignment `x' \in S`
+  -- S of an assignment `x' \in S`, and operands there in turn
   assigned_from : Position
   -- the domain of an \E on a path
   picked_from : Position
@@ -32,7 +33,9 @@ pub record Sized : Type 0 where
   pub beyond : List Count
   -- the literal that it is
   pub literal : Literal
-  -- whether it reads only names that have a shape, and joins only shapes of one kind (a typed tree on a path does)
+  -- whether it reads only names that have a shape and joins only shapes of one kind, and is well formed otherwise: a
+  -- filter has one name, a power its literal exponent, a record different fields; tuples and records are read by
+  -- literals; operands are sequences, functions or records where they are to be (so it is in a typed tree on a path)
   pub sound : Bool
 
 abbrev pub Sizing : Type 0
@@ -220,7 +223,7 @@ family_literal (plain r l) v = l
 family_literal noted v = (child_at 0 v.here).literal
 family_literal s v = no_literal
 
--- ---- sound trees: each name that is read has a shape, and what is joined is of one kind
+-- ---- sound trees: see `Sized.sound`
 
 -- a record has the field, and a tuple is read by a literal number
 abbrev pub readable : Shape → Literal → Bool
@@ -262,7 +265,6 @@ is_record_of xs as' = names_differ xs && nat_eq (length xs) (length as')
 abbrev pub row_joins : Row → Literal → List Shape → Bool
 row_joins an_application l (a ∷ as') = readable a l
 row_joins (a_field x) l (a ∷ as') = readable a (text x)
-row_joins (an_item n) l (a ∷ as') = readable a (number (pos n))
 row_joins (a_power n) (number (pos m)) as' = nat_eq m n
 row_joins (a_power n) l as' = false
 row_joins an_enumeration l as' = alike_all as'

@@ -1,4 +1,5 @@
--- Shapes of typed trees: each operator's row, and the fold over the tree.
+-- Shapes of typed trees: each operator's row, and the fold over the tree. Source: Konnov, Kukovec and Tran,
+-- "TLA+ Model Checking Made Symbolic", OOPSLA 2019, on the static bounds of cells and arenas.
 use Rattle.std.specs.Prelude.{ℕ, suc, ◌+◌, Bool, true, false, ◌&&◌, List, [], ◌∷◌, map, take, drop, length, Option, None, nat_abs, slice_get, option_and_then, if◌then◌else◌}
 use Rattle.tla_meaning.specs.declared.expr.Expr.{Expr, roll-Expr, out-Expr}
 use Rattle.tla_meaning.specs.declared.expr.Expr.TheOpen.{Expr-F}
@@ -118,8 +119,9 @@ begins_with_name x [] = false
 begins_with_name x (e ∷ es) = is_bound_name x (out-Expr e).op
 
 -- whether a right side of an EXCEPT at p that binds these names is the rest of a path of several indexes: an EXCEPT at
--- the same place, of what the bound name stands for. No module has two EXCEPTs at one place, and a kernel tree takes a
--- path of several indexes apart in this way.
+-- the same place, of what the bound name stands for. No right side of an EXCEPT in a module is an EXCEPT at its place
+-- whose function is the name that the outer one binds, and a kernel tree takes a path of several indexes apart in this
+-- way.
 abbrev pub is_part : Place → List (List ℕ) → Expr → Bool
 is_part p (x ∷ []) e =
     is_except (out-Expr e).op && (same_place p (out-Expr e).place && begins_with_name x (out-Expr e).args)

@@ -1,5 +1,6 @@
 -- Shapes of types: of which type a shape is, and the first shapes of a state of which nothing is known but the types of
--- its names and the bounds of its values.
+-- its names and the bounds of its values. Source for shapes: Konnov, Kukovec and Tran, "TLA+ Model
+-- Checking Made Symbolic", OOPSLA 2019, on the static bounds of cells and arenas.
 use Rattle.std.specs.Prelude.{ℕ, ℤ, ◌≡◌, Bool, true, false, List, [], ◌∷◌}
 use Rattle.kernel_trees.specs.TypeKinds as kind
 use Rattle.kernel_trees.specs.TypeKinds.{Kind, Kinds, Fields, no_kinds, more_kinds, no_fields, more_fields}

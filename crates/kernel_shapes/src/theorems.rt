@@ -16,10 +16,12 @@ ghost use Rattle.kernel_shapes.specs.Laws.{FitsItsShape, FormFitsItsShape, HasSo
 ghost use Rattle.kernel_shapes.specs.Shape.{Shape};
 ghost use Rattle.kernel_shapes.specs.Sized.{Extent};
 
-/// Each value that an expression has under a width fits its shape, if bound names and states fit theirs: of an
-/// expanded tree whose names have shapes and which joins shapes of one kind alone; and of a sound kernel tree, if the
-/// names that it reads have shapes of their types. So does what belongs to a form in which no infinite set stands: it
-/// fits the shape of the members.
+/// Each value that an expression has under a width of at least 2 fits its shape, if bound names and states fit theirs:
+/// of an expanded tree whose names have shapes, which joins shapes of one kind alone and is well formed otherwise (a
+/// filter has one name, a power its literal exponent, a record different fields; tuples and records are read by
+/// literals; operands are sequences, functions or records where they are to be); and of a sound kernel tree, if the
+/// names that it reads have shapes of their types. So does a normal value that belongs to a form in which no infinite
+/// set stands, if bound names and states have normal values: it fits the shape of the members.
 pub fn values_fit_their_shapes()
     ensures trees { (w : ℕ) (e : Expr) (ks : List Kind) (sc : Scope) (g : Extent) (s t : State) (v : Value) → FitsItsShape w e ks sc g s t v }
     ensures kernel { (w : ℕ) (names : List Kind) (k : Ker) (c : Context) (b : Bool) (sc : Scope) (g : Extent) (s t : State) (v : Value) → KernelFitsItsShape w names k c b sc g s t v }
