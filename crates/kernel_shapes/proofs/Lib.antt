@@ -38,3 +38,4 @@ pub mod LevelLaw
 pub mod KernelExamples
 pub mod StartLaw
 pub mod TypedLaw
+pub mod LevelExample

@@ -1,5 +1,5 @@
--- The numbers that count against the limits, and the refusal that they make. Source for what is counted: Konnov, Kukovec
--- and Tran, "TLA+ Model Checking Made Symbolic", OOPSLA 2019, on the static bounds of cells and arenas.
+-- The numbers that count against the limits, and the refusal that they make. Source for what is counted: Konnov,
+-- Kukovec and Tran, "TLA+ Model Checking Made Symbolic", OOPSLA 2019, on the static bounds of cells and arenas.
 use Rattle.std.specs.Prelude.{ℕ, ◌-◌, min, Bool, true, false, List, [], ◌∷◌, Option, Some, None, option_map, get_or, nat_lt, if◌then◌else◌}
 use Rattle.std.specs.Ordering.{nat_cmp, is_lt}
 use Rattle.std.specs.Cmp.Lexicographic.{slice_cmp}

@@ -42,9 +42,9 @@ pub record Ready (sc : Scope) (g : Extent) (s t : State) : Type 0 where
   pub next : StateFits g.next t.vals
 
 -- the value that a tree with these types has under a width fits its shape, where it is sound: it reads only names that
--- have a shape, and what it joins is of one kind; a filter has one name, a power its literal exponent, a record different
--- fields; tuples and records are read by literals; operands are sequences, functions or records where they are to be.
--- (At a width of one bit the third power of -1 does not fit its shape.)
+-- have a shape, and what it joins is of one kind; a filter has one name, a power its literal exponent, a record
+-- different fields; tuples and records are read by literals; operands are sequences, functions or records where they
+-- are to be. (At a width of one bit the third power of -1 does not fit its shape.)
 abbrev pub FitsItsShape : ℕ → Expr → List Kind → Scope → Extent → State → State → Value → Type 0
 FitsItsShape w e ks sc g s t v =
     2 ≤ w → IsTrue (is_expanded e) → Ready sc g s t → IsTrue ((tree_sized w e).sizing ks g).sound →

@@ -1,9 +1,9 @@
--- Shapes: what bounds the sizes and the integers of values, and so the arenas in which these are encoded (Konnov, Kukovec
--- and Tran, "TLA+ Model Checking Made Symbolic", OOPSLA 2019, on arenas).
+-- Shapes: what bounds the sizes and the integers of values, and so the arenas in which these are encoded (Konnov,
+-- Kukovec and Tran, "TLA+ Model Checking Made Symbolic", OOPSLA 2019, on arenas).
 --
 -- They are data of their own, and no type of the code: what it means that a value fits a shape is a type by recursion
--- on the shape, and recursion on a type of the code gives no types. Numbers of members are exact here; the code may keep
--- them capped.
+-- on the shape, and recursion on a type of the code gives no types. Numbers of members are exact here; the code may
+-- keep them capped.
 use Rattle.std.specs.Prelude.{ℕ, zero, suc, ◌+◌, ◌-◌, ◌^◌, max, Bool, true, false, ◌&&◌, List, [], ◌∷◌, length, ℤ, pos, neg_ℤ, ◌-ℤ◌, if◌then◌else◌}
 use Rattle.std.specs.Int.{int_max, int_min}
 use Rattle.tla_meaning.specs.Scopes.{same_text}

@@ -33,9 +33,9 @@ pub fn sound_trees_have_shapes_of_their_types()
     ensures { (w : ℕ) (names : List Kind) (k : Ker) (c : Context) (b : Bool) (g : Extent) (a : Kind) → HasSoundShape w names k c b g a }
 {}
 
-/// A state with which paths of CInit and of Init hold fits the shapes of the start, which are of the types of its names;
-/// and where a state fits such shapes, the state that a run along the paths of the step reaches n steps later fits the
-/// shapes of level n, which are of the types again.
+/// A state with which paths of CInit and of Init hold fits the shapes of the start, which are of the types of its
+/// names; and where a state fits such shapes, the state that a run along the paths of the step reaches n steps later
+/// fits the shapes of level n, which are of the types again.
 pub fn states_fit_the_shapes_of_their_levels()
     ensures start { (w : ℕ) (sys : System) (names : List Kind) (m : Marks) (s : State) → StartFits w sys names m s }
     ensures levels { (w : ℕ) (sys : System) (names : List Kind) (m : Marks) (first : List Shape) (run : ℕ → State) (n : ℕ) → LevelsFit w sys names m first run n }
