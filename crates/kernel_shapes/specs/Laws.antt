@@ -100,7 +100,7 @@ pub record PathsAre (names : List Kind) (m : Marks) (xs : List Assigned) : Type 
 -- where a state fits shapes of the types, the state that is reached n steps later along paths of the step fits the
 -- shapes of level n, which are of the types. The paths are sound and read no marked name before its assignment; each
 -- variable is marked in the next state, and a path that has not ended assigns it. (Values are to be normal in all of
--- `run`, which goes on behind n: there any state may stand.)
+-- `run`, which goes on behind n: there any state of normal values may stand.)
 abbrev pub LevelsFit : ℕ → System → List Kind → Marks → List Shape → (ℕ → State) → ℕ → Type 0
 LevelsFit w sys names m first run n =
     2 ≤ w → length sys.ker.fixed ≡ length names → MarksVariables m sys.ker.fixed → PathsAre names m sys.next →
