@@ -1,0 +1,2 @@
+//! The reduction of typed expressions to the kernel.
+#![tactic(auto)]
