@@ -1,5 +1,9 @@
 -- Lemmas of the crate.
+pub mod Widths
 pub mod Tying
 pub mod Frame
 pub mod Same
 pub mod Binding
+pub mod Outcomes
+pub mod Lets
+pub mod Negations
