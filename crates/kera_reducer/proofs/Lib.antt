@@ -7,3 +7,5 @@ pub mod Binding
 pub mod Outcomes
 pub mod Lets
 pub mod Negations
+pub mod Pairs
+pub mod PowerRows
