@@ -1,6 +1,7 @@
 -- Lemmas of the crate.
 pub mod Widths
 pub mod Tying
+pub mod Normals
 pub mod Frame
 pub mod Same
 pub mod Binding

@@ -32,7 +32,7 @@ use Rattle.kernel_trees.specs.declared.kernel.KerOp.TheVariants as ker
 use Rattle.kernel_trees.specs.Trees.{ker_val, names_of, number_name}
 use Rattle.kernel_trees.proofs.Operators.{by_node, val_const, val_bound, val_item, val_tuple, val_equal, val_not, val_set, val_field, constant_value}
 use Rattle.kernel_trees.proofs.Binders.{val_function, at_members}
-use Rattle.kera_reducer.specs.Reduction.{Numbering, Tied, is_wide}
+use Rattle.kera_reducer.specs.Reduction.{Numbering, Matched, is_wide}
 use Rattle.kera_reducer.specs.inner.Rows.{Let, let_in, tree, node, bound, pair, item, negation, place_of, type_of, op_at, named_first, named_second, equivalence, single, item_by_let}
 use Rattle.kera_reducer.specs.inner.Builds.{is_let}
 use Rattle.kera_reducer.proofs.Widths.{fits_all, number_there}
@@ -160,7 +160,7 @@ module _ (w : Width) (wide : is_wide w ≡ true) (ρ : Numbering) (p : Place) (e
   abbrev kept : Op → (a b : Scope) (s t : State) → Type 0
   kept o a b s t = strict (outcomes (outer p [] (map (meaning w) es) a) s t) (table w p o) ≡ strict (ker_val w k b s t ∷ ker_val w m b s t ∷ []) (table w p o)
 
-  of_both : (o : Op) (a b : Scope) (s t : State) → Tied ρ a b → kept o a b s t
+  of_both : (o : Op) (a b : Scope) (s t : State) → Matched ρ a b s t → kept o a b s t
   of_both o a b s t r = ap (λ (os : List Outcome). strict os (table w p o)) (operands_kept w ρ s t p es (k ∷ m ∷ []) a b h r)
 
   pub keeps_equivalence : (l : Let) (ty : Ty) → is_let l ≡ true → KeepsNode w ρ p op.Iff es xs (equivalence p l ty k m)
