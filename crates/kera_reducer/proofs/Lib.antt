@@ -10,3 +10,7 @@ pub mod Lets
 pub mod Negations
 pub mod Pairs
 pub mod PowerRows
+pub mod Paths
+pub mod Excepting
+pub mod ExceptReads
+pub mod ExceptRows

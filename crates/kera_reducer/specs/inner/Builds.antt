@@ -194,10 +194,10 @@ mutual
         → is_let l ≡ true → op_at m ≡ ker.Const (value.Int (pos n)) → nat_le n 7 ≡ false → BuildsEach None ρ es (k ∷ m ∷ [])
         → BuildsNode None ρ p op.Apply es xs (item_by_let p l t n k m)
     -- ---- EXCEPT: without a LET where no index but the first can have a fault
-    except : (ρ : Numbering) (p : Place) (cs : List ℕ) (e : Expr) (es : List Expr) (x : List ℕ) (a : Ty) (f : Ker) (us : List Change)
-        → all_plain (indexes us) ≡ true → are_fresh (level_numbers us) ρ ≡ true
-        → Builds None ρ e f → BuildsChanges ρ x cs es us
-        → BuildsNode None ρ p (op.Except cs) (e ∷ es) (x ∷ []) (changed p a f us)
+    except : (ρ : Numbering) (p : Place) (cs : List ℕ) (e : Expr) (es : List Expr) (x : List ℕ) (a : Ty) (f : Ker) (u : Change) (us : List Change)
+        → all_plain (indexes (u ∷ us)) ≡ true → are_fresh (level_numbers (u ∷ us)) ρ ≡ true
+        → Builds None ρ e f → BuildsChanges ρ x cs es (u ∷ us)
+        → BuildsNode None ρ p (op.Except cs) (e ∷ es) (x ∷ []) (changed p a f (u ∷ us))
     except_let : (ρ : Numbering) (p : Place) (cs : List ℕ) (e : Expr) (es : List Expr) (x : List ℕ) (l : Let) (t : Ty) (f : Ker) (us : List Change)
         → is_except_let l (level_numbers us) ρ ≡ true → all_plain (indexes us) ≡ false
         → Builds None ρ e f → BuildsChanges ρ x cs es us
