@@ -186,20 +186,6 @@ append_none : {X : Type 0} (xs : List X) → xs ++ [] ≡ xs
 append_none [] = refl
 append_none (x ∷ xs) = ap (λ l. x ∷ l) (append_none xs)
 
-map_append : {X Y : Type 0} (f : X → Y) (xs ys : List X) → map f (xs ++ ys) ≡ map f xs ++ map f ys
-map_append f [] ys = refl
-map_append f (x ∷ xs) ys = ap (λ zs. f x ∷ zs) (map_append f xs ys)
-
-all_left : (ks ls : List Ker) → list_all is_plain (ks ++ ls) ≡ true → list_all is_plain ks ≡ true
-all_left [] ls h = refl
-all_left (k ∷ ks) ls h =
-    and_both (is_plain k) (list_all is_plain ks) (and_left (is_plain k) (list_all is_plain (ks ++ ls)) h)
-    (all_left ks ls (and_right (is_plain k) (list_all is_plain (ks ++ ls)) h))
-
-all_right : (ks ls : List Ker) → list_all is_plain (ks ++ ls) ≡ true → list_all is_plain ls ≡ true
-all_right [] ls h = h
-all_right (k ∷ ks) ls h = all_right ks ls (and_right (is_plain k) (list_all is_plain (ks ++ ls)) h)
-
 -- a literal is the same everywhere
 pub literal_same : (w : Width) (s t : State) (k : Ker) (b c : Scope) → is_literal k ≡ true → ker_val w k c s t ≡ ker_val w k b s t
 literal_same w s t k b c h = by (op_at k) refl h
@@ -261,37 +247,6 @@ module _ (w : Width) (wide : is_wide w ≡ true) (s t : State) (b : Scope) where
     AllGiven [] [] = Unit {0}
     AllGiven (u ∷ us) (y ∷ ys) = Given u y × AllGiven us ys
     AllGiven us ys = ⊥
-
-    -- ---- where all indexes but the first are plain
-
-    plain_literal : (o : KerOp) → is_plain_op o ≡ true → is_literal_op o ≡ true
-    plain_literal (ker.Const v) h = refl
-    plain_literal o h = h
-
-    plain_levels : (ls : List Level) (vs : List Value) → HaveValues ls vs → list_all is_plain (map (λ l. l.index) ls) ≡ true → HasLevels w s t p P ls vs
-    plain_levels [] [] h g = tt
-    plain_levels [] (v ∷ vs) h g = absurd h
-    plain_levels (l ∷ ls) [] h g = absurd h
-    plain_levels (l ∷ ls) (v ∷ vs) h g = (
-      λ c q. literal_same w s t l.index b c (plain_literal (op_at l.index) (and_left (is_plain l.index) (list_all is_plain (map (λ l. l.index) ls)) g)) ∙ h.0,
-      plain_levels ls vs h.1 (and_right (is_plain l.index) (list_all is_plain (map (λ l. l.index) ls)) g),
-    )
-
-    pub plain_changes : (us : List Change) (ys : List Update) → AllGiven us ys → list_all is_plain (indexes us) ≡ true → HasChanges w s t p P us ys
-    plain_changes [] [] h g = tt
-    plain_changes [] (y ∷ ys) h g = absurd h
-    plain_changes (u ∷ us) [] h g = absurd h
-    plain_changes (u ∷ us) (y ∷ ys) h g =
-        let k : list_all is_plain (map (λ l. l.index) u.levels ++ indexes us) ≡ true =
-        subst (λ z. list_all is_plain z ≡ true) (map_append (λ l. l.index) u.levels (all_levels us)) g in
-        (record {
-          levels = plain_levels u.levels y.0 h.0.indexes (all_left (map (λ l. l.index) u.levels) (indexes us) k);
-          closed = h.0.closed;
-          right = h.0.right;
-          normal = h.0.normal;
-          some = h.0.some;
-        },
-        plain_changes us ys h.1 (all_right (map (λ l. l.index) u.levels) (indexes us) k))
 
     -- ---- where they are read
 

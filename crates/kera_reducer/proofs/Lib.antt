@@ -14,3 +14,4 @@ pub mod Paths
 pub mod Excepting
 pub mod ExceptReads
 pub mod ExceptRows
+pub mod Keeping
