@@ -1,0 +1,2 @@
+//! Kernel trees of typed trees.
+#![tactic(auto)]
