@@ -1,2 +1,4 @@
 -- The definitions of the crate.
+pub mod Reduction
 pub mod JobPaths
+pub mod inner

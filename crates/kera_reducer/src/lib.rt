@@ -1,2 +1,2 @@
-//! Kernel trees of typed trees.
+//! The reduction of typed expressions to the kernel.
 #![tactic(auto)]
