@@ -1,10 +1,10 @@
 -- The reduction, row by row: an expression, where its bound names have these numbers, is built as a kernel tree. Source:
 -- Konnov, Kukovec and Tran, "TLA+ Model Checking Made Symbolic", OOPSLA 2019, on the reduction to KerA+.
 --
--- The types of the nodes are left open. What stays within a row of its own is how many children a node has; a node with
--- another number of them, and an exponent that is no literal, have none. Of the operators, `Use`, `Param`, `Let`, `Prime`,
--- `Unchanged`, `Boxed` and `Angled` are gone after expansion, and `Outside` is refused before; they have no row.
-use Rattle.std.specs.Prelude.{◌≡◌, ℕ, suc, Bool, true, false, not, ◌&&◌, nat_eq, nat_le, List, [], ◌∷◌, ◌++◌, take, drop, length, Option, Some, None, pos}
+-- The types of the nodes are left open. A node whose operator has a row of its own has the number of children that the
+-- operator asks for, and an exponent is a literal: no row speaks of other nodes. Of the operators, `Use`, `Param`, `Let`,
+-- `Prime`, `Unchanged`, `Boxed` and `Angled` are gone after expansion, and `Outside` is refused before.
+use Rattle.std.specs.Prelude.{◌≡◌, ℕ, suc, Bool, true, false, not, ◌&&◌, nat_eq, nat_le, List, [], ◌∷◌, ◌++◌, take, drop, length, Option, Some, None, ℤ, pos}
 use Rattle.std.specs.List.{list_any}
 use Rattle.tla_values.specs.declared.value.Value.TheVariants as value
 use Rattle.tla_meaning.specs.declared.actions.Assignable.{Assignable}
@@ -18,8 +18,8 @@ use Rattle.kernel_trees.specs.declared.kernel.Ker.{Ker}
 use Rattle.kernel_trees.specs.declared.kernel.KerOp.{KerOp}
 use Rattle.kernel_trees.specs.declared.kernel.KerOp.TheVariants as ker
 use Rattle.kernel_trees.specs.Trees.{op_of}
-use Rattle.kera_reducer.specs.Reduction.{Numbering, fresh, are_fresh, numbered, all_fresh, any_mentioned}
-use Rattle.kera_reducer.specs.inner.Rows.{tree, node, op_at, truth, number, bound, negation, swapped, Let, let_in, implication, equivalence, single, item_by_let, small_power, large_power, Level, Change, changed, all_levels, indexes, level_numbers, all_plain, except_by_let, nested_ifs, split_case, guard_of}
+use Rattle.kera_reducer.specs.Reduction.{Numbering, are_fresh, numbered, all_fresh, any_mentioned}
+use Rattle.kera_reducer.specs.inner.Rows.{tree, node, op_at, truth, number, bound, negation, swapped, Let, implication, equivalence, single, item_by_let, small_power, large_power, Level, Change, changed, indexes, level_numbers, all_plain, except_by_let, nested_ifs, split_case, guard_of}
 
 -- an operator of the kernel that takes the children of the one for which it stands as they are
 abbrev pub is_same : KerOp → Bool
@@ -106,7 +106,6 @@ mutual
 
   -- a node, by its place, its operator, its children and the names that it binds
   pub data BuildsNode : Option Assignable → Numbering → Place → Op → List Expr → List (List ℕ) → Ker → Type 0 where
-
     -- ---- literals and names
     boolean : (ρ : Numbering) (p : Place) (b : Bool) (xs : List (List ℕ)) (a : Ty)
         → BuildsNode None ρ p (op.Bool b) [] xs (node p a (ker.Const (value.Bool b)) [])
@@ -119,7 +118,6 @@ mutual
     bound_name : (ρ : Numbering) (p : Place) (x : List ℕ) (n : ℕ) (xs : List (List ℕ)) (a : Ty)
         → find_last x ρ ≡ Some n
         → BuildsNode None ρ p (op.Bound x) [] xs (bound p a n)
-
     -- ---- the same operator
     same : (ρ : Numbering) (p : Place) (o : Op) (ko : KerOp) (es : List Expr) (xs : List (List ℕ)) (a : Ty) (ks : List Ker)
         → op_of ko ≡ o → is_same ko ≡ true → BuildsEach None ρ es ks
@@ -138,7 +136,6 @@ mutual
     noted : (i : Option Assignable) (ρ : Numbering) (p : Place) (x : List ℕ) (es : List Expr) (xs : List (List ℕ)) (k : Ker)
         → BuildsEach i ρ es (k ∷ [])
         → BuildsNode i ρ p (op.Noted x) es xs k
-
     -- ---- operators by others
     assign : (ρ : Numbering) (p : Place) (es : List Expr) (xs : List (List ℕ)) (a : Ty) (ks : List Ker)
         → BuildsEach None ρ es ks
@@ -175,7 +172,6 @@ mutual
     one_pair : (ρ : Numbering) (p : Place) (es : List Expr) (xs : List (List ℕ)) (l : Let) (t s : Ty) (z : ℕ) (k m : Ker)
         → is_let l ≡ true → nat_eq l.named z ≡ false → BuildsEach None ρ es (k ∷ m ∷ [])
         → BuildsNode None ρ p op.Single es xs (single p l t s z k m)
-
     -- ---- powers, and items and fields at a literal
     power : (ρ : Numbering) (p : Place) (es : List Expr) (xs : List (List ℕ)) (l : Let) (b : Ty) (k m : Ker) (n : ℕ)
         → is_let l ≡ true → op_at m ≡ ker.Const (value.Int (pos n)) → nat_le n 7 ≡ true → BuildsEach None ρ es (k ∷ m ∷ [])
@@ -192,7 +188,6 @@ mutual
     high_item : (ρ : Numbering) (p : Place) (es : List Expr) (xs : List (List ℕ)) (l : Let) (t : Ty) (k m : Ker) (n : ℕ)
         → is_let l ≡ true → op_at m ≡ ker.Const (value.Int (pos n)) → nat_le n 7 ≡ false → BuildsEach None ρ es (k ∷ m ∷ [])
         → BuildsNode None ρ p op.Apply es xs (item_by_let p l t n k m)
-
     -- ---- EXCEPT: without a LET where no index but the first can have a fault
     except : (ρ : Numbering) (p : Place) (cs : List ℕ) (e : Expr) (es : List Expr) (x : List ℕ) (a : Ty) (f : Ker) (us : List Change)
         → all_plain (indexes us) ≡ true → are_fresh (level_numbers us) ρ ≡ true
@@ -202,12 +197,10 @@ mutual
         → is_except_let l (level_numbers us) ρ ≡ true → all_plain (indexes us) ≡ false
         → Builds None ρ e f → BuildsChanges ρ x cs es us
         → BuildsNode None ρ p (op.Except cs) (e ∷ es) (x ∷ []) (except_by_let p l t f us)
-
     -- ---- CASE as a value
     cases : (ρ : Numbering) (p : Place) (other : Bool) (es : List Expr) (xs : List (List ℕ)) (a : Ty) (ks : List Ker)
         → BuildsEach None ρ es ks
         → BuildsNode None ρ p (op.Case other) es xs (nested_ifs p a ks)
-
     -- ---- action positions
     as_value : (m : Assignable) (ρ : Numbering) (p : Place) (o : Op) (es : List Expr) (xs : List (List ℕ)) (k : Ker)
         → passes_on m o es ≡ false → BuildsNode None ρ p o es xs k
