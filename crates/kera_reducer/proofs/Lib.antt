@@ -6,3 +6,6 @@ pub mod JobEffects
 pub mod Telling
 pub mod KernelNames
 pub mod RowNames
+pub mod NamesKept
+pub mod Roots
+pub mod StepsTold

@@ -84,15 +84,13 @@ pub data JobStep : Type 0 where
   -- the CASE at this place, of which no guard is TRUE
   Unmatched : Place → JobStep
 
--- FALSE, and a CASE without arms
-abbrev pub is_false_op : Op → List TypedTree → Bool
-is_false_op (op.Bool b) ks = not b
-is_false_op (op.Case other) [] = true
-is_false_op o ks = false
+abbrev pub is_false_op : Op → Bool
+is_false_op (op.Bool b) = not b
+is_false_op o = false
 
 -- a path ends at the literal FALSE, and in a CASE of which no guard is TRUE
 abbrev pub ends_there : JobStep → Bool
-ends_there (Operand t) = is_false_op (out-Expr t.tree).op (children t)
+ends_there (Operand t) = is_false_op (out-Expr t.tree).op
 ends_there (Guarded p t b) = false
 ends_there (Chosen p ps) = false
 ends_there (Unmatched p) = true

@@ -19,7 +19,7 @@ use Rattle.kernel_trees.specs.declared.kernel.KerOp.{KerOp}
 use Rattle.kernel_trees.specs.declared.kernel.KerOp.TheVariants as ker
 use Rattle.kernel_trees.specs.Trees.{op_of}
 use Rattle.kera_reducer.specs.Reduction.{Numbering, are_fresh, numbered, all_fresh, any_mentioned}
-use Rattle.kera_reducer.specs.inner.Rows.{tree, node, op_at, truth, number, bound, negation, swapped, Let, implication, equivalence, single, item_by_let, small_power, large_power, Level, Change, changed, indexes, level_numbers, all_plain, except_by_let, nested_ifs, split_case, guard_of}
+use Rattle.kera_reducer.specs.inner.Rows.{tree, node, op_at, truth, number, bound, negation, swapped, Let, implication, equivalence, single, item_by_let, small_power, large_power, Level, Change, changed, indexes, level_numbers, all_plain, except_by_let, is_nil, nested_ifs, split_case, guard_of}
 
 -- an operator of the kernel that takes the children of the one for which it stands as they are
 abbrev pub is_same : KerOp → Bool
@@ -190,7 +190,7 @@ mutual
         → BuildsNode None ρ p op.Apply es xs (item_by_let p l t n k m)
     -- ---- EXCEPT: without a LET where no index but the first can have a fault
     except : (ρ : Numbering) (p : Place) (cs : List ℕ) (e : Expr) (es : List Expr) (x : List ℕ) (a : Ty) (f : Ker) (us : List Change)
-        → all_plain (indexes us) ≡ true → are_fresh (level_numbers us) ρ ≡ true
+        → is_nil us ≡ false → all_plain (indexes us) ≡ true → are_fresh (level_numbers us) ρ ≡ true
         → Builds None ρ e f → BuildsChanges ρ x cs es us
         → BuildsNode None ρ p (op.Except cs) (e ∷ es) (x ∷ []) (changed p a f us)
     except_let : (ρ : Numbering) (p : Place) (cs : List ℕ) (e : Expr) (es : List Expr) (x : List ℕ) (l : Let) (t : Ty) (f : Ker) (us : List Change)
@@ -199,7 +199,7 @@ mutual
         → BuildsNode None ρ p (op.Except cs) (e ∷ es) (x ∷ []) (except_by_let p l t f us)
     -- ---- CASE as a value
     cases : (ρ : Numbering) (p : Place) (other : Bool) (es : List Expr) (xs : List (List ℕ)) (a : Ty) (ks : List Ker)
-        → BuildsEach None ρ es ks
+        → nat_le 2 (length es) ≡ true → BuildsEach None ρ es ks
         → BuildsNode None ρ p (op.Case other) es xs (nested_ifs p a ks)
     -- ---- action positions
     as_value : (m : Assignable) (ρ : Numbering) (p : Place) (o : Op) (es : List Expr) (xs : List (List ℕ)) (k : Ker)

@@ -1,6 +1,6 @@
 -- The kernel trees for operators that the kernel lacks, each by those of the operands. A node that is made stands at the
 -- place of the operator; one that only reads an operand that is evaluated already stands at the operand's.
-use Rattle.std.specs.Prelude.{ℕ, zero, suc, Bool, true, false, not, ◌&&◌, if◌then◌else◌, List, [], ◌∷◌, ◌++◌, map, flat_map, Option, Some, None, pos}
+use Rattle.std.specs.Prelude.{ℕ, zero, suc, Bool, true, false, not, ◌&&◌, ◌||◌, if◌then◌else◌, List, [], ◌∷◌, ◌++◌, map, flat_map, Option, Some, None, pos}
 use Rattle.std.specs.List.{list_all}
 use Rattle.tla_values.specs.Order.{Layer}
 use Rattle.tla_values.specs.declared.value.Value.{Value, out-Value}
