@@ -9,3 +9,5 @@ pub mod RowNames
 pub mod NamesKept
 pub mod Roots
 pub mod StepsTold
+pub mod CaseWays
+pub mod WaysKept

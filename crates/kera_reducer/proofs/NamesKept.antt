@@ -121,7 +121,7 @@ module _ (test : ℕ → Bool → Place → Bool) where
     change_names (one_change ρ x n ns es u us h g) =
         (any_parts (suc n) es ∙ (λ i. (path_names h).0 i || (change_names g).0 i), ((path_names h).1, (change_names g).1))
 
-    node_names : {i : Option Assignable} {ρ : Numbering} {p : Place} {o : Op} {es : List Expr} {xs : List (List ℕ)} {k : Ker} → BuildsNode i ρ p o es xs k →
+    pub node_names : {i : Option Assignable} {ρ : Numbering} {p : Place} {o : Op} {es : List Expr} {xs : List (List ℕ)} {k : Ker} → BuildsNode i ρ p o es xs k →
         has_name_at test p o (map (has_name test) es) ≡ ker_has test k
     node_names (boolean ρ p b xs a) = sym (has-roll test _)
     node_names (integer ρ p n xs a) = sym (has-roll test _)

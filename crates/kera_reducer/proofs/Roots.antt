@@ -88,7 +88,7 @@ binder_root ker.Every h = another op.Forall ker.Every refl refl
 binder_root ko h = absurd (false≢true h)
 
 -- updates behind each other, and ifs inside each other
-abbrev Updates : Place → Ker → Type 0
+abbrev pub Updates : Place → Ker → Type 0
 Updates p k = ((out-Ker k).place ≡ p) × ((out-Ker k).op ≡ ker.Update)
 
 changed_at_root : (p : Place) (a : Ty) (f : Ker) (ls : List Level) (e : Ker) → is_nil ls ≡ false → Updates p (changed_at p a f ls e)
@@ -102,7 +102,7 @@ changed_root p a f h (no_changes ρ x) = h
 changed_root p a f h (one_change ρ x n ns es u us b g) =
     changed_root p a (changed_at p a f u.levels u.right) (changed_at_root p a f u.levels u.right (path_names (λ i b p. false) b).1) g
 
-first_changed : {ρ : Numbering} {x : List ℕ} {ns : List ℕ} {es : List Expr} {us : List Change} (p : Place) (a : Ty) (f : Ker) → is_nil us ≡ false → BuildsChanges ρ x ns es us →
+pub first_changed : {ρ : Numbering} {x : List ℕ} {ns : List ℕ} {es : List Expr} {us : List Change} (p : Place) (a : Ty) (f : Ker) → is_nil us ≡ false → BuildsChanges ρ x ns es us →
     Updates p (changed p a f us)
 first_changed p a f h (no_changes ρ x) = absurd (true≢false h)
 first_changed p a f h (one_change ρ x n ns es u us b g) =
