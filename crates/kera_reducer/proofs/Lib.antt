@@ -1,3 +1,12 @@
+-- Lemmas of the crate.
+pub mod Widths
+pub mod Tying
+pub mod Frame
+pub mod Same
+pub mod Binding
+pub mod Outcomes
+pub mod Lets
+pub mod Negations
 pub mod JobTrees
 pub mod JobPathExamples
 pub mod WayPairs

@@ -143,9 +143,9 @@ module _ (test : ℕ → Bool → Place → Bool) where
         ap (list_any (λ b. b)) (each_names g) ∙ sym (negation_has test p a _ ∙ has-roll test _)
     node_names (no_member ρ p es xs a ks g) =
         ap (list_any (λ b. b)) (each_names g) ∙ sym (negation_has test p a _ ∙ has-roll test _)
-    node_names (greater ρ p es xs a ks g) = ap (list_any (λ b. b)) (each_names g) ∙ sym (has-roll test _ ∙ swapped_has test ks)
-    node_names (at_most ρ p es xs a ks g) =
-        ap (list_any (λ b. b)) (each_names g) ∙ sym (negation_has test p a _ ∙ has-roll test _ ∙ swapped_has test ks)
+    node_names (greater ρ p es xs a k l g) = ap (list_any (λ b. b)) (each_names g) ∙ sym (has-roll test _ ∙ swapped_has test k l)
+    node_names (at_most ρ p es xs a k l g) =
+        ap (list_any (λ b. b)) (each_names g) ∙ sym (negation_has test p a _ ∙ has-roll test _ ∙ swapped_has test k l)
     node_names (at_least ρ p es xs a ks g) =
         ap (list_any (λ b. b)) (each_names g) ∙ sym (negation_has test p a _ ∙ has-roll test _)
     node_names (negative ρ p es xs a ks g) =

@@ -22,7 +22,7 @@ use Rattle.kernel_trees.specs.Trees.{constant, op_of}
 use Rattle.kera_reducer.specs.JobPaths.{below_notes, below_of, is_false_op, job_target, root_place}
 use Rattle.kera_reducer.specs.Reduction.{Numbering}
 use Rattle.kera_reducer.specs.inner.Rows.{Change, Level, changed, changed_at, is_nil, may_assign, nested_ifs, op_at, tree}
-use Rattle.kera_reducer.specs.inner.Builds.{Builds, BuildsEach, BuildsPath, BuildsChanges, BuildsNode, at_node, none_left, one_more, no_changes, one_change, boolean, integer, text, declared, bound_name, same, range, binder, fold, noted, assign, implies, unequal, no_member, greater, at_most, at_least, negative, finite, truth_values, equivalent, one_pair, power, high_power, field, low_item, high_item, except, except_let, cases, as_value, conjunction, disjunction, choice, branches, split_cases, is_same, is_binder}
+use Rattle.kera_reducer.specs.inner.Builds.{Builds, BuildsEach, BuildsPath, BuildsChanges, BuildsNode, at_node, none_left, one_more, no_changes, one_change, boolean, integer, text, declared, bound_name, same, range, binder, fold, noted, assign, implies, unequal, no_member, greater, at_most, at_least, negative, finite, truth_values, equivalent, one_pair, power, high_power, field, low_item, high_item, except, except_let, cases, as_value, conjunction, disjunction, choice, branches, split_cases, has_arm, is_same, is_binder}
 use Rattle.kera_reducer.specs.inner.Steps.{is_note}
 use Rattle.kera_reducer.proofs.JobTrees.{below-roll}
 use Rattle.kera_reducer.proofs.NamesKept.{path_names}
@@ -111,7 +111,7 @@ first_changed p a f h (one_change ρ x n ns es u us b g) =
 update_root : {p : Place} {o : Op} {k : Ker} → is_other o ≡ true → Updates p k → Rooted p o k
 update_root {o = o} {k = k} h u = record { place = u.0; root = another o (out-Ker k).op h (ap is_other_kernel u.1) }
 
-two_or_more : {ρ : Numbering} {i : Option Assignable} {es : List Expr} {ks : List Ker} (p : Place) (a : Ty) (other : Bool) → nat_le 2 (length es) ≡ true → BuildsEach i ρ es ks →
+two_or_more : {ρ : Numbering} {i : Option Assignable} {es : List Expr} {ks : List Ker} (p : Place) (a : Ty) (other : Bool) → has_arm ks ≡ true → BuildsEach i ρ es ks →
     Rooted p (op.Case other) (nested_ifs p a ks)
 two_or_more p a other h (none_left i ρ) = absurd (false≢true h)
 two_or_more p a other h (one_more i ρ e k es ks b (none_left _ _)) = absurd (false≢true h)

@@ -10,7 +10,7 @@ use Rattle.kernel_trees.specs.declared.kernel.Ker.{Ker, out-Ker}
 use Rattle.kernel_trees.specs.declared.kernel.KerOp.{KerOp}
 use Rattle.kernel_trees.specs.declared.kernel.KerOp.TheVariants as ker
 use Rattle.kernel_trees.specs.Paths.{is_end}
-use Rattle.kera_reducer.specs.inner.Rows.{tree, node, place_of, type_of, op_at, number, bound, negation, item, pair, swapped, is_literal, is_literal_op, Let, let_in, named_one, named_first, implication, equivalence, single, item_by_let, product, tested, power_body, small_power, large_power, Level, Change, changed_at, changed, all_levels, indexes, pairs, behind, is_nil, operand_at, index_at, read_levels, read_changes, except_by_let, nested_ifs, twice_negated, case_branches, split_case, may_assign, guard_of}
+use Rattle.kera_reducer.specs.inner.Rows.{tree, node, place_of, type_of, op_at, number, bound, negation, item, pair, is_literal, is_literal_op, Let, let_in, named_one, named_first, implication, equivalence, single, item_by_let, product, tested, power_body, small_power, large_power, Level, Change, changed_at, changed, all_levels, indexes, pairs, behind, is_nil, operand_at, index_at, read_levels, read_changes, except_by_let, nested_ifs, twice_negated, case_branches, split_case, may_assign, guard_of}
 use Rattle.kera_reducer.proofs.KernelNames.{ker_has, has-roll, no_names_in_constant}
 
 -- ---- truth values
@@ -87,11 +87,8 @@ module _ (test : ℕ → Bool → Place → Bool) where
   pub implication_has : (p : Place) (a : Ty) (k l : Ker) → ker_has test (implication p a k l) ≡ any_has (k ∷ l ∷ [])
   implication_has p a k l = simp (has-roll) (implied_bools (has k) (has l))
 
-  pub swapped_has : (ks : List Ker) → any_has (swapped ks) ≡ any_has ks
-  swapped_has [] = refl
-  swapped_has (k ∷ []) = refl
-  swapped_has (k ∷ l ∷ []) = swapped_bools (has k) (has l)
-  swapped_has (k ∷ l ∷ m ∷ ks) = refl
+  pub swapped_has : (k l : Ker) → any_has (l ∷ k ∷ []) ≡ any_has (k ∷ l ∷ [])
+  swapped_has k l = swapped_bools (has k) (has l)
 
   pair_has : (p : Place) (t : Ty) (k m : Ker) → has (pair p t k m) ≡ any_has (k ∷ m ∷ [])
   pair_has p t k m = has-roll test _

@@ -23,7 +23,7 @@ use Rattle.kernel_trees.proofs.LawOfPaths.{ways-roll}
 use Rattle.kernel_trees.proofs.Trees.{mentions-roll}
 use Rattle.kera_reducer.specs.JobPaths.{JobParted, JobStep, Operand, Guarded, Chosen, Unmatched, TypedTree, any_holds, ends_there, has_name, has_name_at, job_case_ways, job_choice_ways, job_if_ways, job_sets, job_ways, job_ways_of, root_place, tree_mentions, typed_trees}
 use Rattle.kera_reducer.specs.Reduction.{Numbering, all_fresh, any_mentioned, fresh, mentioned, numbered}
-use Rattle.kera_reducer.specs.inner.Builds.{Builds, BuildsEach, BuildsArms, BuildsNode, at_node, none_left, one_more, no_arms, other_arm, one_arm, same, binder, noted, except, cases, as_value, conjunction, disjunction, choice, branches, split_cases, is_same, is_binder, passes_on}
+use Rattle.kera_reducer.specs.inner.Builds.{Builds, BuildsEach, BuildsArms, BuildsNode, at_node, none_left, one_more, no_arms, other_arm, one_arm, same, binder, noted, except, cases, as_value, conjunction, disjunction, choice, branches, split_cases, has_arm, is_same, is_binder, passes_on}
 use Rattle.kera_reducer.specs.inner.Rows.{case_branches, guard_of, negation, nested_ifs, node, op_at, split_case, tree, twice_negated}
 use Rattle.kera_reducer.specs.inner.SameWays.{Pairs, SameWay, SameWays}
 use Rattle.kera_reducer.specs.inner.Steps.{SameStep, guard_is_false, guard_is_true, is_note, same_choice, same_end, same_guard, same_operand, trees}
@@ -212,7 +212,7 @@ module _ (m : Assignable) where
   binder_value p es a ker.Some ks ns h q = absurd (true≢false q)
   binder_value p es a ko ks ns h q = absurd (false≢true h)
 
-  nested_root : {i : Option Assignable} {ρ : Numbering} {es : List Expr} {ks : List Ker} (p : Place) (a : Ty) → nat_le 2 (length es) ≡ true → BuildsEach i ρ es ks →
+  nested_root : {i : Option Assignable} {ρ : Numbering} {es : List Expr} {ks : List Ker} (p : Place) (a : Ty) → has_arm ks ≡ true → BuildsEach i ρ es ks →
       op_at (nested_ifs p a ks) ≡ ker.If
   nested_root p a h (none_left i ρ) = absurd (false≢true h)
   nested_root p a h (one_more i ρ e k es ks b (none_left _ _)) = absurd (false≢true h)

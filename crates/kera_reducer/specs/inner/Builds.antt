@@ -19,7 +19,7 @@ use Rattle.kernel_trees.specs.declared.kernel.KerOp.{KerOp}
 use Rattle.kernel_trees.specs.declared.kernel.KerOp.TheVariants as ker
 use Rattle.kernel_trees.specs.Trees.{op_of}
 use Rattle.kera_reducer.specs.Reduction.{Numbering, are_fresh, numbered, all_fresh, any_mentioned}
-use Rattle.kera_reducer.specs.inner.Rows.{tree, node, op_at, truth, number, bound, negation, swapped, Let, implication, equivalence, single, item_by_let, small_power, large_power, Level, Change, changed, indexes, level_numbers, all_plain, except_by_let, is_nil, nested_ifs, split_case, guard_of}
+use Rattle.kera_reducer.specs.inner.Rows.{tree, node, op_at, truth, number, bound, negation, Let, implication, equivalence, single, item_by_let, small_power, large_power, Level, Change, changed, indexes, level_numbers, all_plain, except_by_let, is_nil, nested_ifs, split_case, guard_of}
 
 -- an operator of the kernel that takes the children of the one for which it stands as they are
 abbrev pub is_same : KerOp → Bool
@@ -57,6 +57,11 @@ passes_on m (op.Noted x) es = true
 passes_on m op.If es = any_mentioned m es
 passes_on m (op.Case other) es = any_mentioned m es
 passes_on m o es = false
+
+-- not the branch of OTHER alone, nor nothing
+abbrev pub has_arm : List Ker → Bool
+has_arm (g ∷ k ∷ ks) = true
+has_arm ks = false
 
 -- the numbers of a LET differ
 abbrev pub is_let : Let → Bool
@@ -149,12 +154,12 @@ mutual
     no_member : (ρ : Numbering) (p : Place) (es : List Expr) (xs : List (List ℕ)) (a : Ty) (ks : List Ker)
         → BuildsEach None ρ es ks
         → BuildsNode None ρ p op.NotIn es xs (negation p a (node p a ker.Member ks))
-    greater : (ρ : Numbering) (p : Place) (es : List Expr) (xs : List (List ℕ)) (a : Ty) (ks : List Ker)
-        → BuildsEach None ρ es ks
-        → BuildsNode None ρ p op.Gt es xs (node p a ker.Less (swapped ks))
-    at_most : (ρ : Numbering) (p : Place) (es : List Expr) (xs : List (List ℕ)) (a : Ty) (ks : List Ker)
-        → BuildsEach None ρ es ks
-        → BuildsNode None ρ p op.Le es xs (negation p a (node p a ker.Less (swapped ks)))
+    greater : (ρ : Numbering) (p : Place) (es : List Expr) (xs : List (List ℕ)) (a : Ty) (k l : Ker)
+        → BuildsEach None ρ es (k ∷ l ∷ [])
+        → BuildsNode None ρ p op.Gt es xs (node p a ker.Less (l ∷ k ∷ []))
+    at_most : (ρ : Numbering) (p : Place) (es : List Expr) (xs : List (List ℕ)) (a : Ty) (k l : Ker)
+        → BuildsEach None ρ es (k ∷ l ∷ [])
+        → BuildsNode None ρ p op.Le es xs (negation p a (node p a ker.Less (l ∷ k ∷ [])))
     at_least : (ρ : Numbering) (p : Place) (es : List Expr) (xs : List (List ℕ)) (a : Ty) (ks : List Ker)
         → BuildsEach None ρ es ks
         → BuildsNode None ρ p op.Ge es xs (negation p a (node p a ker.Less ks))
@@ -199,8 +204,9 @@ mutual
         → BuildsNode None ρ p (op.Except cs) (e ∷ es) (x ∷ []) (except_by_let p l t f us)
     -- ---- CASE as a value
     cases : (ρ : Numbering) (p : Place) (other : Bool) (es : List Expr) (xs : List (List ℕ)) (a : Ty) (ks : List Ker)
-        → nat_le 2 (length es) ≡ true → BuildsEach None ρ es ks
+        → has_arm ks ≡ true → BuildsEach None ρ es ks
         → BuildsNode None ρ p (op.Case other) es xs (nested_ifs p a ks)
+
     -- ---- action positions
     as_value : (m : Assignable) (ρ : Numbering) (p : Place) (o : Op) (es : List Expr) (xs : List (List ℕ)) (k : Ker)
         → passes_on m o es ≡ false → BuildsNode None ρ p o es xs k

@@ -53,11 +53,6 @@ item p a n k = node p a (ker.Item n) (k ∷ [])
 abbrev pub pair : Place → Ty → Ker → Ker → Ker
 pair p t k l = node p t ker.TupOf (k ∷ l ∷ [])
 
--- the operands the other way round
-abbrev pub swapped : List Ker → List Ker
-swapped (k ∷ l ∷ []) = l ∷ k ∷ []
-swapped ks = ks
-
 -- ---- literals
 
 -- fits every width from 4 on, and so has no fault
