@@ -18,5 +18,8 @@ pub mod RowNames
 pub mod NamesKept
 pub mod Roots
 pub mod StepsTold
+pub mod BuiltTrees
+pub mod Operands
 pub mod CaseWays
 pub mod WaysKept
+pub mod CaseEffects

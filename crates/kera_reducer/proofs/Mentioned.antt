@@ -1,4 +1,4 @@
--- An expanded tree holds a name that counts exactly where its meaning says so.
+-- A tree that is built holds a name that counts exactly where its meaning says so.
 use Rattle.std.proofs.Common.{◌≡◌, ℕ, Bool, true, false, ◌&&◌, ◌||◌, IsTrue, List, [], ◌∷◌, map, length, refl, sym, ◌∙◌, ap, ap₂, subst}
 use Rattle.std.specs.List.{list_any, list_all}
 use Rattle.tla_meaning.specs.declared.actions.Assignable.{Assignable}
@@ -9,7 +9,7 @@ use Rattle.tla_meaning.specs.declared.op.Op.{Op}
 use Rattle.tla_meaning.specs.declared.op.Op.TheVariants as op
 use Rattle.tla_meaning.specs.declared.place.Place.{Place}
 use Rattle.tla_meaning.specs.Actions.{any_mentions, counts, meaning, node}
-use Rattle.tla_meaning.specs.Expanded.{is_expanded, is_expanded_op}
+use Rattle.tla_meaning.specs.Expanded.{is_expanded_op}
 use Rattle.tla_meaning.specs.FreeNames.{marks}
 use Rattle.tla_meaning.specs.Meaning.{Meaning, denotations, role, outer, inner}
 use Rattle.tla_meaning.specs.Numbers.{Width}
@@ -24,8 +24,17 @@ pub mentioned-roll : (m : Assignable) (x : Expr-F Expr) → mentioned m (roll-Ex
 unfolding mentioned
 mentioned-roll m x = fold-roll-Expr Bool (λ x. mentioned_at m x.op x.args) x
 
-pub expanded-roll : (x : Expr-F Expr) → is_expanded (roll-Expr x) ≡ (is_expanded_op x.op && list_all (λ b. b) (map is_expanded x.args))
-expanded-roll x = fold-roll-Expr Bool (λ x. is_expanded_op x.op && list_all (λ b. b) x.args) x
+-- an expanded tree, whatever stands below a declared name, where nothing is read
+abbrev pub readable_at : Op → List Bool → Bool
+readable_at (op.Name i primed) bs = true
+readable_at o bs = is_expanded_op o && list_all (λ b. b) bs
+
+unfoldable pub is_readable : Expr → Bool
+is_readable = fold-Expr Bool (λ x. readable_at x.op x.args)
+
+pub readable-roll : (x : Expr-F Expr) → is_readable (roll-Expr x) ≡ readable_at x.op (map is_readable x.args)
+unfolding is_readable
+readable-roll x = fold-roll-Expr Bool (λ x. readable_at x.op x.args) x
 
 -- the names that may be assigned are those that count
 pub mentioned_is : (m : Assignable) (e : Expr) → mentioned m e ≡ tree_mentions (counts m) e
@@ -81,34 +90,32 @@ any_held m (k ∷ ks) (c ∷ bs) a h =
 abbrev at_node : Width → Assignable → Place → Op → List (List ℕ) → List Meaning → Scope → Bool
 at_node w m p o xs ks sc = (node w (record { place = p; op = o; args = ks; binds = xs }) sc).mentions m
 
-node_holds : (w : Width) (m : Assignable) (p : Place) (o : Op) (xs : List (List ℕ)) (ks : List Meaning) (bs : List Bool) (sc : Scope) →
-    IsTrue (is_expanded_op o) → Told m ks bs → at_node w m p o xs ks sc ≡ mentioned_at m o bs
-node_holds w m p (op.Name i primed) xs ks bs sc h t = refl
-node_holds w m p (op.Bound x) xs ks bs sc h t = any_held m ks bs sc t
-node_holds w m p (op.Use x) xs ks bs sc h t = absurd (false≢true h)
-node_holds w m p (op.Param x) xs ks bs sc h t = absurd (false≢true h)
-node_holds w m p (op.Let ds) xs ks bs sc h t = absurd (false≢true h)
-node_holds w m p op.Prime xs ks bs sc h t = absurd (false≢true h)
-node_holds w m p op.Unchanged xs ks bs sc h t = absurd (false≢true h)
-node_holds w m p op.Boxed xs ks bs sc h t = absurd (false≢true h)
-node_holds w m p op.Angled xs ks bs sc h t = absurd (false≢true h)
-node_holds w m p o xs ks bs sc h t = any_told m p (marks (role o (length xs))) ks bs sc (bind xs [] sc) t
+node_holds : (w : Width) (m : Assignable) (p : Place) (o : Op) (xs : List (List ℕ)) (ks : List Meaning) (bs cs : List Bool) (sc : Scope) →
+    IsTrue (readable_at o cs) → (IsTrue (list_all (λ b. b) cs) → Told m ks bs) → at_node w m p o xs ks sc ≡ mentioned_at m o bs
+node_holds w m p (op.Name i primed) xs ks bs cs sc h t = refl
+node_holds w m p (op.Bound x) xs ks bs cs sc h t = any_held m ks bs sc (t h)
+node_holds w m p (op.Use x) xs ks bs cs sc h t = absurd (false≢true h)
+node_holds w m p (op.Param x) xs ks bs cs sc h t = absurd (false≢true h)
+node_holds w m p (op.Let ds) xs ks bs cs sc h t = absurd (false≢true h)
+node_holds w m p op.Prime xs ks bs cs sc h t = absurd (false≢true h)
+node_holds w m p op.Unchanged xs ks bs cs sc h t = absurd (false≢true h)
+node_holds w m p op.Boxed xs ks bs cs sc h t = absurd (false≢true h)
+node_holds w m p op.Angled xs ks bs cs sc h t = absurd (false≢true h)
+node_holds w m p o xs ks bs cs sc h t = any_told m p (marks (role o (length xs))) ks bs sc (bind xs [] sc) (t h)
 
 abbrev Holds : Assignable → Width → Expr → Type 0
-Holds m w e = IsTrue (is_expanded e) → (sc : Scope) → (meaning w e sc).mentions m ≡ mentioned m e
+Holds m w e = IsTrue (is_readable e) → (sc : Scope) → (meaning w e sc).mentions m ≡ mentioned m e
 
-told_all : (w : Width) (m : Assignable) (es : List Expr) → Each (Holds m w) es → IsTrue (list_all (λ b. b) (map is_expanded es)) →
+told_all : (w : Width) (m : Assignable) (es : List Expr) → Each (Holds m w) es → IsTrue (list_all (λ b. b) (map is_readable es)) →
     Told m (map (meaning w) es) (map (mentioned m) es)
 told_all w m [] h q = tt
 told_all w m (e ∷ es) h q =
-    let rest : Bool = list_all (λ b. b) (map is_expanded es) in
-    (h.0 (and_left (is_expanded e) rest q), told_all w m es h.1 (and_right (is_expanded e) rest q))
+    let rest : Bool = list_all (λ b. b) (map is_readable es) in
+    (h.0 (and_left (is_readable e) rest q), told_all w m es h.1 (and_right (is_readable e) rest q))
 
-pub mentions_is : (w : Width) (m : Assignable) (e : Expr) → IsTrue (is_expanded e) → (sc : Scope) → (meaning w e sc).mentions m ≡ mentioned m e
+pub mentions_is : (w : Width) (m : Assignable) (e : Expr) → IsTrue (is_readable e) → (sc : Scope) → (meaning w e sc).mentions m ≡ mentioned m e
 mentions_is w m = by_nodes (Holds m w) (λ x h q sc.
-    let rest : Bool = list_all (λ b. b) (map is_expanded x.args) in
-    let both : IsTrue (is_expanded_op x.op && rest) = subst IsTrue (expanded-roll x) q in
     ap (λ (a : Denotation). a.mentions m) (denotation-roll w x sc)
-    ∙ node_holds w m x.place x.op x.binds (map (meaning w) x.args) (map (mentioned m) x.args) sc (and_left (is_expanded_op x.op) rest both)
-    (told_all w m x.args h (and_right (is_expanded_op x.op) rest both))
+    ∙ node_holds w m x.place x.op x.binds (map (meaning w) x.args) (map (mentioned m) x.args) (map is_readable x.args) sc
+    (subst IsTrue (readable-roll x) q) (told_all w m x.args h)
     ∙ sym (mentioned-roll m x))

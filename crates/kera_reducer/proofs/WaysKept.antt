@@ -31,8 +31,8 @@ use Rattle.kera_reducer.proofs.CaseWays.{arm_branch, guard_steps, last_branch, m
 use Rattle.kera_reducer.proofs.JobTrees.{job_ways-roll, with_job_ways}
 use Rattle.kera_reducer.proofs.KernelNames.{ker_has, mentions_has}
 use Rattle.kera_reducer.proofs.Mentioned.{mentioned_is}
-use Rattle.kera_reducer.proofs.NamesKept.{node_names}
-use Rattle.kera_reducer.proofs.Roots.{first_changed, tree_root}
+use Rattle.kera_reducer.proofs.Operands.{any_beside, beside, mentions_node, operand_ways, value_root}
+use Rattle.kera_reducer.proofs.Roots.{tree_root}
 use Rattle.kera_reducer.proofs.StepsTold.{step_told}
 use Rattle.kera_reducer.proofs.WayPairs.{pairs_append, pairs_map, same_all, same_alone, same_any, same_behind, same_branch}
 
@@ -117,52 +117,6 @@ map_map : {X Y Z : Type 0} (f : Y → Z) (g : X → Y) (xs : List X) → map f (
 map_map f g [] = refl
 map_map f g (x ∷ xs) = ap (λ zs. f (g x) ∷ zs) (map_map f g xs)
 
--- ---- one operand
-
-abbrev beside : Marks → Ker → Parted
-beside m k = (k, ways m k)
-
--- an operator that no path goes into
-abbrev is_single : KerOp → Bool
-is_single ker.And = false
-is_single ker.Or = false
-is_single ker.If = false
-is_single ker.Some = false
-is_single o = true
-
-ways_at : (m : Marks) (k : Ker) → ways m k ≡ ways_of m (out-Ker k).op k (out-Ker k).place (out-Ker k).binds (map (beside m) (out-Ker k).args)
-ways_at m k =
-    ap (ways m) (sym (roll-out-Ker k)) ∙ ways-roll m (out-Ker k)
-    ∙ ap (λ z. ways_of m (out-Ker k).op z (out-Ker k).place (out-Ker k).binds (map (beside m) (out-Ker k).args)) (roll-out-Ker k)
-
-any_beside : (m : Marks) (ks : List Ker) → any_mentions m (map (beside m) ks) ≡ list_any (λ b. b) (map (mentions m) ks)
-any_beside m [] = refl
-any_beside m (k ∷ ks) = ap (λ b. mentions m k || b) (any_beside m ks)
-
-mentions_out : (m : Marks) (k : Ker) → mentions m k ≡ mentions_at m (out-Ker k).op (map (mentions m) (out-Ker k).args)
-mentions_out m k = ap (mentions m) (sym (roll-out-Ker k)) ∙ mentions-roll m (out-Ker k)
-
-single : (m : Marks) (k : Ker) → is_single (op_at k) ≡ true → ways m k ≡ alone (Holds k)
-single m k h = ways_at m k ∙ by (out-Ker k).op (out-Ker k).place (out-Ker k).binds (map (beside m) (out-Ker k).args) h
-  where
-    by : (o : KerOp) (p : Place) (xs : List ℕ) (ks : List Parted) → is_single o ≡ true → ways_of m o k p xs ks ≡ alone (Holds k)
-    by ker.And p xs ks h = absurd (false≢true h)
-    by ker.Or p xs ks h = absurd (false≢true h)
-    by ker.If p xs ks h = absurd (false≢true h)
-    by ker.Some p xs ks h = absurd (false≢true h)
-    by o p xs ks h = refl
-
-single_tree : (m : Marks) (p : Place) (a : Ty) (ko : KerOp) (ks : List Ker) (xs : List ℕ) → is_single ko ≡ true → ways m (tree p a ko ks xs) ≡ alone (Holds (tree p a ko ks xs))
-single_tree m p a ko ks xs h = single m (tree p a ko ks xs) (ap (λ (x : Ker-F Ker). is_single x.op) (out-roll-Ker _) ∙ h)
-
--- an IF that holds no name that counts
-unmentioned_if : (m : Marks) (k : Ker) → op_at k ≡ ker.If → mentions m k ≡ false → ways m k ≡ alone (Holds k)
-unmentioned_if m k q h =
-    ways_at m k
-    ∙ ap (λ o. ways_of m o k (out-Ker k).place (out-Ker k).binds (map (beside m) (out-Ker k).args)) q
-    ∙ ap (λ b. if b then if_ways k (out-Ker k).place (map (beside m) (out-Ker k).args) else alone (Holds k))
-    (any_beside m (out-Ker k).args ∙ sym (ap (λ o. mentions_at m o (map (mentions m) (out-Ker k).args)) q) ∙ sym (mentions_out m k) ∙ h)
-
 module _ (m : Assignable) where
   abbrev M : Marks
   M = counts m
@@ -170,64 +124,9 @@ module _ (m : Assignable) where
   abbrev counted : ℕ → Bool → Place → Bool
   counted i primed p = counts m i primed
 
-  any_names : (es : List Expr) → list_any (λ b. b) (map (has_name counted) es) ≡ any_mentioned m es
-  any_names [] = refl
-  any_names (e ∷ es) = ap₂ (λ (a b : Bool). a || b) (sym (mentioned_is m e)) (any_names es)
-
   any_trees : (ts : List TypedTree) → any_holds M (with_job_ways M ts) ≡ any_mentioned m (trees ts)
   any_trees [] = refl
   any_trees (t ∷ ts) = ap₂ (λ (a b : Bool). a || b) (sym (mentioned_is m t.tree)) (any_trees ts)
-
-  abbrev holds_by_children : Op → Bool
-  holds_by_children (op.Name i primed) = false
-  holds_by_children o = true
-
-  mentions_node : {i : Option Assignable} {ρ : Numbering} {p : Place} {o : Op} {es : List Expr} {xs : List (List ℕ)} {k : Ker} →
-      holds_by_children o ≡ true → BuildsNode i ρ p o es xs k → mentions M k ≡ any_mentioned m es
-  mentions_node {p = p} {o = o} {es = es} {k = k} q h =
-      mentions_has M k ∙ sym (node_names counted h) ∙ by o (map (has_name counted) es) q ∙ any_names es
-    where
-      by : (o : Op) (bs : List Bool) → holds_by_children o ≡ true → has_name_at counted p o bs ≡ list_any (λ b. b) bs
-      by (op.Name i primed) bs h = absurd (false≢true h)
-      by o bs h = refl
-
-  -- ---- what is built as a value
-
-  same_value : {p : Place} {es : List Expr} {xs : List (List ℕ)} {ρ : Numbering} (a : Ty) (ko : KerOp) (ks : List Ker) → is_same ko ≡ true → passes_on m (op_of ko) es ≡ false →
-      BuildsNode None ρ p (op_of ko) es xs (node p a ko ks) → ways M (node p a ko ks) ≡ alone (Holds (node p a ko ks))
-  same_value a (ker.Const v) ks h q b = absurd (false≢true h)
-  same_value a ker.And ks h q b = absurd (true≢false q)
-  same_value a ker.Or ks h q b = absurd (true≢false q)
-  same_value a ker.If ks h q b =
-      unmentioned_if M _ (ap (λ (x : Ker-F Ker). x.op) (out-roll-Ker _)) (mentions_node refl b ∙ q)
-  same_value a ker.Some ks h q b = absurd (false≢true h)
-  same_value {p = p} a ko ks h q b = single_tree M p a ko ks [] refl
-
-  binder_value : (p : Place) (es : List Expr) (a : Ty) (ko : KerOp) (ks : List Ker) (ns : List ℕ) → is_binder ko ≡ true → passes_on m (op_of ko) es ≡ false →
-      ways M (tree p a ko ks ns) ≡ alone (Holds (tree p a ko ks ns))
-  binder_value p es a ker.Filter ks ns h q = single_tree M p a ker.Filter ks ns refl
-  binder_value p es a ker.MapOver ks ns h q = single_tree M p a ker.MapOver ks ns refl
-  binder_value p es a ker.FunOf ks ns h q = single_tree M p a ker.FunOf ks ns refl
-  binder_value p es a ker.Every ks ns h q = single_tree M p a ker.Every ks ns refl
-  binder_value p es a ker.Some ks ns h q = absurd (true≢false q)
-  binder_value p es a ko ks ns h q = absurd (false≢true h)
-
-  nested_root : {i : Option Assignable} {ρ : Numbering} {es : List Expr} {ks : List Ker} (p : Place) (a : Ty) → has_arm ks ≡ true → BuildsEach i ρ es ks →
-      op_at (nested_ifs p a ks) ≡ ker.If
-  nested_root p a h (none_left i ρ) = absurd (false≢true h)
-  nested_root p a h (one_more i ρ e k es ks b (none_left _ _)) = absurd (false≢true h)
-  nested_root p a h (one_more i ρ e k es ks b (one_more _ _ f l fs ls c g)) = ap (λ (x : Ker-F Ker). x.op) (out-roll-Ker _)
-
-  value_ways : {ρ : Numbering} {p : Place} {o : Op} {es : List Expr} {xs : List (List ℕ)} {k : Ker} → BuildsNode None ρ p o es xs k → passes_on m o es ≡ false →
-      ways M k ≡ alone (Holds k)
-  value_ways (same ρ p o ko es xs a ks e h g) q =
-      same_value a ko ks h (ap (λ z. passes_on m z es) e ∙ q) (same ρ p (op_of ko) ko es xs a ks refl h g)
-  value_ways (binder ρ p o ko es xs a ks bs ns e h f g r) q = binder_value p es a ko (ks ++ bs) ns h (ap (λ z. passes_on m z es) e ∙ q)
-  value_ways (noted i ρ p x es xs k g) q = absurd (true≢false q)
-  value_ways (except ρ p cs e es x a f us n h z g r) q = single M _ (ap is_single (first_changed p a f n r).1)
-  value_ways (cases ρ p other es xs a ks h g) q =
-      unmentioned_if M _ (nested_root p a h g) (mentions_node refl (cases ρ p other es xs a ks h g) ∙ q)
-  value_ways h q = single_tree M _ _ _ _ _ refl
 
   -- ---- one operand of the job
 
@@ -489,15 +388,15 @@ module _ (m : Assignable) where
     node_ways (noted i ρ p x es xs k g) self st ts e = first_ways g self x p xs ts e
     node_ways (as_value n ρ p o es xs k z h) self st ts e =
         subst (λ l. SameWays SameStep l (ways M k)) (sym (job_operand o self p xs ts (ap (passes_on m o) e ∙ z)))
-        (subst (SameWays SameStep (alone (Operand self))) (sym (value_ways h z)) (same_alone SameStep _ _ (st (no_note o es z))))
+        (subst (SameWays SameStep (alone (Operand self))) (sym (operand_ways (value_root m h z))) (same_alone SameStep _ _ (st (no_note o es z))))
     node_ways (conjunction n ρ p es xs a ks g) self st ts e = and_ways p a ts ks (each_kept g ts e)
     node_ways (disjunction n ρ p es xs a ks g) self st ts e =
         or_ways self p a ts ks (st refl) (each_kept g ts e)
-        (any_trees ts ∙ ap (any_mentioned m) e ∙ sym (mentions_node refl (disjunction m ρ p es xs a ks g)))
+        (any_trees ts ∙ ap (any_mentioned m) e ∙ sym (mentions_node m refl (disjunction m ρ p es xs a ks g)))
     node_ways (choice n ρ p es xs a ks bs ns f g r) self st ts e =
         some_ways self p a xs ns ts es ks bs ρ (numbered xs ns ρ) e (fresh_length xs ns ρ f) (st refl) g r
         (each_kept r (drop (length xs) ts) (trees_drop (length xs) ts ∙ ap (drop (length xs)) e))
     node_ways (branches n ρ p c es xs a b g k l q h r) self st ts e =
-        branches_ways p a b ρ c es g k l self ts e q h (mentions_node refl (branches m ρ p c es xs a b g k l q h r)) (λ us z. each_kept r us z)
+        branches_ways p a b ρ c es g k l self ts e q h (mentions_node m refl (branches m ρ p c es xs a b g k l q h r)) (λ us z. each_kept r us z)
     node_ways (split_cases n ρ p other es xs a ys o q g) self st ts e =
-        split_ways p a es (case_branches p a [] ys o) self other ts e q (mentions_node refl (split_cases m ρ p other es xs a ys o q g)) (arms_ways g p a [] [] tt ts e)
+        split_ways p a es (case_branches p a [] ys o) self other ts e q (mentions_node m refl (split_cases m ρ p other es xs a ys o q g)) (arms_ways g p a [] [] tt ts e)
