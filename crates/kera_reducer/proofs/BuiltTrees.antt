@@ -21,7 +21,7 @@ use Rattle.kera_reducer.proofs.RowNames.{map_append}
 
 -- ---- expanded
 
-abbrev all_readable : List Expr → Bool
+abbrev pub all_readable : List Expr → Bool
 all_readable es = list_all (λ b. b) (map is_readable es)
 
 all_append : (bs cs : List Bool) → IsTrue (list_all (λ b. b) bs) → IsTrue (list_all (λ b. b) cs) → IsTrue (list_all (λ b. b) (bs ++ cs))
@@ -72,7 +72,7 @@ mutual
   changes_readable (no_changes ρ x) = refl
   changes_readable (one_change ρ x n ns es u us h g) = all_parts (suc n) es (path_readable h) (changes_readable g)
 
-  node_readable : {i : Option Assignable} {ρ : Numbering} {p : Place} {o : Op} {es : List Expr} {xs : List (List ℕ)} {k : Ker} → BuildsNode i ρ p o es xs k →
+  pub node_readable : {i : Option Assignable} {ρ : Numbering} {p : Place} {o : Op} {es : List Expr} {xs : List (List ℕ)} {k : Ker} → BuildsNode i ρ p o es xs k →
       IsTrue (readable_at o (map is_readable es))
   node_readable (boolean ρ p b xs a) = refl
   node_readable (integer ρ p n xs a) = refl

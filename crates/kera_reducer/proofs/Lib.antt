@@ -23,3 +23,4 @@ pub mod Operands
 pub mod CaseWays
 pub mod WaysKept
 pub mod CaseEffects
+pub mod ActsKept

@@ -38,11 +38,11 @@ use Rattle.kera_reducer.proofs.WayPairs.{pairs_append, pairs_map, same_all, same
 
 -- ---- lists
 
-abbrev first : {X : Type 0} → List X → Option X
+abbrev pub first : {X : Type 0} → List X → Option X
 first [] = None
 first (x ∷ xs) = Some x
 
-at_is_first : {X : Type 0} (n : ℕ) (xs : List X) → slice_get xs n ≡ first (drop n xs)
+pub at_is_first : {X : Type 0} (n : ℕ) (xs : List X) → slice_get xs n ≡ first (drop n xs)
 at_is_first zero [] = refl
 at_is_first zero (x ∷ xs) = refl
 at_is_first (suc n) [] = refl
@@ -75,19 +75,19 @@ not_cons : {X : Type 0} {x : X} {xs : List X} → x ∷ xs ≡ [] → ⊥
 not_cons q = cc
 
 -- parts that are built stand where those of the expression do
-second_part : {i j : Option Assignable} {ρ σ : Numbering} {ks bs : List Ker} (n : ℕ) (es : List Expr) → BuildsEach i ρ (take n es) ks → BuildsEach j σ (drop n es) bs →
+pub second_part : {i j : Option Assignable} {ρ σ : Numbering} {ks bs : List Ker} (n : ℕ) (es : List Expr) → BuildsEach i ρ (take n es) ks → BuildsEach j σ (drop n es) bs →
     slice_get (ks ++ bs) n ≡ first bs
 second_part zero es (none_left i ρ) g = at_is_first zero _
 second_part (suc n) [] (none_left i ρ) (none_left j σ) = refl
 second_part (suc n) (e ∷ es) (one_more i ρ _ k _ ks h r) g = second_part n es r g
 
-first_part : {i j : Option Assignable} {ρ σ : Numbering} {ks bs : List Ker} (n : ℕ) (es : List Expr) → BuildsEach i ρ (take n es) ks → BuildsEach j σ (drop n es) bs →
+pub first_part : {i j : Option Assignable} {ρ σ : Numbering} {ks bs : List Ker} (n : ℕ) (es : List Expr) → BuildsEach i ρ (take n es) ks → BuildsEach j σ (drop n es) bs →
     take n (ks ++ bs) ≡ ks
 first_part zero es (none_left i ρ) g = refl
 first_part (suc n) [] (none_left i ρ) (none_left j σ) = refl
 first_part (suc n) (e ∷ es) (one_more i ρ _ k _ ks h r) g = ap (λ l. k ∷ l) (first_part n es r g)
 
-fresh_length : (xs : List (List ℕ)) (ns : List ℕ) (ρ : Numbering) → all_fresh xs ns ρ ≡ true → length ns ≡ length xs
+pub fresh_length : (xs : List (List ℕ)) (ns : List ℕ) (ρ : Numbering) → all_fresh xs ns ρ ≡ true → length ns ≡ length xs
 fresh_length [] [] ρ h = refl
 fresh_length [] (n ∷ ns) ρ h = absurd (false≢true h)
 fresh_length (x ∷ xs) [] ρ h = absurd (false≢true h)
