@@ -24,3 +24,5 @@ pub mod CaseWays
 pub mod WaysKept
 pub mod CaseEffects
 pub mod ActsKept
+pub mod MarksBelow
+pub mod PathLaws

@@ -2,7 +2,7 @@
 -- path takes one operand of each disjunction and one branch of each IF and CASE that holds a name which the action may
 -- assign, and makes one choice for each `\E`; a conjunction has all combinations. Source: Konnov, Kukovec and Tran,
 -- "TLA+ Model Checking Made Symbolic", OOPSLA 2019, on symbolic transitions and assignments.
-use Rattle.std.specs.Prelude.{◌≡◌, ℕ, suc, Bool, true, false, not, ◌&&◌, sum, nat_eq, List, [], ◌∷◌, ◌++◌, map, zip, take, drop, length, flat_map, Option, Some, None, option_map, slice_get, if◌then◌else◌}
+use Rattle.std.specs.Prelude.{◌≡◌, ℕ, suc, Bool, true, false, not, ◌&&◌, sum, nat_eq, nat_lt, List, [], ◌∷◌, ◌++◌, map, zip, take, drop, length, flat_map, Option, Some, None, option_map, slice_get, if◌then◌else◌}
 use Rattle.std.specs.List.{list_any}
 use Rattle.std.specs.Ordering.{is_eq}
 use Rattle.tla_meaning.specs.declared.expr.Expr.{Expr, roll-Expr, out-Expr}
@@ -39,6 +39,14 @@ tree_mentions m e = has_name (λ i primed p. m i primed) e
 -- whether it reads the name of this number there, if it counts
 abbrev pub tree_reads : Marks → Expr → ℕ → Place → Bool
 tree_reads m e i p = has_name (λ j primed q. (m j primed && nat_eq i j) && is_eq (place_cmp p q)) e
+
+-- past the first n names
+abbrev pub outside : ℕ → ℕ → Bool → Place → Bool
+outside n i primed p = not (nat_lt i n)
+
+-- whether each name of a tree is one of the first n
+abbrev pub tree_names_below : ℕ → Expr → Bool
+tree_names_below n e = not (has_name (outside n) e)
 
 -- ---- annotations
 
