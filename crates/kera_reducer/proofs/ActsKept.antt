@@ -1,6 +1,6 @@
 -- What is built in an action position has the effect of its expression there, if what is built as a value keeps the value.
 use Rattle.std.proofs.Common.{◌≡◌, ℕ, zero, suc, Bool, true, false, not, ◌||◌, IsTrue, List, [], ◌∷◌, ◌++◌, map, take, drop, length, true≢false, refl, sym, ◌∙◌, ap, ap₂, subst, Option, Some, None, if◌then◌else◌}
-use Rattle.std.specs.List.{list_any, slice_get}
+use Rattle.std.specs.List.{AllByRecursion, list_any, slice_get}
 use Rattle.tla_values.specs.declared.value.Value.{Value}
 use Rattle.tla_meaning.specs.declared.actions.Assignable.{Assignable}
 use Rattle.tla_meaning.specs.declared.actions.Effect.{Effect}
@@ -9,11 +9,16 @@ use Rattle.tla_meaning.specs.declared.op.Op.{Op}
 use Rattle.tla_meaning.specs.declared.op.Op.TheVariants as op
 use Rattle.tla_meaning.specs.declared.place.Place.{Place}
 use Rattle.tla_meaning.specs.declared.job.State.{State}
+use Rattle.tla_meaning.specs.declared.outcome.Fault.TheVariants.{NoFault, IsWrong, IsBig}
 use Rattle.tla_meaning.specs.declared.outcome.Outcome.{Outcome}
-use Rattle.tla_meaning.specs.Actions.{case_effect, counts, effect_of, effects_and, effects_or, exists_effect, guarded, if_effect, meaning, val}
+use Rattle.tla_meaning.specs.Outcomes.{joined, values}
+use Rattle.tla_meaning.specs.Shapes.{all_set_items, choices}
+use Rattle.tla_meaning.specs.Actions.{case_effect, counts, effect_of, effects_and, effects_or, exists_effect, fails_by, guarded, if_effect, meaning, val}
 use Rattle.tla_meaning.specs.Meaning.{Meaning, child, inner, outer, outcomes}
 use Rattle.tla_meaning.specs.Numbers.{Width}
 use Rattle.tla_meaning.specs.Scopes.{Denotation, Scope, absent, bind}
+use Rattle.tla_meaning.proofs.NormalNodes.{NormalOutcomes}
+use Rattle.tla_meaning.proofs.NormalShapes.{IfSomes, NormalLists, NormalSet, Normals, all_items_normal, choices_normal, lists_of}
 use Rattle.tla_meaning.proofs.Views.{and_left, and_right, false≢true}
 use Rattle.snowcat_rows.specs.declared.types.Ty.{Ty}
 use Rattle.kernel_trees.specs.declared.kernel.Ker.{Ker, out-Ker, roll-out-Ker}
@@ -24,7 +29,8 @@ use Rattle.kernel_trees.specs.Trees.{ker_effect, ker_val, names_of, op_of}
 use Rattle.kernel_trees.proofs.LawOfPaths.{val_of}
 use Rattle.kernel_trees.proofs.Nodes.{all_meanings, any_here, body_here, body_sense, effects_here, leaf_effect, outcomes_here, sense_at, sets_here}
 use Rattle.kernel_trees.proofs.Trees.{ker-roll, mentions-roll}
-use Rattle.kera_reducer.specs.Reduction.{Keeps, KeepsAction, Numbering, Tied, all_fresh, any_mentioned, mentioned, numbered}
+use Rattle.kernel_shapes.specs.Laws.{IsNormal}
+use Rattle.kera_reducer.specs.Reduction.{Keeps, KeepsAction, Matched, Numbering, all_fresh, any_mentioned, mentioned, numbered}
 use Rattle.kera_reducer.specs.inner.Builds.{Builds, BuildsEach, BuildsArms, BuildsNode, at_node, none_left, one_more, no_arms, other_arm, one_arm, noted, as_value, conjunction, disjunction, choice, branches, split_cases, passes_on}
 use Rattle.kera_reducer.specs.inner.Rows.{case_branches, guard_of, node, op_at, split_case, tree}
 use Rattle.kera_reducer.proofs.BuiltTrees.{all_readable, built_readable, node_readable, node_value}
@@ -33,7 +39,7 @@ use Rattle.kera_reducer.proofs.JobEffects.{act_and, act_case, act_exists, act_if
 use Rattle.kera_reducer.proofs.Mentioned.{is_readable, mentions_is, readable_at}
 use Rattle.kera_reducer.proofs.Operands.{IsOperand, leaf, mentions_node, mentions_out, unmentioned, value_root}
 use Rattle.kera_reducer.proofs.RowNames.{case_children}
-use Rattle.kera_reducer.proofs.Tying.{tied_bind}
+use Rattle.kera_reducer.proofs.Normals.{matched_bind, outcome_normal, values_normal}
 use Rattle.kera_reducer.proofs.WaysKept.{first, at_is_first, first_part, second_part, fresh_length}
 
 -- ---- a kernel tree that is one operand
@@ -128,19 +134,42 @@ module _ (w : Width) (m : Assignable) (s t : State) (b : Scope) where
       ∙ ap (λ n. (sense_at w p ker.Some n ns ks b).act m s t) (length_names ns)
       ∙ (λ i. exists_effect p (sets_here w p (length ns) ks b s t i) (λ vs. (body_here w p (length ns) ks (bind (names_of ns) vs b) i).act m s t))
 
+-- ---- members of normal sets
+
+each_same : (f g : List Value → Effect) → ((vs : List Value) → Normals vs → f vs ≡ g vs) → (cs : List (List Value)) → NormalLists cs → map f cs ≡ map g cs
+each_same f g h [] k = refl
+each_same f g h (c ∷ cs) k = λ i. h c k.0 i ∷ each_same f g h cs k.1 i
+
+-- bodies that agree at normal members
+exists_over_same : (p : Place) (os : List Outcome) (f g : List Value → Effect) → NormalOutcomes os → ((vs : List Value) → Normals vs → f vs ≡ g vs) →
+    exists_effect p os f ≡ exists_effect p os g
+exists_over_same p os f g n h =
+    ap (λ e. elim (joined os) [ NoFault ↦ e | IsWrong q ↦ fails_by (IsWrong q) | IsBig q ↦ fails_by (IsBig q) ])
+    (by (all_set_items (values os)) (all_items_normal (values os) (values_normal os n)))
+  where
+    by : (x : Option (List (List Value))) → IfSomes (λ xss. AllByRecursion NormalSet xss) x →
+        elim x as (λ _. Effect) [ None ↦ fails_by (IsWrong p) | Some xss ↦ effects_or (map f (choices xss)) ]
+        ≡ elim x as (λ _. Effect) [ None ↦ fails_by (IsWrong p) | Some xss ↦ effects_or (map g (choices xss)) ]
+    by None k = refl
+    by (Some xss) k = ap effects_or (each_same f g h (choices xss) (choices_normal xss (lists_of xss k)))
+
+all_normal : (w : Width) (es : List Expr) (a : Scope) (s t : State) → IsNormal a s t → NormalOutcomes (map (job_val w s t a) es)
+all_normal w [] a s t n = tt
+all_normal w (e ∷ es) a s t n = (outcome_normal w e a s t n, all_normal w es a s t n)
+
 -- ---- every tree
 
 module _ (w : Width) (m : Assignable) (keeps : (ρ : Numbering) (e : Expr) (k : Ker) → Builds None ρ e k → Keeps w ρ e k) where
   abbrev ValueKept : Numbering → Place → Op → List Expr → List (List ℕ) → Ker → Type 0
-  ValueKept ρ p o es xs k = (a b : Scope) (s t : State) → Tied ρ a b → val w (job_node p o es xs) a s t ≡ ker_val w k b s t
+  ValueKept ρ p o es xs k = (a b : Scope) (s t : State) → Matched ρ a b s t → val w (job_node p o es xs) a s t ≡ ker_val w k b s t
 
   abbrev ActKept : Numbering → Place → Op → List Expr → List (List ℕ) → Ker → Type 0
-  ActKept ρ p o es xs k = (a b : Scope) (s t : State) → Tied ρ a b → job_act w m s t a (job_node p o es xs) ≡ ker_effect w m k b s t
+  ActKept ρ p o es xs k = (a b : Scope) (s t : State) → Matched ρ a b s t → job_act w m s t a (job_node p o es xs) ≡ ker_effect w m k b s t
 
   abbrev ActsKept : Numbering → List Expr → List Ker → Type 0
-  ActsKept ρ es ks = (a b : Scope) (s t : State) → Tied ρ a b → map (job_act w m s t a) es ≡ map (λ k. ker_effect w m k b s t) ks
+  ActsKept ρ es ks = (a b : Scope) (s t : State) → Matched ρ a b s t → map (job_act w m s t a) es ≡ map (λ k. ker_effect w m k b s t) ks
 
-  each_vals : {ρ : Numbering} {es : List Expr} {ks : List Ker} → BuildsEach None ρ es ks → (a b : Scope) (s t : State) → Tied ρ a b →
+  each_vals : {ρ : Numbering} {es : List Expr} {ks : List Ker} → BuildsEach None ρ es ks → (a b : Scope) (s t : State) → Matched ρ a b s t →
       map (job_val w s t a) es ≡ map (λ k. ker_val w k b s t) ks
   each_vals (none_left i ρ) a b s t r = refl
   each_vals (one_more i ρ e k es ks h g) a b s t r = ap₂ (λ (o : Outcome) (os : List Outcome). o ∷ os) ((keeps ρ e k h).value a b s t r) (each_vals g a b s t r)
@@ -180,7 +209,7 @@ module _ (w : Width) (m : Assignable) (keeps : (ρ : Numbering) (e : Expr) (k : 
 
   case_acts : (ρ : Numbering) (p : Place) (other : Bool) (es : List Expr) (xs : List (List ℕ)) (ty : Ty) (ys : List (Ker × Ker)) (o : Option Ker) → IsTrue (all_readable es) →
       any_mentioned m es ≡ true → list_any (mentions (counts m)) (case_branches p ty [] ys o) ≡ true →
-      ((a b : Scope) (s t : State) → Tied ρ a b → case_effect p (map (job_val w s t a) es) (map (job_act w m s t a) es)
+      ((a b : Scope) (s t : State) → Matched ρ a b s t → case_effect p (map (job_val w s t a) es) (map (job_act w m s t a) es)
       ≡ case_effect p (map (λ k. ker_val w k b s t) (case_children (λ i b q. false) ys o)) (map (λ k. ker_effect w m k b s t) (case_children (λ i b q. false) ys o))) →
       ActKept ρ p (op.Case other) es xs (split_case p ty ys o)
   case_acts ρ p other es xs ty ys o h q n f a b s t r =
@@ -192,7 +221,7 @@ module _ (w : Width) (m : Assignable) (keeps : (ρ : Numbering) (e : Expr) (k : 
 
   -- the body of an \E
   abbrev BodyKept : Numbering → Option Expr → Option Ker → Type 0
-  BodyKept σ o u = (p : Place) (a b : Scope) (s t : State) → Tied σ a b → (job_body w m s t p o a).act m s t ≡ (body_sense w p u b).act m s t
+  BodyKept σ o u = (p : Place) (a b : Scope) (s t : State) → Matched σ a b s t → (job_body w m s t p o a).act m s t ≡ (body_sense w p u b).act m s t
 
   some_acts : (ρ : Numbering) (p : Place) (es : List Expr) (xs : List (List ℕ)) (ty : Ty) (ks bs : List Ker) (ns : List ℕ) → all_fresh xs ns ρ ≡ true →
       BuildsEach None ρ (take (length xs) es) ks → BuildsEach (Some m) (numbered xs ns ρ) (drop (length xs) es) bs →
@@ -200,16 +229,19 @@ module _ (w : Width) (m : Assignable) (keeps : (ρ : Numbering) (e : Expr) (k : 
       ActKept ρ p op.Exists es xs (tree p ty ker.Some (ks ++ bs) ns)
   some_acts ρ p es xs ty ks bs ns h g r f a b s t z =
       act_exists w m s t p es xs a
-      ∙ (λ i. exists_effect p ((each_vals g a b s t z ∙ ap (map (λ k. ker_val w k b s t)) (sym (ap (λ n. take n (ks ++ bs)) n ∙ first_part (length xs) es g r))) i) (λ vs. body vs i))
+      ∙ exists_over_same p (map (job_val w s t a) (take (length xs) es)) _ _ (all_normal w (take (length xs) es) a s t z.normal) body
+      ∙ ap (λ os. exists_effect p os (λ vs. (body_sense w p (slice_get (ks ++ bs) (length ns)) (bind (names_of ns) vs b)).act m s t))
+      (each_vals g a b s t z ∙ ap (map (λ k. ker_val w k b s t)) (sym (ap (λ n. take n (ks ++ bs)) n ∙ first_part (length xs) es g r)))
       ∙ sym (kernel_some w m s t b p ty (ks ++ bs) ns)
     where
       n : length ns ≡ length xs
       n = fresh_length xs ns ρ h
 
-      body : (vs : List Value) → (job_body w m s t p (slice_get es (length xs)) (bind xs vs a)).act m s t ≡ (body_sense w p (slice_get (ks ++ bs) (length ns)) (bind (names_of ns) vs b)).act m s t
-      body vs =
+      body : (vs : List Value) → Normals vs →
+          (job_body w m s t p (slice_get es (length xs)) (bind xs vs a)).act m s t ≡ (body_sense w p (slice_get (ks ++ bs) (length ns)) (bind (names_of ns) vs b)).act m s t
+      body vs l =
           ap (λ o. (job_body w m s t p o (bind xs vs a)).act m s t) (at_is_first (length xs) es)
-          ∙ f p (bind xs vs a) (bind (names_of ns) vs b) s t (tied_bind xs ns vs ρ a b h z)
+          ∙ f p (bind xs vs a) (bind (names_of ns) vs b) s t (matched_bind xs ns vs ρ a b s t h l z)
           ∙ ap (λ o. (body_sense w p o (bind (names_of ns) vs b)).act m s t) (sym (ap (slice_get (ks ++ bs)) n ∙ second_part (length xs) es g r))
 
   kernel_any : (es : List Expr) (q : Place) (a : Ty) (ko : KerOp) (ks : List Ker) →
@@ -238,7 +270,7 @@ module _ (w : Width) (m : Assignable) (keeps : (ρ : Numbering) (e : Expr) (k : 
     noted_acts : {ρ : Numbering} {es : List Expr} {k : Ker} → BuildsEach (Some m) ρ es (k ∷ []) → (p : Place) (x : List ℕ) (xs : List (List ℕ)) → ActKept ρ p (op.Noted x) es xs k
     noted_acts (one_more i ρ e k es ks h g) p x xs a b s t r = act_noted w m s t p x e es xs a ∙ tree_acts h a b s t r
 
-    arms_acts : {ρ : Numbering} {es : List Expr} {ys : List (Ker × Ker)} {o : Option Ker} → BuildsArms m ρ es ys o → (p : Place) (a b : Scope) (s t : State) → Tied ρ a b →
+    arms_acts : {ρ : Numbering} {es : List Expr} {ys : List (Ker × Ker)} {o : Option Ker} → BuildsArms m ρ es ys o → (p : Place) (a b : Scope) (s t : State) → Matched ρ a b s t →
         case_effect p (map (job_val w s t a) es) (map (job_act w m s t a) es)
         ≡ case_effect p (map (λ k. ker_val w k b s t) (case_children (λ i b q. false) ys o)) (map (λ k. ker_effect w m k b s t) (case_children (λ i b q. false) ys o))
     arms_acts (no_arms n ρ) p a b s t r = refl

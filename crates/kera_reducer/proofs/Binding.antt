@@ -26,10 +26,12 @@ use Rattle.kernel_trees.specs.declared.kernel.KerOp.TheVariants as ker
 use Rattle.kernel_trees.specs.Trees.{op_of, ker_val, names_of, number_name}
 use Rattle.kernel_trees.proofs.Nodes.{all_meanings, sense_at, body_sense, sets_here, body_here, outcomes_here}
 use Rattle.kernel_trees.proofs.Operators.{is_form, by_node, val_const, val_name, val_bound, val_range, constant_value}
-use Rattle.kera_reducer.specs.Reduction.{Numbering, Tied, numbered, all_fresh, fresh}
+use Rattle.kera_reducer.specs.Reduction.{Numbering, Matched, numbered, all_fresh, fresh}
 use Rattle.kera_reducer.specs.inner.Rows.{tree, node, bound}
 use Rattle.kera_reducer.specs.inner.Builds.{is_binder}
-use Rattle.kera_reducer.proofs.Tying.{tied_bind}
+use Rattle.tla_meaning.proofs.NormalNodes.{NormalOutcomes}
+use Rattle.kernel_shapes.specs.Laws.{IsNormal}
+use Rattle.kera_reducer.proofs.Normals.{of_sets, over_same, fold_same, outcome_normal, bind_normal, matched_bind}
 use Rattle.kera_reducer.proofs.Frame.{node_means, KeepsNode, KeepsEach, ker_vals, operands_kept, plain_row, opened}
 
 -- ---- literals and names
@@ -58,7 +60,7 @@ module _ (w : Width) (ρ : Numbering) (p : Place) (es : List Expr) (xs : List (L
   pub keeps_bound : (x : List ℕ) (n : ℕ) → find_last x ρ ≡ Some n → KeepsNode w ρ p (op.Bound x) es xs (bound p c n)
   keeps_bound x n q =
       plain_row w ρ p p (op.Bound x) es xs c (ker.Bound n) [] [] (λ a s t. refl) (λ s t. refl)
-      (λ a b s t r. ap (value_found p) (r x ∙ ap (option_and_then (λ k. find_last (number_name k) b.bound)) q) ∙ sym (val_bound w s t p c n [] [] b))
+      (λ a b s t r. ap (value_found p) (r.tied x ∙ ap (option_and_then (λ k. find_last (number_name k) b.bound)) q) ∙ sym (val_bound w s t p c n [] [] b))
 
   pub keeps_range : (k l : Ker) → KeepsEach w ρ es (k ∷ l ∷ []) → KeepsNode w ρ p op.Range es xs (node p c ker.Range (k ∷ l ∷ []))
   keeps_range k l h =
@@ -67,7 +69,7 @@ module _ (w : Width) (ρ : Numbering) (p : Place) (es : List Expr) (xs : List (L
 
 -- ---- binders
 
-module _ (w : Width) (ρ ρ' : Numbering) (p : Place) (a b : Scope) (s t : State) (r : Tied ρ a b) where
+module _ (w : Width) (ρ ρ' : Numbering) (p : Place) (a b : Scope) (s t : State) (r : Matched ρ a b s t) where
   sets_kept : (n : ℕ) (es : List Expr) (ks bs : List Ker) → KeepsEach w ρ (take n es) ks → KeepsEach w ρ' (drop n es) bs →
       outcomes (take n (outer p (replicate n false ++ true ∷ []) (map (meaning w) es) a)) s t
       ≡ outcomes (take n (outer p (replicate n false ++ true ∷ []) (all_meanings w (ks ++ bs)) b)) s t
@@ -78,7 +80,7 @@ module _ (w : Width) (ρ ρ' : Numbering) (p : Place) (a b : Scope) (s t : State
   sets_kept (suc n) (e ∷ es) [] bs h g = absurd h
   sets_kept (suc n) (e ∷ es) (k ∷ ks) bs h g = λ i. h.0.value a b s t r i ∷ sets_kept n es ks bs h.1 g i
 
-module _ (w : Width) (ρ ρ' : Numbering) (p : Place) (a b : Scope) (s t : State) (r : Tied ρ' a b) where
+module _ (w : Width) (ρ ρ' : Numbering) (p : Place) (a b : Scope) (s t : State) (r : Matched ρ' a b s t) where
   body_kept : (n : ℕ) (es : List Expr) (ks bs : List Ker) → KeepsEach w ρ (take n es) ks → KeepsEach w ρ' (drop n es) bs →
       (child p n (inner p (replicate n false ++ true ∷ []) (map (meaning w) es) a)).value s t
       ≡ (child p n (inner p (replicate n false ++ true ∷ []) (all_meanings w (ks ++ bs)) b)).value s t
@@ -99,12 +101,15 @@ lengths_same [] (n ∷ ns) ρ h = absurd (false≢true h)
 lengths_same (x ∷ xs) [] ρ h = absurd (false≢true h)
 lengths_same (x ∷ xs) (n ∷ ns) ρ h = ap suc (lengths_same xs ns (ρ ++ (x, n) ∷ []) (and_right (fresh n ρ) (all_fresh xs ns (ρ ++ (x, n) ∷ [])) h))
 
-abbrev of_sets : Place → Op → List Outcome → (List Value → Outcome) → Outcome
-of_sets p o os body = strict os (on_all_sets p (λ xss. strict (map body (choices xss)) (bound_table p o (choices xss))))
+sets_normal : (w : Width) (p : Place) (a : Scope) (s t : State) → IsNormal a s t → (n : ℕ) (es : List Expr) →
+    NormalOutcomes (outcomes (take n (outer p (replicate n false ++ true ∷ []) (map (meaning w) es) a)) s t)
+sets_normal w p a s t h zero es = tt
+sets_normal w p a s t h (suc n) [] = tt
+sets_normal w p a s t h (suc n) (e ∷ es) = (outcome_normal w e a s t h, sets_normal w p a s t h n es)
 
 module _ (w : Width) (ρ : Numbering) (p : Place) (es : List Expr) (xs : List (List ℕ)) (ks bs : List Ker) (ns : List ℕ) (f : all_fresh xs ns ρ ≡ true) where
   module _ (h : KeepsEach w ρ (take (length xs) es) ks) (g : KeepsEach w (numbered xs ns ρ) (drop (length xs) es) bs) where
-    binder_value : (a b : Scope) (s t : State) → Tied ρ a b → (o : KerOp) → is_binder o ≡ true →
+    binder_value : (a b : Scope) (s t : State) → Matched ρ a b s t → (o : KerOp) → is_binder o ≡ true →
         (node_means w p (op_of o) es xs a).value s t ≡ (sense_at w p o (length xs) ns (ks ++ bs) b).value s t
     binder_value a b s t r o q = by o q
       where
@@ -113,8 +118,12 @@ module _ (w : Width) (ρ : Numbering) (p : Place) (es : List Expr) (xs : List (L
             (λ vs. (child p (length xs) (inner p (replicate (length xs) false ++ true ∷ []) (map (meaning w) es) (bind xs vs a))).value s t)
             ≡ of_sets p o (outcomes (take (length xs) (outer p (replicate (length xs) false ++ true ∷ []) (all_meanings w (ks ++ bs)) b)) s t)
             (λ vs. (child p (length xs) (inner p (replicate (length xs) false ++ true ∷ []) (all_meanings w (ks ++ bs)) (bind (names_of ns) vs b))).value s t)
-        of_both o = λ i. of_sets p o (sets_kept w ρ (numbered xs ns ρ) p a b s t r (length xs) es ks bs h g i)
-            (λ vs. body_kept w ρ (numbered xs ns ρ) p (bind xs vs a) (bind (names_of ns) vs b) s t (tied_bind xs ns vs ρ a b f r) (length xs) es ks bs h g i)
+        of_both o =
+            over_same p o (outcomes (take (length xs) (outer p (replicate (length xs) false ++ true ∷ []) (map (meaning w) es) a)) s t) _ _
+            (sets_normal w p a s t r.normal (length xs) es)
+            (λ vs m. body_kept w ρ (numbered xs ns ρ) p (bind xs vs a) (bind (names_of ns) vs b) s t (matched_bind xs ns vs ρ a b s t f m r) (length xs) es ks bs h g)
+            ∙ ap (λ os. of_sets p o os (λ vs. (child p (length xs) (inner p (replicate (length xs) false ++ true ∷ []) (all_meanings w (ks ++ bs)) (bind (names_of ns) vs b))).value s t))
+            (sets_kept w ρ (numbered xs ns ρ) p a b s t r (length xs) es ks bs h g)
 
         by : (o : KerOp) → is_binder o ≡ true →
             (node_means w p (op_of o) es xs a).value s t ≡ (sense_at w p o (length xs) ns (ks ++ bs) b).value s t
@@ -158,7 +167,7 @@ module _ (w : Width) (ρ : Numbering) (p : Place) (es : List Expr) (xs : List (L
       plain_row w ρ p p op.Fold es xs c ker.FoldLeft (bs ++ ks) ns (λ a s t. refl) (λ s t. refl)
       (λ a b s t r. by a b s t r es bs g h ∙ sym (by_node w s t p c ker.FoldLeft (bs ++ ks) ns b))
     where
-      by : (a b : Scope) (s t : State) → Tied ρ a b → (es : List Expr) (bs : List Ker) → KeepsEach w (numbered xs ns ρ) (take 1 es) bs → KeepsEach w ρ (drop 1 es) ks →
+      by : (a b : Scope) (s t : State) → Matched ρ a b s t → (es : List Expr) (bs : List Ker) → KeepsEach w (numbered xs ns ρ) (take 1 es) bs → KeepsEach w ρ (drop 1 es) ks →
           (node_means w p op.Fold es xs a).value s t ≡ (sense_at w p ker.FoldLeft (length (names_of ns)) ns (bs ++ ks) b).value s t
       by a b s t r [] [] g h = none ks h
         where
@@ -169,6 +178,13 @@ module _ (w : Width) (ρ : Numbering) (p : Place) (es : List Expr) (xs : List (L
       by a b s t r [] (x ∷ bs) g h = absurd g
       by a b s t r (e ∷ es) [] g h = absurd g
       by a b s t r (e ∷ es) (x ∷ y ∷ bs) g h = absurd g.1
-      by a b s t r (e ∷ es) (x ∷ []) g h = λ i.
-          strict ((operands_kept w ρ s t p es ks a b h r ∙ sym (outcomes_here w p ks b s t)) i)
-          (fold_over p (λ u v. g.0.value (bind xs (u ∷ v ∷ []) a) (bind (names_of ns) (u ∷ v ∷ []) b) s t (tied_bind xs ns (u ∷ v ∷ []) ρ a b f r) i))
+      by a b s t r (e ∷ es) (x ∷ []) g h =
+          fold_same p (outcomes (outer p [] (map (meaning w) es) a) s t) _ _ (all_normal es)
+          (λ u v m n. g.0.value (bind xs (u ∷ v ∷ []) a) (bind (names_of ns) (u ∷ v ∷ []) b) s t (matched_bind xs ns (u ∷ v ∷ []) ρ a b s t f (m, (n, tt)) r))
+          (λ u v m n. outcome_normal w e (bind xs (u ∷ v ∷ []) a) s t (bind_normal xs (u ∷ v ∷ []) a s t (m, (n, tt)) r.normal))
+          ∙ ap (λ (os : List Outcome). strict os (fold_over p (λ u v. ker_val w x (bind (names_of ns) (u ∷ v ∷ []) b) s t)))
+          (operands_kept w ρ s t p es ks a b h r ∙ sym (outcomes_here w p ks b s t))
+        where
+          all_normal : (es : List Expr) → NormalOutcomes (outcomes (outer p [] (map (meaning w) es) a) s t)
+          all_normal [] = tt
+          all_normal (e ∷ es) = (outcome_normal w e a s t r.normal, all_normal es)

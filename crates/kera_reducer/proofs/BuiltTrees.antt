@@ -102,7 +102,7 @@ mutual
   node_readable (field ρ p es xs a k m x q g) = each_readable g
   node_readable (low_item ρ p es xs a k m n q h g) = each_readable g
   node_readable (high_item ρ p es xs l t k m n h q r g) = each_readable g
-  node_readable (except ρ p cs e es x a f us n h q g r) = and_both (is_readable e) (all_readable es) (built_readable g) (changes_readable r)
+  node_readable (except ρ p cs e es x a f u us h q g r) = and_both (is_readable e) (all_readable es) (built_readable g) (changes_readable r)
   node_readable (except_let ρ p cs e es x l t f us h q g r) = and_both (is_readable e) (all_readable es) (built_readable g) (changes_readable r)
   node_readable (cases ρ p other es xs a ks h g) = each_readable g
   node_readable (as_value m ρ p o es xs k q h) = node_readable h

@@ -117,9 +117,9 @@ module _ (w : Width) (s t : State) where
 abbrev pub both_of : Value → Value → Value
 both_of a b = sequence (a ∷ b ∷ [])
 
-first_of : (a b : Value) → apply ((value.Int (pos 1), a) ∷ (value.Int (pos 2), b) ∷ []) (value.Int (pos 1)) ≡ Some a
+pub first_of : (a b : Value) → apply ((value.Int (pos 1), a) ∷ (value.Int (pos 2), b) ∷ []) (value.Int (pos 1)) ≡ Some a
 first_of a b = simp (value_cmp_out, value.outs-Int)
 
-second_of : (a b : Value) → apply ((value.Int (pos 1), a) ∷ (value.Int (pos 2), b) ∷ []) (value.Int (pos 2)) ≡ Some b
+pub second_of : (a b : Value) → apply ((value.Int (pos 1), a) ∷ (value.Int (pos 2), b) ∷ []) (value.Int (pos 2)) ≡ Some b
 second_of a b = simp (value_cmp_out, value.outs-Int)
 

@@ -165,8 +165,8 @@ module _ (test : ℕ → Bool → Place → Bool) where
     node_names (low_item ρ p es xs a k m n q h g) =
         with_constant k m (map (has_name test) es) q (each_names g) ∙ sym (has-roll test _ ∙ or_none (ker_has test k))
     node_names (high_item ρ p es xs l t k m n h q r g) = ap (list_any (λ b. b)) (each_names g) ∙ sym (item_has test p l t n k m)
-    node_names (except ρ p cs e es x a f us n h q g r) =
-        (λ i. names_kept g i || (change_names r).0 i) ∙ sym (changed_has test p a f us (change_names r).1)
+    node_names (except ρ p cs e es x a f u us h q g r) =
+        (λ i. names_kept g i || (change_names r).0 i) ∙ sym (changed_has test p a f (u ∷ us) (change_names r).1)
     node_names (except_let ρ p cs e es x l t f us h q g r) =
         (λ i. names_kept g i || (change_names r).0 i) ∙ sym (except_let_has test p l t f us (change_names r).1)
     node_names (cases ρ p other es xs a ks h g) = ap (list_any (λ b. b)) (each_names g) ∙ sym (nested_has test p a ks)

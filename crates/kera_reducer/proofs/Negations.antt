@@ -30,7 +30,7 @@ use Rattle.kernel_trees.specs.declared.kernel.KerOp.TheVariants as ker
 use Rattle.kernel_trees.specs.Trees.{ker_val, names_of, number_name}
 use Rattle.kernel_trees.proofs.Operators.{by_node, val_const, val_not, val_and, val_equal, val_less, val_minus, val_set, val_member, val_if, val_nocase, constant_value}
 use Rattle.kernel_trees.proofs.Binders.{val_every, at_members}
-use Rattle.kera_reducer.specs.Reduction.{Numbering, Tied, is_wide}
+use Rattle.kera_reducer.specs.Reduction.{Numbering, Matched, is_wide}
 use Rattle.kera_reducer.specs.inner.Rows.{tree, node, negation, number as number_at, truth as truth_at, implication, nested_ifs}
 use Rattle.kera_reducer.specs.inner.Builds.{has_arm}
 use Rattle.kera_reducer.proofs.Widths.{fits_all, number_there}
@@ -47,7 +47,7 @@ module _ (w : Width) (s t : State) (p : Place) (c : Ty) (b : Scope) where
 
 module _ (w : Width) (ρ : Numbering) (p : Place) (es : List Expr) (xs : List (List ℕ)) (c : Ty) where
   -- the job's operator of the kernel's operands
-  of_operands : (ks : List Ker) → KeepsEach w ρ es ks → (a b : Scope) (s t : State) → Tied ρ a b → (o : Op) →
+  of_operands : (ks : List Ker) → KeepsEach w ρ es ks → (a b : Scope) (s t : State) → Matched ρ a b s t → (o : Op) →
       strict (outcomes (outer p [] (map (meaning w) es) a) s t) (table w p o) ≡ strict (ker_vals w ρ s t ks b) (table w p o)
   of_operands ks h a b s t r o = ap (λ (os : List Outcome). strict os (table w p o)) (operands_kept w ρ s t p es ks a b h r)
 

@@ -132,7 +132,7 @@ module _ (m : Assignable) where
       same_value a ko ks h (ap (λ z. passes_on m z es) e ∙ q) (same ρ p (op_of ko) ko es xs a ks refl h g)
   value_root (binder ρ p o ko es xs a ks bs ns e h f g r) q = binder_value p es a ko (ks ++ bs) ns h (ap (λ z. passes_on m z es) e ∙ q)
   value_root (noted i ρ p x es xs k g) q = absurd (true≢false q)
-  value_root (except ρ p cs e es x a f us n h z g r) q = leaf (ap is_leaf (first_changed p a f n r).1)
+  value_root (except ρ p cs e es x a f u us h z g r) q = leaf (ap is_leaf (first_changed p a f r).1)
   value_root (cases ρ p other es xs a ks h g) q =
       unmentioned (nested_root p a h g) (mentions_node refl (cases ρ p other es xs a ks h g) ∙ q)
   value_root h q = leaf_tree _ _ _ _ _ refl

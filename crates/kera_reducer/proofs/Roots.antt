@@ -102,10 +102,9 @@ changed_root p a f h (no_changes ρ x) = h
 changed_root p a f h (one_change ρ x n ns es u us b g) =
     changed_root p a (changed_at p a f u.levels u.right) (changed_at_root p a f u.levels u.right (path_names (λ i b p. false) b).1) g
 
-pub first_changed : {ρ : Numbering} {x : List ℕ} {ns : List ℕ} {es : List Expr} {us : List Change} (p : Place) (a : Ty) (f : Ker) → is_nil us ≡ false → BuildsChanges ρ x ns es us →
-    Updates p (changed p a f us)
-first_changed p a f h (no_changes ρ x) = absurd (true≢false h)
-first_changed p a f h (one_change ρ x n ns es u us b g) =
+pub first_changed : {ρ : Numbering} {x : List ℕ} {ns : List ℕ} {es : List Expr} {u : Change} {us : List Change} (p : Place) (a : Ty) (f : Ker) → BuildsChanges ρ x ns es (u ∷ us) →
+    Updates p (changed p a f (u ∷ us))
+first_changed p a f (one_change ρ x n ns es u us b g) =
     changed_root p a (changed_at p a f u.levels u.right) (changed_at_root p a f u.levels u.right (path_names (λ i b p. false) b).1) g
 
 update_root : {p : Place} {o : Op} {k : Ker} → is_other o ≡ true → Updates p k → Rooted p o k
@@ -129,7 +128,7 @@ root_of (same ρ p o ko es xs a ks e h g) q = subst (λ z. Rooted p z (tree p a 
 root_of (binder ρ p o ko es xs a ks bs ns e h f g r) q = subst (λ z. Rooted p z (tree p a ko (ks ++ bs) ns)) e (rooted p a ko (ks ++ bs) ns (op_of ko) (binder_root ko h))
 root_of (noted i ρ p x es xs k g) q = absurd (true≢false q)
 root_of (assign ρ p es xs a ks g) q = rooted _ _ _ _ _ _ an_assignment
-root_of (except ρ p cs e es x a f us n h z g r) q = update_root refl (first_changed p a f n r)
+root_of (except ρ p cs e es x a f u us h z g r) q = update_root refl (first_changed p a f r)
 root_of (cases ρ p other es xs a ks h g) q = two_or_more p a other h g
 root_of (as_value m ρ p o es xs k z h) q = root_of h q
 root_of h q = rooted _ _ _ _ _ _ (another _ _ refl refl)

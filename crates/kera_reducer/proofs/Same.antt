@@ -27,14 +27,14 @@ use Rattle.kernel_trees.specs.declared.kernel.KerOp.TheVariants as ker
 use Rattle.kernel_trees.specs.Trees.{op_of, ker_val, ker_form}
 use Rattle.kernel_trees.proofs.Nodes.{all_meanings, sense_at, outcomes_here}
 use Rattle.kernel_trees.proofs.Operators.{by_node, form_by_node, forms_here}
-use Rattle.kera_reducer.specs.Reduction.{Numbering, Tied}
+use Rattle.kera_reducer.specs.Reduction.{Numbering, Matched}
 use Rattle.kera_reducer.specs.inner.Rows.{tree, node}
 use Rattle.kera_reducer.specs.inner.Builds.{is_same}
 use Rattle.kera_reducer.proofs.Frame.{node_means, KeepsNode, KeepsEach, operands_kept, operand_forms_kept}
 
 module _ (w : Width) (ρ : Numbering) (p : Place) (es : List Expr) (xs : List (List ℕ)) (ks : List Ker) (h : KeepsEach w ρ es ks) where
   -- the operands of both, in scopes that are tied
-  module _ (a b : Scope) (s t : State) (r : Tied ρ a b) where
+  module _ (a b : Scope) (s t : State) (r : Matched ρ a b s t) where
     operands : outcomes (outer p [] (map (meaning w) es) a) s t ≡ outcomes (outer p [] (all_meanings w ks) b) s t
     operands = operands_kept w ρ s t p es ks a b h r ∙ sym (outcomes_here w p ks b s t)
 

@@ -13,6 +13,7 @@ use Rattle.tla_meaning.specs.Scopes.{Scope, find_last}
 use Rattle.tla_meaning.specs.Actions.{counts, meaning, val}
 use Rattle.kernel_trees.specs.declared.kernel.Ker.{Ker}
 use Rattle.kernel_trees.specs.Trees.{number_name, ker_val, ker_form, ker_effect}
+use Rattle.kernel_shapes.specs.Laws.{IsNormal}
 
 -- the numbers of bound names; of two with one name the last counts
 abbrev pub Numbering : Type 0
@@ -22,6 +23,13 @@ Numbering = List (List ℕ × ℕ)
 abbrev pub Tied : Numbering → Scope → Scope → Type 0
 Tied ρ a b =
     (x : List ℕ) → find_last x a.bound ≡ option_and_then (λ n. find_last (number_name n) b.bound) (find_last x ρ)
+
+-- the scopes are tied, and all values that a tree reads are normal. Where a function has an argument twice, which no value
+-- of the language has, an EXCEPT of two indexes is not what two nested ones are: `[f EXCEPT ![i][j] = e]` leaves such an f
+-- as it is where j is no argument of f[i].
+pub record Matched (ρ : Numbering) (a b : Scope) (s t : State) : Type 0 where
+  pub tied : Tied ρ a b
+  pub normal : IsNormal a s t
 
 -- no name has the number
 abbrev pub fresh : ℕ → Numbering → Bool
@@ -49,13 +57,13 @@ is_wide (Some n) = nat_le 4 n
 
 -- the same value and the same form, at all states
 pub record Keeps (w : Width) (ρ : Numbering) (e : Expr) (k : Ker) : Type 0 where
-  pub value : (a b : Scope) (s t : State) → Tied ρ a b → val w e a s t ≡ ker_val w k b s t
-  pub form : (a b : Scope) (s t : State) → Tied ρ a b → (meaning w e a).form s t ≡ ker_form w k b s t
+  pub value : (a b : Scope) (s t : State) → Matched ρ a b s t → val w e a s t ≡ ker_val w k b s t
+  pub form : (a b : Scope) (s t : State) → Matched ρ a b s t → (meaning w e a).form s t ≡ ker_form w k b s t
 
 -- the same effect in an action position, where these names may be assigned
 abbrev pub KeepsAction : Width → Assignable → Numbering → Expr → Ker → Type 0
 KeepsAction w m ρ e k =
-    (a b : Scope) (s t : State) → Tied ρ a b → (meaning w e a).act m s t ≡ ker_effect w m k b s t
+    (a b : Scope) (s t : State) → Matched ρ a b s t → (meaning w e a).act m s t ≡ ker_effect w m k b s t
 
 -- ---- names that an action may assign, in expanded trees
 

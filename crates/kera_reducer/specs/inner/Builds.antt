@@ -19,7 +19,7 @@ use Rattle.kernel_trees.specs.declared.kernel.KerOp.{KerOp}
 use Rattle.kernel_trees.specs.declared.kernel.KerOp.TheVariants as ker
 use Rattle.kernel_trees.specs.Trees.{op_of}
 use Rattle.kera_reducer.specs.Reduction.{Numbering, are_fresh, numbered, all_fresh, any_mentioned}
-use Rattle.kera_reducer.specs.inner.Rows.{tree, node, op_at, truth, number, bound, negation, Let, implication, equivalence, single, item_by_let, small_power, large_power, Level, Change, changed, indexes, level_numbers, all_plain, except_by_let, is_nil, nested_ifs, split_case, guard_of}
+use Rattle.kera_reducer.specs.inner.Rows.{tree, node, op_at, truth, number, bound, negation, Let, implication, equivalence, single, item_by_let, small_power, large_power, Level, Change, changed, indexes, level_numbers, all_plain, except_by_let, nested_ifs, split_case, guard_of}
 
 -- an operator of the kernel that takes the children of the one for which it stands as they are
 abbrev pub is_same : KerOp → Bool
@@ -194,10 +194,10 @@ mutual
         → is_let l ≡ true → op_at m ≡ ker.Const (value.Int (pos n)) → nat_le n 7 ≡ false → BuildsEach None ρ es (k ∷ m ∷ [])
         → BuildsNode None ρ p op.Apply es xs (item_by_let p l t n k m)
     -- ---- EXCEPT: without a LET where no index but the first can have a fault
-    except : (ρ : Numbering) (p : Place) (cs : List ℕ) (e : Expr) (es : List Expr) (x : List ℕ) (a : Ty) (f : Ker) (us : List Change)
-        → is_nil us ≡ false → all_plain (indexes us) ≡ true → are_fresh (level_numbers us) ρ ≡ true
-        → Builds None ρ e f → BuildsChanges ρ x cs es us
-        → BuildsNode None ρ p (op.Except cs) (e ∷ es) (x ∷ []) (changed p a f us)
+    except : (ρ : Numbering) (p : Place) (cs : List ℕ) (e : Expr) (es : List Expr) (x : List ℕ) (a : Ty) (f : Ker) (u : Change) (us : List Change)
+        → all_plain (indexes (u ∷ us)) ≡ true → are_fresh (level_numbers (u ∷ us)) ρ ≡ true
+        → Builds None ρ e f → BuildsChanges ρ x cs es (u ∷ us)
+        → BuildsNode None ρ p (op.Except cs) (e ∷ es) (x ∷ []) (changed p a f (u ∷ us))
     except_let : (ρ : Numbering) (p : Place) (cs : List ℕ) (e : Expr) (es : List Expr) (x : List ℕ) (l : Let) (t : Ty) (f : Ker) (us : List Change)
         → is_except_let l (level_numbers us) ρ ≡ true → all_plain (indexes us) ≡ false
         → Builds None ρ e f → BuildsChanges ρ x cs es us
