@@ -1,10 +1,10 @@
 -- What is built in an action position has the effect of its expression there, if what is built as a value keeps the value.
-use Rattle.std.proofs.Common.{◌≡◌, ℕ, zero, suc, Bool, true, false, not, ◌||◌, IsTrue, List, [], ◌∷◌, ◌++◌, map, take, drop, length, true≢false, refl, sym, ◌∙◌, ap, ap₂, subst, Option, Some, None, if◌then◌else◌}
+use Rattle.std.proofs.Common.{◌≡◌, ℕ, suc, Bool, true, false, ◌||◌, IsTrue, List, [], ◌∷◌, ◌++◌, map, take, drop, length, true≢false, refl, sym, ◌∙◌, ap, ap₂, subst, Option, Some, None, if◌then◌else◌}
 use Rattle.std.specs.List.{AllByRecursion, list_any, slice_get}
 use Rattle.tla_values.specs.declared.value.Value.{Value}
 use Rattle.tla_meaning.specs.declared.actions.Assignable.{Assignable}
 use Rattle.tla_meaning.specs.declared.actions.Effect.{Effect}
-use Rattle.tla_meaning.specs.declared.expr.Expr.{Expr, out-Expr, roll-out-Expr}
+use Rattle.tla_meaning.specs.declared.expr.Expr.{Expr, roll-out-Expr}
 use Rattle.tla_meaning.specs.declared.op.Op.{Op}
 use Rattle.tla_meaning.specs.declared.op.Op.TheVariants as op
 use Rattle.tla_meaning.specs.declared.place.Place.{Place}
@@ -14,9 +14,9 @@ use Rattle.tla_meaning.specs.declared.outcome.Outcome.{Outcome}
 use Rattle.tla_meaning.specs.Outcomes.{joined, values}
 use Rattle.tla_meaning.specs.Shapes.{all_set_items, choices}
 use Rattle.tla_meaning.specs.Actions.{case_effect, counts, effect_of, effects_and, effects_or, exists_effect, fails_by, guarded, if_effect, meaning, val}
-use Rattle.tla_meaning.specs.Meaning.{Meaning, child, inner, outer, outcomes}
+use Rattle.tla_meaning.specs.Meaning.{Meaning, outer, outcomes}
 use Rattle.tla_meaning.specs.Numbers.{Width}
-use Rattle.tla_meaning.specs.Scopes.{Denotation, Scope, absent, bind}
+use Rattle.tla_meaning.specs.Scopes.{Denotation, Scope, bind}
 use Rattle.tla_meaning.proofs.NormalNodes.{NormalOutcomes}
 use Rattle.tla_meaning.proofs.NormalShapes.{IfSomes, NormalLists, NormalSet, Normals, all_items_normal, choices_normal, lists_of}
 use Rattle.tla_meaning.proofs.Views.{and_left, and_right, false≢true}
@@ -25,17 +25,17 @@ use Rattle.kernel_trees.specs.declared.kernel.Ker.{Ker, out-Ker, roll-out-Ker}
 use Rattle.kernel_trees.specs.declared.kernel.KerOp.{KerOp}
 use Rattle.kernel_trees.specs.declared.kernel.KerOp.TheVariants as ker
 use Rattle.kernel_trees.specs.Paths.{Marks, mentions, mentions_at}
-use Rattle.kernel_trees.specs.Trees.{ker_effect, ker_val, names_of, op_of}
+use Rattle.kernel_trees.specs.Trees.{ker_effect, ker_val, names_of}
 use Rattle.kernel_trees.proofs.LawOfPaths.{val_of}
 use Rattle.kernel_trees.proofs.Nodes.{all_meanings, any_here, body_here, body_sense, effects_here, leaf_effect, outcomes_here, sense_at, sets_here}
 use Rattle.kernel_trees.proofs.Trees.{ker-roll, mentions-roll}
 use Rattle.kernel_shapes.specs.Laws.{IsNormal}
 use Rattle.kera_reducer.specs.Reduction.{Keeps, KeepsAction, Matched, Numbering, all_fresh, any_mentioned, mentioned, numbered}
 use Rattle.kera_reducer.specs.inner.Builds.{Builds, BuildsEach, BuildsArms, BuildsNode, at_node, none_left, one_more, no_arms, other_arm, one_arm, noted, as_value, conjunction, disjunction, choice, branches, split_cases, passes_on}
-use Rattle.kera_reducer.specs.inner.Rows.{case_branches, guard_of, node, op_at, split_case, tree}
-use Rattle.kera_reducer.proofs.BuiltTrees.{all_readable, built_readable, node_readable, node_value}
+use Rattle.kera_reducer.specs.inner.Rows.{case_branches, guard_of, node, split_case, tree}
+use Rattle.kera_reducer.proofs.BuiltTrees.{all_readable, node_readable, node_value}
 use Rattle.kera_reducer.proofs.CaseEffects.{act_conjunction, guard_kept, split_act}
-use Rattle.kera_reducer.proofs.JobEffects.{act_and, act_case, act_exists, act_if, act_noted, act_operand, act_or, is_operand_op, job_act, job_body, job_node, job_val}
+use Rattle.kera_reducer.proofs.JobEffects.{act_and, act_case, act_exists, act_if, act_noted, act_operand, act_or, job_act, job_body, job_node, job_val}
 use Rattle.kera_reducer.proofs.Mentioned.{is_readable, mentions_is, readable_at}
 use Rattle.kera_reducer.proofs.Operands.{IsOperand, leaf, mentions_node, mentions_out, unmentioned, value_root}
 use Rattle.kera_reducer.proofs.RowNames.{case_children}

@@ -1,5 +1,5 @@
 -- Guards that are negated lead on where they led on before, and a CASE that is split has the effect of the CASE.
-use Rattle.std.proofs.Common.{◌≡◌, Bool, true, false, not, ◌||◌, List, [], ◌∷◌, ◌++◌, map, refl, sym, ◌∙◌, ap, ap₂, Option, Some, None, if◌then◌else◌}
+use Rattle.std.proofs.Common.{◌≡◌, Bool, true, false, ◌||◌, List, [], ◌∷◌, ◌++◌, map, refl, ◌∙◌, ap, ap₂, Option, Some, None, if◌then◌else◌}
 use Rattle.std.specs.List.{list_any}
 use Rattle.tla_values.specs.Order.{Layer}
 use Rattle.tla_values.specs.declared.value.Value.{Value, out-Value}
@@ -12,18 +12,17 @@ use Rattle.tla_meaning.specs.declared.job.State.{State}
 use Rattle.tla_meaning.specs.declared.outcome.Fault.TheVariants.{NoFault, IsWrong, IsBig}
 use Rattle.tla_meaning.specs.declared.outcome.Outcome.{Outcome}
 use Rattle.tla_meaning.specs.declared.outcome.Outcome.TheVariants.{Val, Wrong, Big}
-use Rattle.tla_meaning.specs.Shapes.{truth}
 use Rattle.tla_meaning.specs.Operators.{yes_no}
 use Rattle.tla_meaning.specs.Numbers.{Width}
 use Rattle.tla_meaning.specs.Scopes.{Scope}
 use Rattle.tla_meaning.specs.Meaning.{Meaning}
 use Rattle.tla_meaning.specs.Actions.{case_effect, counts, effect_of, effects_and, effects_or, fails_by, guard, guarded, is_true}
 use Rattle.snowcat_rows.specs.declared.types.Ty.{Ty}
-use Rattle.kernel_trees.specs.declared.kernel.Ker.{Ker, out-Ker}
+use Rattle.kernel_trees.specs.declared.kernel.Ker.{Ker}
 use Rattle.kernel_trees.specs.declared.kernel.KerOp.TheVariants as ker
 use Rattle.kernel_trees.specs.Paths.{is_end, mentions}
 use Rattle.kernel_trees.specs.Trees.{ker_effect, ker_val}
-use Rattle.kernel_trees.specs.inner.Runs.{and_then, done}
+use Rattle.kernel_trees.specs.inner.Runs.{and_then}
 use Rattle.kernel_trees.proofs.Effects.{and_done, effect, or_also, or_and, or_nothing, or_twice}
 use Rattle.kernel_trees.proofs.Nodes.{any_here, effects_here, sense_at}
 use Rattle.kernel_trees.proofs.Operators.{val_not}

@@ -1,7 +1,6 @@
 -- What the nodes of a job's action come to, operator by operator.
-use Rattle.std.proofs.Common.{◌≡◌, ℕ, zero, suc, Bool, true, false, ◌||◌, IsTrue, List, [], ◌∷◌, ◌++◌, map, take, length, replicate, refl, sym, ◌∙◌, ap, ap₂, Option, Some, None, if◌then◌else◌}
+use Rattle.std.proofs.Common.{◌≡◌, ℕ, zero, suc, Bool, true, false, ◌||◌, List, [], ◌∷◌, ◌++◌, map, take, length, replicate, refl, sym, ◌∙◌, ap, Option, Some, None, if◌then◌else◌}
 use Rattle.std.specs.List.{list_any, slice_get}
-use Rattle.tla_values.specs.declared.value.Value.{Value}
 use Rattle.tla_meaning.specs.declared.actions.Assignable.{Assignable}
 use Rattle.tla_meaning.specs.declared.actions.Effect.{Effect}
 use Rattle.tla_meaning.specs.declared.expr.Expr.{Expr, roll-Expr}
@@ -11,7 +10,7 @@ use Rattle.tla_meaning.specs.declared.place.Place.{Place}
 use Rattle.tla_meaning.specs.declared.job.State.{State}
 use Rattle.tla_meaning.specs.declared.outcome.Outcome.{Outcome}
 use Rattle.tla_meaning.specs.Actions.{any_mentions, case_effect, denotation_of, effect_of, effects_and, effects_or, exists_effect, if_effect, meaning, val}
-use Rattle.tla_meaning.specs.Meaning.{Meaning, outcomes, child, outer, inner, role, view}
+use Rattle.tla_meaning.specs.Meaning.{outcomes, child, outer, inner, role, view}
 use Rattle.tla_meaning.specs.Numbers.{Width}
 use Rattle.tla_meaning.specs.Scopes.{Denotation, Scope, absent, bind}
 use Rattle.tla_meaning.proofs.MeaningLemmas.{denotation-roll}

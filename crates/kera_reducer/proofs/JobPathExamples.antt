@@ -1,11 +1,11 @@
 -- What is told of the paths of small actions, by computing.
-use Rattle.std.proofs.Common.{◌≡◌, ℕ, Bool, true, false, List, [], ◌∷◌, map, pos, refl}
+use Rattle.std.proofs.Common.{◌≡◌, ℕ, Bool, true, false, List, [], ◌∷◌, map, pos}
 use Rattle.tla_meaning.specs.declared.expr.Expr.{Expr, roll-Expr, out-roll-Expr}
 use Rattle.tla_meaning.specs.declared.op.Op.{Op}
 use Rattle.tla_meaning.specs.declared.op.Op.TheVariants as op
 use Rattle.tla_meaning.specs.declared.place.Place.{Place}
 use Rattle.kernel_trees.specs.Paths.{Marks}
-use Rattle.kera_reducer.specs.JobPaths.{JobPath, JobStep, JobAssigned, Operand, Asks, Picks, Sets, SetsFrom, Stops, Told, TypedTree, assigned_names, job_marked, job_paths, told_path, tree_reads}
+use Rattle.kera_reducer.specs.JobPaths.{JobPath, JobAssigned, Asks, Picks, Sets, SetsFrom, Stops, Told, TypedTree, assigned_names, job_marked, job_paths, told_path, tree_reads}
 use Rattle.kera_reducer.proofs.JobTrees.{has_name-roll, below-roll, nodes-roll, job_ways-roll}
 
 abbrev at : ℕ → Place

@@ -1,15 +1,15 @@
 -- The equations of a job's trees, node by node: recursion that sees trees, names, annotations, paths.
 use Rattle.std.proofs.Common.{◌≡◌, ℕ, suc, Bool, List, [], ◌∷◌, map, refl, ◌∙◌, ap, ap₂, subst}
 use Rattle.std.specs.Prelude.{sum, take, drop}
-use Rattle.tla_meaning.specs.declared.expr.Expr.{Expr, roll-Expr, out-Expr, out-roll-Expr}
+use Rattle.tla_meaning.specs.declared.expr.Expr.{Expr, roll-Expr}
 use Rattle.tla_meaning.specs.declared.expr.Expr.TheOpen.{Expr-F}
-use Rattle.tla_meaning.specs.declared.expr.Expr.TheFolds.{fold-Expr, fold-roll-Expr, map-Expr, ind-Expr}
+use Rattle.tla_meaning.specs.declared.expr.Expr.TheFolds.{fold-roll-Expr, map-Expr, ind-Expr}
 use Rattle.tla_meaning.specs.declared.place.Place.{Place}
 use Rattle.kernel_trees.specs.Paths.{Marks}
 use Rattle.kernel_trees.specs.TypeKinds.{Kind}
 use Rattle.kernel_shapes.specs.Trees.{with_trees, recur}
 use Rattle.kernel_trees.specs.Ways.{Way}
-use Rattle.kera_reducer.specs.JobPaths.{TypedTree, JobStep, JobParted, below_notes, below_of, children, has_name, has_name_at, job_ways, job_ways_at, job_ways_of, nodes, parted, tree_of, typed_trees}
+use Rattle.kera_reducer.specs.JobPaths.{TypedTree, JobStep, JobParted, below_notes, below_of, has_name, has_name_at, job_ways, job_ways_at, job_ways_of, nodes, parted, tree_of, typed_trees}
 
 -- ---- induction over trees
 

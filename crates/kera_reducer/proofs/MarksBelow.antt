@@ -1,15 +1,13 @@
 -- Names count only where a tree holds them: of a tree whose names are the first n, the paths are those by the marks of the
 -- first n names.
-use Rattle.std.proofs.Common.{◌≡◌, ℕ, zero, suc, Bool, true, false, not, ◌&&◌, ◌||◌, List, [], ◌∷◌, map, take, true≢false, refl, sym, ◌∙◌, ap, ap₂, Option, Some, None, if◌then◌else◌}
+use Rattle.std.proofs.Common.{◌≡◌, ℕ, Bool, true, false, not, ◌||◌, List, [], ◌∷◌, map, take, true≢false, refl, sym, ◌∙◌, ap, ap₂}
 use Rattle.std.specs.Prelude.{drop, nat_lt}
 use Rattle.std.specs.List.{list_any}
-use Rattle.tla_meaning.specs.declared.expr.Expr.{Expr, roll-Expr}
-use Rattle.tla_meaning.specs.declared.expr.Expr.TheOpen.{Expr-F}
+use Rattle.tla_meaning.specs.declared.expr.Expr.{Expr}
 use Rattle.tla_meaning.specs.declared.op.Op.{Op}
 use Rattle.tla_meaning.specs.declared.op.Op.TheVariants as op
 use Rattle.tla_meaning.specs.declared.place.Place.{Place}
-use Rattle.kernel_trees.specs.declared.kernel.Ker.{Ker, roll-Ker}
-use Rattle.kernel_trees.specs.declared.kernel.Ker.TheOpen.{Ker-F}
+use Rattle.kernel_trees.specs.declared.kernel.Ker.{Ker}
 use Rattle.kernel_trees.specs.declared.kernel.KerOp.{KerOp}
 use Rattle.kernel_trees.specs.declared.kernel.KerOp.TheVariants as ker
 use Rattle.kernel_trees.specs.Paths.{Marks, Parted, any_mentions, mentions, mentions_at, ways, ways_of}

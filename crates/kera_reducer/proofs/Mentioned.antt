@@ -14,7 +14,7 @@ use Rattle.tla_meaning.specs.FreeNames.{marks}
 use Rattle.tla_meaning.specs.Meaning.{Meaning, denotations, role, outer, inner}
 use Rattle.tla_meaning.specs.Numbers.{Width}
 use Rattle.tla_meaning.specs.Scopes.{Denotation, Scope, bind}
-use Rattle.tla_meaning.proofs.MeaningLemmas.{denotation-roll, meaning-roll}
+use Rattle.tla_meaning.proofs.MeaningLemmas.{denotation-roll}
 use Rattle.tla_meaning.proofs.Views.{and_left, and_right, false≢true}
 use Rattle.kera_reducer.specs.Reduction.{mentioned, mentioned_at}
 use Rattle.kera_reducer.specs.JobPaths.{has_name, has_name_at, tree_mentions}

@@ -1,5 +1,5 @@
 -- What is built as a value is one operand of an action: no path goes into it.
-use Rattle.std.proofs.Common.{◌≡◌, ℕ, zero, suc, Bool, true, false, ◌||◌, List, [], ◌∷◌, ◌++◌, map, length, true≢false, refl, sym, ◌∙◌, ap, ap₂, subst, Option, Some, None, if◌then◌else◌}
+use Rattle.std.proofs.Common.{◌≡◌, ℕ, Bool, true, false, ◌||◌, List, [], ◌∷◌, ◌++◌, map, true≢false, refl, sym, ◌∙◌, ap, ap₂, Option, None, if◌then◌else◌}
 use Rattle.std.specs.List.{list_any}
 use Rattle.tla_meaning.specs.declared.actions.Assignable.{Assignable}
 use Rattle.tla_meaning.specs.declared.expr.Expr.{Expr}
@@ -9,7 +9,7 @@ use Rattle.tla_meaning.specs.declared.place.Place.{Place}
 use Rattle.tla_meaning.specs.Actions.{counts}
 use Rattle.tla_meaning.proofs.Views.{false≢true}
 use Rattle.snowcat_rows.specs.declared.types.Ty.{Ty}
-use Rattle.kernel_trees.specs.declared.kernel.Ker.{Ker, roll-Ker, out-Ker, out-roll-Ker, roll-out-Ker}
+use Rattle.kernel_trees.specs.declared.kernel.Ker.{Ker, out-Ker, out-roll-Ker, roll-out-Ker}
 use Rattle.kernel_trees.specs.declared.kernel.Ker.TheOpen.{Ker-F}
 use Rattle.kernel_trees.specs.declared.kernel.KerOp.{KerOp}
 use Rattle.kernel_trees.specs.declared.kernel.KerOp.TheVariants as ker
@@ -20,7 +20,7 @@ use Rattle.kernel_trees.proofs.LawOfPaths.{ways-roll}
 use Rattle.kernel_trees.proofs.Nodes.{is_leaf}
 use Rattle.kernel_trees.proofs.Trees.{mentions-roll}
 use Rattle.kera_reducer.specs.JobPaths.{has_name, has_name_at}
-use Rattle.kera_reducer.specs.Reduction.{Numbering, any_mentioned, mentioned}
+use Rattle.kera_reducer.specs.Reduction.{Numbering, any_mentioned}
 use Rattle.kera_reducer.specs.inner.Builds.{BuildsEach, BuildsNode, none_left, one_more, same, binder, noted, except, cases, has_arm, is_same, is_binder, passes_on}
 use Rattle.kera_reducer.specs.inner.Rows.{nested_ifs, node, op_at, tree}
 use Rattle.kera_reducer.proofs.KernelNames.{mentions_has}

@@ -1,17 +1,17 @@
 -- The laws of what the reduction keeps of an action.
-use Rattle.std.proofs.Common.{◌≡◌, ℕ, Bool, true, false, not, ◌&&◌, IsTrue, true≢false, List, [], ◌∷◌, map, refl, sym, ◌∙◌, ap, subst}
+use Rattle.std.proofs.Common.{◌≡◌, ℕ, Bool, true, false, not, ◌&&◌, IsTrue, true≢false, List, [], ◌∷◌, refl, sym, ◌∙◌, ap, subst}
 use Rattle.tla_meaning.specs.declared.actions.Assignable.{Assignable}
 use Rattle.tla_meaning.specs.declared.expr.Expr.{Expr}
 use Rattle.tla_meaning.specs.Actions.{counts}
 use Rattle.tla_meaning.specs.Numbers.{Width}
 use Rattle.kernel_trees.specs.declared.kernel.Ker.{Ker}
-use Rattle.kernel_trees.specs.Paths.{Marks, Step, marks_below, only_below, path_of, ways}
+use Rattle.kernel_trees.specs.Paths.{Marks, Step, marks_below, only_below, ways}
 use Rattle.kernel_trees.specs.Ways.{Way}
 use Rattle.kernel_trees.proofs.Marking.{SameMarks}
-use Rattle.kera_reducer.specs.JobPaths.{JobStep, TypedTree, has_name, job_path_of, job_ways, outside, told_kernel_path, told_path}
+use Rattle.kera_reducer.specs.JobPaths.{JobStep, TypedTree, has_name, job_ways, outside}
 use Rattle.kera_reducer.specs.PathLaws.{KeepsActions, KeepsPaths, KeepsPathsBelow, KeepsSteps}
 use Rattle.kera_reducer.specs.Reduction.{Numbering}
-use Rattle.kera_reducer.specs.inner.SameWays.{Pairs, SameWay, SameWays}
+use Rattle.kera_reducer.specs.inner.SameWays.{Pairs, SameWays}
 use Rattle.kera_reducer.specs.inner.Steps.{SameStep}
 use Rattle.kera_reducer.proofs.ActsKept.{tree_acts}
 use Rattle.kera_reducer.proofs.MarksBelow.{same_job_ways, same_kernel_ways}

@@ -1,12 +1,11 @@
 -- The root of what is built: its place, and which names and literals stand there.
-use Rattle.std.proofs.Common.{◌≡◌, ℕ, zero, suc, Bool, true, false, not, ◌&&◌, ◌||◌, List, [], ◌∷◌, ◌++◌, map, length, true≢false, refl, sym, ◌∙◌, ap, ap₂, subst, Option, Some, None, if◌then◌else◌}
-use Rattle.std.specs.Prelude.{nat_le}
+use Rattle.std.proofs.Common.{◌≡◌, ℕ, Bool, true, false, List, [], ◌∷◌, ◌++◌, map, true≢false, refl, sym, ◌∙◌, ap, subst, Option, None}
 use Rattle.tla_values.specs.Order.{Layer}
 use Rattle.tla_values.specs.declared.value.Value.{Value, out-Value}
 use Rattle.tla_values.specs.declared.value.Value.TheVariants as value
 use Rattle.tla_values.specs.declared.value.Value.TheOpen as layer
 use Rattle.tla_meaning.specs.declared.actions.Assignable.{Assignable}
-use Rattle.tla_meaning.specs.declared.expr.Expr.{Expr, roll-Expr, out-Expr, roll-out-Expr, out-roll-Expr}
+use Rattle.tla_meaning.specs.declared.expr.Expr.{Expr, out-Expr, roll-out-Expr}
 use Rattle.tla_meaning.specs.declared.op.Op.{Op}
 use Rattle.tla_meaning.specs.declared.op.Op.TheVariants as op
 use Rattle.tla_meaning.specs.declared.place.Place.{Place}
@@ -19,10 +18,10 @@ use Rattle.kernel_trees.specs.declared.kernel.KerOp.TheVariants as ker
 use Rattle.kernel_trees.specs.Paths.{Marks, is_end, is_false}
 use Rattle.kernel_trees.specs.Assignments.{target}
 use Rattle.kernel_trees.specs.Trees.{constant, op_of}
-use Rattle.kera_reducer.specs.JobPaths.{below_notes, below_of, is_false_op, job_target, root_place}
+use Rattle.kera_reducer.specs.JobPaths.{below_notes, below_of, is_false_op, job_target}
 use Rattle.kera_reducer.specs.Reduction.{Numbering}
-use Rattle.kera_reducer.specs.inner.Rows.{Change, Level, changed, changed_at, is_nil, may_assign, nested_ifs, op_at, tree}
-use Rattle.kera_reducer.specs.inner.Builds.{Builds, BuildsEach, BuildsPath, BuildsChanges, BuildsNode, at_node, none_left, one_more, no_changes, one_change, boolean, integer, text, declared, bound_name, same, range, binder, fold, noted, assign, implies, unequal, no_member, greater, at_most, at_least, negative, finite, truth_values, equivalent, one_pair, power, high_power, field, low_item, high_item, except, except_let, cases, as_value, conjunction, disjunction, choice, branches, split_cases, has_arm, is_same, is_binder}
+use Rattle.kera_reducer.specs.inner.Rows.{Change, Level, changed, changed_at, is_nil, may_assign, nested_ifs, tree}
+use Rattle.kera_reducer.specs.inner.Builds.{Builds, BuildsEach, BuildsChanges, BuildsNode, at_node, none_left, one_more, no_changes, one_change, boolean, integer, text, declared, same, binder, noted, assign, except, cases, as_value, has_arm, is_same, is_binder}
 use Rattle.kera_reducer.specs.inner.Steps.{is_note}
 use Rattle.kera_reducer.proofs.JobTrees.{below-roll}
 use Rattle.kera_reducer.proofs.NamesKept.{path_names}

@@ -1,5 +1,5 @@
 -- Of steps whose trees are built the same is told.
-use Rattle.std.proofs.Common.{◌≡◌, ℕ, zero, suc, Bool, true, false, not, ◌&&◌, ◌||◌, List, [], ◌∷◌, ◌++◌, map, length, true≢false, refl, sym, ◌∙◌, ap, ap₂, subst, Option, Some, None, option_map, if◌then◌else◌}
+use Rattle.std.proofs.Common.{◌≡◌, ℕ, Bool, true, false, ◌||◌, List, [], ◌∷◌, true≢false, refl, sym, ◌∙◌, ap, ap₂, Option, Some, None, option_map, if◌then◌else◌}
 use Rattle.std.specs.Prelude.{take, drop}
 use Rattle.std.specs.List.{list_any}
 use Rattle.tla_meaning.specs.declared.actions.Assignable.{Assignable}
@@ -16,19 +16,19 @@ use Rattle.kernel_trees.specs.declared.kernel.KerOp.TheVariants as ker
 use Rattle.kernel_trees.specs.declared.path.AssignedStep.{AssignedStep}
 use Rattle.kernel_trees.specs.declared.path.AssignedStep.TheVariants as mark
 use Rattle.kernel_trees.specs.Assignments.{assignment, assignment_of, reads_at, target}
-use Rattle.kernel_trees.specs.Paths.{Marks, Step, Holds, Branch, Choice, is_end, sets}
+use Rattle.kernel_trees.specs.Paths.{Marks, Step, Holds, Branch, is_end, sets}
 use Rattle.kernel_trees.specs.Trees.{op_of}
 use Rattle.kernel_trees.specs.TypeKinds.{Kind}
-use Rattle.kera_reducer.specs.JobPaths.{JobAssigned, JobStep, Operand, Guarded, Chosen, Unmatched, Asks, Sets, SetsFrom, ToldStep, TypedTree, and_before, assigned_or, children, has_name, is_false_op, job_assignment, job_assignment_of, job_reads, job_sets, job_target, kernel_reads, left_side, nodes, told_kernel_step, told_step, tree_reads, typed_trees}
+use Rattle.kera_reducer.specs.JobPaths.{JobAssigned, JobStep, Operand, Guarded, Unmatched, Sets, SetsFrom, ToldStep, TypedTree, and_before, assigned_or, has_name, job_assignment, job_assignment_of, job_reads, job_sets, kernel_reads, left_side, nodes, told_kernel_step, told_step, tree_reads, typed_trees}
 use Rattle.kera_reducer.specs.Reduction.{Numbering}
-use Rattle.kera_reducer.specs.inner.Builds.{Builds, BuildsEach, BuildsNode, at_node, none_left, one_more, same, binder, noted, assign, except, cases, as_value, is_same, is_binder}
+use Rattle.kera_reducer.specs.inner.Builds.{Builds, BuildsEach, BuildsNode, at_node, none_left, one_more, same, binder, noted, assign, as_value, is_same, is_binder}
 use Rattle.kera_reducer.specs.inner.Rows.{guard_of, may_assign, negation, node, op_at, tree, twice_negated}
 use Rattle.kera_reducer.specs.inner.Steps.{SameStep, guard_is_false, guard_is_true, is_note, same_choice, same_end, same_guard, same_operand, trees}
 use Rattle.kera_reducer.proofs.KernelNames.{has-roll, is_read, ker_has, reads_has}
 use Rattle.kera_reducer.proofs.NamesKept.{names_kept}
 use Rattle.kera_reducer.proofs.RowNames.{guard_has, negation_has, twice_has}
 use Rattle.kera_reducer.proofs.Roots.{Rooted, is_assigning, root_of, same_assigning, same_end_at, same_target, tree_root}
-use Rattle.kera_reducer.proofs.Telling.{SameTold, job_tells, kernel_by, kernel_tells}
+use Rattle.kera_reducer.proofs.Telling.{SameTold, job_tells, kernel_by}
 
 -- ---- what is read
 

@@ -1,7 +1,6 @@
 -- Paths whose steps tell the same are told the same.
-use Rattle.std.proofs.Common.{◌≡◌, ℕ, Bool, true, false, List, [], ◌∷◌, map, refl, sym, ◌∙◌, ap, ap₂, Option, Some, None}
+use Rattle.std.proofs.Common.{◌≡◌, ℕ, true, false, List, [], ◌∷◌, map, refl, sym, ◌∙◌, ap, ap₂, Option, Some, None}
 use Rattle.tla_meaning.specs.declared.expr.Expr.{Expr}
-use Rattle.tla_meaning.specs.declared.place.Place.{Place}
 use Rattle.kernel_trees.specs.declared.kernel.Ker.{Ker, out-Ker}
 use Rattle.kernel_trees.specs.declared.path.AssignedStep.{AssignedStep}
 use Rattle.kernel_trees.specs.declared.path.AssignedStep.TheVariants as mark
@@ -9,7 +8,7 @@ use Rattle.kernel_trees.specs.declared.path.PathStep.{PathStep}
 use Rattle.kernel_trees.specs.Ways.{Way, has_ended}
 use Rattle.kernel_trees.specs.Paths.{Marks, Step, Holds, Branch, Choice, ends_at, path_of, place_or, step_of}
 use Rattle.kernel_trees.specs.Assignments.{assignment, is_ended, marked, step_by}
-use Rattle.kera_reducer.specs.JobPaths.{JobStep, JobAssigned, Operand, Guarded, Chosen, Unmatched, Asks, Picks, Stops, Told, ToldStep, and_before, assigned_or, ends_there, job_assignment, job_marked, job_path_of, root_place, told_kernel_path, told_kernel_step, told_path, told_step}
+use Rattle.kera_reducer.specs.JobPaths.{JobStep, Operand, Guarded, Chosen, Unmatched, Asks, Picks, Stops, Told, ToldStep, and_before, assigned_or, ends_there, job_assignment, job_marked, job_path_of, root_place, told_kernel_path, told_kernel_step, told_path, told_step}
 use Rattle.kera_reducer.specs.inner.SameWays.{Pairs, SameWay, SameWays}
 use Rattle.kera_reducer.proofs.WayPairs.{same_ended}
 

@@ -1,5 +1,5 @@
 -- Paths whose steps are related stay so in conjunctions, alternatives and branches.
-use Rattle.std.proofs.Common.{◌≡◌, Bool, true, false, List, [], ◌∷◌, ◌++◌, map, refl, sym, ◌∙◌, ap, ap₂, Option, Some, if◌then◌else◌}
+use Rattle.std.proofs.Common.{◌≡◌, Bool, true, false, List, [], ◌∷◌, ◌++◌, map, refl, sym, ap₂, Option, Some, if◌then◌else◌}
 use Rattle.tla_meaning.specs.declared.place.Place.{Place}
 use Rattle.tla_meaning.specs.Scopes.{or_else}
 use Rattle.tla_meaning.proofs.Views.{false≢true}

@@ -1,40 +1,36 @@
 -- What is built in an action position has the paths of its expression, step by step.
-use Rattle.std.proofs.Common.{◌≡◌, ℕ, zero, suc, Bool, true, false, not, ◌&&◌, ◌||◌, List, [], ◌∷◌, ◌++◌, map, zip, take, length, true≢false, refl, sym, ◌∙◌, ap, ap₂, subst, Option, Some, None, option_map, if◌then◌else◌}
-use Rattle.std.specs.Prelude.{drop, nat_le}
-use Rattle.std.specs.List.{list_any, slice_get}
+use Rattle.std.proofs.Common.{◌≡◌, ℕ, zero, suc, Bool, true, false, ◌||◌, List, [], ◌∷◌, ◌++◌, map, zip, take, length, true≢false, refl, sym, ◌∙◌, ap, ap₂, subst, Option, Some, None, option_map, if◌then◌else◌}
+use Rattle.std.specs.Prelude.{drop}
+use Rattle.std.specs.List.{slice_get}
 use Rattle.tla_meaning.specs.declared.actions.Assignable.{Assignable}
-use Rattle.tla_meaning.specs.declared.expr.Expr.{Expr, roll-Expr, out-Expr, roll-out-Expr}
+use Rattle.tla_meaning.specs.declared.expr.Expr.{Expr, out-Expr, roll-out-Expr}
 use Rattle.tla_meaning.specs.declared.op.Op.{Op}
 use Rattle.tla_meaning.specs.declared.op.Op.TheVariants as op
 use Rattle.tla_meaning.specs.declared.place.Place.{Place}
 use Rattle.tla_meaning.specs.Actions.{counts}
-use Rattle.tla_meaning.specs.Scopes.{or_else}
-use Rattle.tla_meaning.proofs.Views.{and_left, and_right, false≢true}
+use Rattle.tla_meaning.proofs.Views.{and_right, false≢true}
 use Rattle.snowcat_rows.specs.declared.types.Ty.{Ty}
-use Rattle.kernel_trees.specs.declared.kernel.Ker.{Ker, roll-Ker, out-Ker, out-roll-Ker, roll-out-Ker}
+use Rattle.kernel_trees.specs.declared.kernel.Ker.{Ker, out-Ker, out-roll-Ker}
 use Rattle.kernel_trees.specs.declared.kernel.Ker.TheOpen.{Ker-F}
-use Rattle.kernel_trees.specs.declared.kernel.KerOp.{KerOp}
 use Rattle.kernel_trees.specs.declared.kernel.KerOp.TheVariants as ker
-use Rattle.kernel_trees.specs.Paths.{Marks, Step, Holds, Branch, Choice, Parted, any_mentions, choice_ways, ends_at, if_ways, mentions, mentions_at, place_of, sets, ways, ways_of}
-use Rattle.kernel_trees.specs.Trees.{op_of}
+use Rattle.kernel_trees.specs.Paths.{Marks, Step, Holds, Branch, Choice, Parted, any_mentions, choice_ways, ends_at, if_ways, mentions, place_of, sets, ways}
 use Rattle.kernel_trees.specs.TypeKinds.{Kind}
 use Rattle.kernel_trees.specs.Ways.{Way, all_of, alone, any_of, branch}
 use Rattle.kernel_trees.proofs.LawOfPaths.{ways-roll}
 use Rattle.kernel_trees.proofs.Trees.{mentions-roll}
-use Rattle.kera_reducer.specs.JobPaths.{JobParted, JobStep, Operand, Guarded, Chosen, Unmatched, TypedTree, any_holds, ends_there, has_name, has_name_at, job_case_ways, job_choice_ways, job_if_ways, job_sets, job_ways, job_ways_of, root_place, tree_mentions, typed_trees}
-use Rattle.kera_reducer.specs.Reduction.{Numbering, all_fresh, any_mentioned, fresh, mentioned, numbered}
-use Rattle.kera_reducer.specs.inner.Builds.{Builds, BuildsEach, BuildsArms, BuildsNode, at_node, none_left, one_more, no_arms, other_arm, one_arm, same, binder, noted, except, cases, as_value, conjunction, disjunction, choice, branches, split_cases, has_arm, is_same, is_binder, passes_on}
-use Rattle.kera_reducer.specs.inner.Rows.{case_branches, guard_of, negation, nested_ifs, node, op_at, split_case, tree, twice_negated}
+use Rattle.kera_reducer.specs.JobPaths.{JobParted, JobStep, Operand, Guarded, Chosen, Unmatched, TypedTree, any_holds, ends_there, job_case_ways, job_choice_ways, job_if_ways, job_sets, job_ways, job_ways_of, root_place, typed_trees}
+use Rattle.kera_reducer.specs.Reduction.{Numbering, all_fresh, any_mentioned, fresh, numbered}
+use Rattle.kera_reducer.specs.inner.Builds.{Builds, BuildsEach, BuildsArms, BuildsNode, at_node, none_left, one_more, no_arms, other_arm, one_arm, noted, as_value, conjunction, disjunction, choice, branches, split_cases, passes_on}
+use Rattle.kera_reducer.specs.inner.Rows.{case_branches, guard_of, negation, node, tree, twice_negated}
 use Rattle.kera_reducer.specs.inner.SameWays.{Pairs, SameWay, SameWays}
 use Rattle.kera_reducer.specs.inner.Steps.{SameStep, guard_is_false, guard_is_true, is_note, same_choice, same_end, same_guard, same_operand, trees}
 use Rattle.kera_reducer.proofs.CaseWays.{arm_branch, guard_steps, last_branch, more_guards}
 use Rattle.kera_reducer.proofs.JobTrees.{job_ways-roll, with_job_ways}
-use Rattle.kera_reducer.proofs.KernelNames.{ker_has, mentions_has}
 use Rattle.kera_reducer.proofs.Mentioned.{mentioned_is}
 use Rattle.kera_reducer.proofs.Operands.{any_beside, beside, mentions_node, operand_ways, value_root}
 use Rattle.kera_reducer.proofs.Roots.{tree_root}
 use Rattle.kera_reducer.proofs.StepsTold.{step_told}
-use Rattle.kera_reducer.proofs.WayPairs.{pairs_append, pairs_map, same_all, same_alone, same_any, same_behind, same_branch}
+use Rattle.kera_reducer.proofs.WayPairs.{pairs_append, same_all, same_alone, same_any, same_behind, same_branch}
 
 -- ---- lists
 

@@ -6,7 +6,7 @@ use Rattle.tla_meaning.specs.declared.expr.Expr.{Expr}
 use Rattle.tla_meaning.specs.Actions.{counts}
 use Rattle.tla_meaning.specs.Numbers.{Width}
 use Rattle.kernel_trees.specs.declared.kernel.Ker.{Ker}
-use Rattle.kernel_trees.specs.Paths.{Marks, marks_below, ways}
+use Rattle.kernel_trees.specs.Paths.{marks_below, ways}
 use Rattle.kera_reducer.specs.JobPaths.{SamePaths, TypedTree, job_ways, tree_names_below}
 use Rattle.kera_reducer.specs.Reduction.{Keeps, KeepsAction, Numbering}
 use Rattle.kera_reducer.specs.inner.Builds.{Builds}

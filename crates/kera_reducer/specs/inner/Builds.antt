@@ -206,7 +206,6 @@ mutual
     cases : (ρ : Numbering) (p : Place) (other : Bool) (es : List Expr) (xs : List (List ℕ)) (a : Ty) (ks : List Ker)
         → has_arm ks ≡ true → BuildsEach None ρ es ks
         → BuildsNode None ρ p (op.Case other) es xs (nested_ifs p a ks)
-
     -- ---- action positions
     as_value : (m : Assignable) (ρ : Numbering) (p : Place) (o : Op) (es : List Expr) (xs : List (List ℕ)) (k : Ker)
         → passes_on m o es ≡ false → BuildsNode None ρ p o es xs k
