@@ -1,7 +1,7 @@
--- The paths of a job's own trees, and what is told of them and of a kernel tree's: equal where the reducer keeps them. A
--- path takes one operand of each disjunction and one branch of each IF and CASE that holds a name which the action may
--- assign, and makes one choice for each `\E`; a conjunction has all combinations. Source: Konnov, Kukovec and Tran,
--- "TLA+ Model Checking Made Symbolic", OOPSLA 2019, on symbolic transitions and assignments.
+-- The paths of a job's own trees, and what is told of them and of a kernel tree's, which the reducer keeps. A path takes
+-- one operand of each disjunction and one branch of each IF and CASE that holds a name which the action may assign, and
+-- makes one choice for each `\E`; a conjunction goes on with each path of its next operand, where none has ended. Source:
+-- Konnov, Kukovec and Tran, "TLA+ Model Checking Made Symbolic", OOPSLA 2019, on symbolic transitions and assignments.
 use Rattle.std.specs.Prelude.{◌≡◌, ℕ, suc, Bool, true, false, not, ◌&&◌, sum, nat_eq, nat_lt, List, [], ◌∷◌, ◌++◌, map, zip, take, drop, length, flat_map, Option, Some, None, option_map, slice_get, if◌then◌else◌}
 use Rattle.std.specs.List.{list_any}
 use Rattle.std.specs.Ordering.{is_eq}
@@ -118,11 +118,12 @@ any_holds m ks = list_any (λ k. tree_mentions m k.0.tree) ks
 
 abbrev pub job_if_ways : TypedTree → Place → List JobParted → List (Way JobStep)
 job_if_ways self p (c ∷ a ∷ b ∷ []) =
-    branch (Guarded p c.0 true ∷ []) (root_place a.0.tree) a.1 ++ branch (Guarded p c.0 false ∷ []) (root_place b.0.tree) b.1
+    branch (Guarded p c.0 true ∷ []) (root_place a.0.tree) a.1
+    ++ branch (Guarded p c.0 false ∷ []) (root_place b.0.tree) b.1
 job_if_ways self p ks = alone (Operand self)
 
--- guards and branches in turn, behind the guards before them, which are FALSE; one more is that of OTHER, and without it
--- there is a path on which no guard is TRUE
+-- guards and branches in turn, behind the guards before them, which are FALSE; one more is that of OTHER, and without
+-- it there is a path on which no guard is TRUE
 abbrev pub job_case_ways : Place → List JobStep → List JobParted → List (Way JobStep)
 job_case_ways p front [] = record { taken = Some p; steps = front ++ Unmatched p ∷ [] } ∷ []
 job_case_ways p front (o ∷ []) = branch front (root_place o.0.tree) o.1
@@ -157,7 +158,8 @@ parted (e ∷ es) ks =
     (record { tree = e.0; kinds = take (nodes e.0) ks }, e.1 (take (nodes e.0) ks)) ∷ parted es (drop (nodes e.0) ks)
 
 abbrev pub job_ways_at : Marks → Expr-F (Expr × (List Kind → List (Way JobStep))) → List Kind → List (Way JobStep)
-job_ways_at m x ks = job_ways_of m x.op (record { tree = tree_of x; kinds = ks }) x.place x.binds (parted x.args (drop 1 ks))
+job_ways_at m x ks =
+    job_ways_of m x.op (record { tree = tree_of x; kinds = ks }) x.place x.binds (parted x.args (drop 1 ks))
 
 -- the paths of an action, from left to right
 abbrev pub job_ways : Marks → TypedTree → List (Way JobStep)

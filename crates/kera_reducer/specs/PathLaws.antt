@@ -1,5 +1,5 @@
--- What the reduction keeps of an action, as laws: its effect, and its paths. Source: Konnov, Kukovec and Tran, "TLA+ Model
--- Checking Made Symbolic", OOPSLA 2019, on the reduction to KerA+ and on symbolic transitions.
+-- What the reduction keeps of an action, as laws: its effect, and its paths. Source: Konnov, Kukovec and Tran, "TLA+
+-- Model Checking Made Symbolic", OOPSLA 2019, on the reduction to KerA+ and on symbolic transitions.
 use Rattle.std.specs.Prelude.{ℕ, IsTrue, None, Some}
 use Rattle.tla_meaning.specs.declared.actions.Assignable.{Assignable}
 use Rattle.tla_meaning.specs.declared.expr.Expr.{Expr}
@@ -30,4 +30,5 @@ abbrev pub KeepsPaths : Assignable → Numbering → TypedTree → Ker → Type 
 KeepsPaths m ρ t k = Builds (Some m) ρ t.tree k → SamePaths (counts m) t k
 
 abbrev pub KeepsPathsBelow : ℕ → Assignable → Numbering → TypedTree → Ker → Type 0
-KeepsPathsBelow n m ρ t k = IsTrue (tree_names_below n t.tree) → Builds (Some m) ρ t.tree k → SamePaths (marks_below n m) t k
+KeepsPathsBelow n m ρ t k =
+    IsTrue (tree_names_below n t.tree) → Builds (Some m) ρ t.tree k → SamePaths (marks_below n m) t k
