@@ -1,7 +1,8 @@
--- The paths of a job's own trees, and what is told of them and of a kernel tree's, which the reducer keeps. A path takes
--- one operand of each disjunction and one branch of each IF and CASE that holds a name which the action may assign, and
--- makes one choice for each `\E`; a conjunction goes on with each path of its next operand, where none has ended. Source:
--- Konnov, Kukovec and Tran, "TLA+ Model Checking Made Symbolic", OOPSLA 2019, on symbolic transitions and assignments.
+-- The paths of a job's own trees, and what is told of them and of a kernel tree's, which the reducer keeps. A path
+-- takes one operand of each disjunction and one branch of each IF and CASE that holds a name which the action may
+-- assign, and makes one choice for each `\E`; a conjunction goes on with each path of its next operand, unless a path
+-- has ended. Source: Konnov, Kukovec and Tran, "TLA+ Model Checking Made Symbolic", OOPSLA 2019, on symbolic transitions
+-- and assignments.
 use Rattle.std.specs.Prelude.{◌≡◌, ℕ, suc, Bool, true, false, not, ◌&&◌, sum, nat_eq, nat_lt, List, [], ◌∷◌, ◌++◌, map, zip, take, drop, length, flat_map, Option, Some, None, option_map, slice_get, if◌then◌else◌}
 use Rattle.std.specs.List.{list_any}
 use Rattle.std.specs.Ordering.{is_eq}
@@ -96,7 +97,7 @@ abbrev pub is_false_op : Op → Bool
 is_false_op (op.Bool b) = not b
 is_false_op o = false
 
--- a path ends at the literal FALSE, and in a CASE of which no guard is TRUE
+-- a path ends at the literal FALSE, and in a CASE of which no guard is TRUE; an operand is no annotation
 abbrev pub ends_there : JobStep → Bool
 ends_there (Operand t) = is_false_op (out-Expr t.tree).op
 ends_there (Guarded p t b) = false
