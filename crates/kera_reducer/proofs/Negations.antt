@@ -163,8 +163,7 @@ module _ (w : Width) (ρ : Numbering) (p : Place) (es : List Expr) (xs : List (L
       ∙ ap (choose p (ker_val w g b s t) (ker_val w k b s t)) (nested_val s t b ks)
 
   pub keeps_cases : (other : Bool) (ks : List Ker) → has_arm ks ≡ true → KeepsEach w ρ es ks → KeepsNode w ρ p (op.Case other) es xs (nested_ifs p c ks)
-  keeps_cases other [] q h = plain_row w ρ p p (op.Case other) es xs c ker.NoCase [] [] (λ a s t. refl) (λ s t. refl)
-      (λ a b s t r. ap (case_chosen p) (operands_kept w ρ s t p es [] a b h r) ∙ sym (nested_val s t b []))
+  keeps_cases other [] q h = absurd (false≢true q)
   keeps_cases other (k ∷ []) q h = absurd (false≢true q)
   keeps_cases other (g ∷ k ∷ ks) q h = plain_row w ρ p p (op.Case other) es xs c ker.If (g ∷ k ∷ nested_ifs p c ks ∷ []) [] (λ a s t. refl) (λ s t. refl)
       (λ a b s t r. ap (case_chosen p) (operands_kept w ρ s t p es (g ∷ k ∷ ks) a b h r) ∙ sym (nested_val s t b (g ∷ k ∷ ks)))

@@ -1,3 +1,5 @@
 -- The definitions of the crate.
 pub mod Reduction
+pub mod JobPaths
+pub mod PathLaws
 pub mod inner

@@ -1,2 +1,4 @@
 pub mod Rows
 pub mod Builds
+pub mod SameWays
+pub mod Steps

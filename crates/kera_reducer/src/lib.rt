@@ -1,2 +1,6 @@
 //! The reduction of typed expressions to the kernel.
 #![tactic(auto)]
+
+mod path_theorems;
+
+pub use path_theorems::{built_actions_keep_their_effect, built_actions_keep_their_paths};

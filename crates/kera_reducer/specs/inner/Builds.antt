@@ -58,10 +58,10 @@ passes_on m op.If es = any_mentioned m es
 passes_on m (op.Case other) es = any_mentioned m es
 passes_on m o es = false
 
--- not the branch of OTHER alone
+-- not the branch of OTHER alone, nor nothing
 abbrev pub has_arm : List Ker → Bool
-has_arm (k ∷ []) = false
-has_arm ks = true
+has_arm (g ∷ k ∷ ks) = true
+has_arm ks = false
 
 -- the numbers of a LET differ
 abbrev pub is_let : Let → Bool
@@ -112,17 +112,17 @@ mutual
   -- a node, by its place, its operator, its children and the names that it binds
   pub data BuildsNode : Option Assignable → Numbering → Place → Op → List Expr → List (List ℕ) → Ker → Type 0 where
     -- ---- literals and names
-    boolean : (ρ : Numbering) (p : Place) (b : Bool) (es : List Expr) (xs : List (List ℕ)) (a : Ty)
-        → BuildsNode None ρ p (op.Bool b) es xs (node p a (ker.Const (value.Bool b)) [])
-    integer : (ρ : Numbering) (p : Place) (i : ℤ) (es : List Expr) (xs : List (List ℕ)) (a : Ty)
-        → BuildsNode None ρ p (op.Int i) es xs (node p a (ker.Const (value.Int i)) [])
-    text : (ρ : Numbering) (p : Place) (s : List ℕ) (es : List Expr) (xs : List (List ℕ)) (a : Ty)
-        → BuildsNode None ρ p (op.Str s) es xs (node p a (ker.Const (value.Text s)) [])
+    boolean : (ρ : Numbering) (p : Place) (b : Bool) (xs : List (List ℕ)) (a : Ty)
+        → BuildsNode None ρ p (op.Bool b) [] xs (node p a (ker.Const (value.Bool b)) [])
+    integer : (ρ : Numbering) (p : Place) (i : ℤ) (xs : List (List ℕ)) (a : Ty)
+        → BuildsNode None ρ p (op.Int i) [] xs (node p a (ker.Const (value.Int i)) [])
+    text : (ρ : Numbering) (p : Place) (s : List ℕ) (xs : List (List ℕ)) (a : Ty)
+        → BuildsNode None ρ p (op.Str s) [] xs (node p a (ker.Const (value.Text s)) [])
     declared : (ρ : Numbering) (p : Place) (i : ℕ) (primed : Bool) (es : List Expr) (xs : List (List ℕ)) (a : Ty)
         → BuildsNode None ρ p (op.Name i primed) es xs (node p a (ker.Name i primed) [])
-    bound_name : (ρ : Numbering) (p : Place) (x : List ℕ) (n : ℕ) (es : List Expr) (xs : List (List ℕ)) (a : Ty)
+    bound_name : (ρ : Numbering) (p : Place) (x : List ℕ) (n : ℕ) (xs : List (List ℕ)) (a : Ty)
         → find_last x ρ ≡ Some n
-        → BuildsNode None ρ p (op.Bound x) es xs (bound p a n)
+        → BuildsNode None ρ p (op.Bound x) [] xs (bound p a n)
     -- ---- the same operator
     same : (ρ : Numbering) (p : Place) (o : Op) (ko : KerOp) (es : List Expr) (xs : List (List ℕ)) (a : Ty) (ks : List Ker)
         → op_of ko ≡ o → is_same ko ≡ true → BuildsEach None ρ es ks
@@ -206,7 +206,6 @@ mutual
     cases : (ρ : Numbering) (p : Place) (other : Bool) (es : List Expr) (xs : List (List ℕ)) (a : Ty) (ks : List Ker)
         → has_arm ks ≡ true → BuildsEach None ρ es ks
         → BuildsNode None ρ p (op.Case other) es xs (nested_ifs p a ks)
-
     -- ---- action positions
     as_value : (m : Assignable) (ρ : Numbering) (p : Place) (o : Op) (es : List Expr) (xs : List (List ℕ)) (k : Ker)
         → passes_on m o es ≡ false → BuildsNode None ρ p o es xs k

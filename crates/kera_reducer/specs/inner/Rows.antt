@@ -1,6 +1,6 @@
 -- The kernel trees for operators that the kernel lacks, each by those of the operands. A node that is made stands at the
 -- place of the operator; one that only reads an operand that is evaluated already stands at the operand's.
-use Rattle.std.specs.Prelude.{ℕ, zero, suc, Bool, true, false, not, ◌&&◌, if◌then◌else◌, List, [], ◌∷◌, ◌++◌, map, flat_map, Option, Some, None, pos}
+use Rattle.std.specs.Prelude.{ℕ, zero, suc, Bool, true, false, not, ◌&&◌, ◌||◌, if◌then◌else◌, List, [], ◌∷◌, ◌++◌, map, flat_map, Option, Some, None, pos}
 use Rattle.std.specs.List.{list_all}
 use Rattle.tla_values.specs.Order.{Layer}
 use Rattle.tla_values.specs.declared.value.Value.{Value, out-Value}
@@ -12,6 +12,7 @@ use Rattle.snowcat_rows.specs.declared.types.Ty.{Ty}
 use Rattle.kernel_trees.specs.declared.kernel.Ker.{Ker, out-Ker, roll-Ker}
 use Rattle.kernel_trees.specs.declared.kernel.KerOp.{KerOp}
 use Rattle.kernel_trees.specs.declared.kernel.KerOp.TheVariants as ker
+use Rattle.kernel_trees.specs.Paths.{is_end}
 
 -- ---- nodes
 
@@ -267,6 +268,6 @@ may_assign ker.Equal = true
 may_assign ker.Member = true
 may_assign o = false
 
--- the guard of an IF that is split into paths is no assignment; b is the type of truth values
+-- the guard of an IF that is split into paths is no assignment and no end of a path; b is the type of truth values
 abbrev pub guard_of : Place → Ty → Ker → Ker
-guard_of p b g = if may_assign (op_at g) then twice_negated p b g else g
+guard_of p b g = if may_assign (op_at g) || is_end (op_at g) then twice_negated p b g else g

@@ -1,0 +1,34 @@
+-- What the reduction keeps of an action, as laws: its effect, and its paths. Source: Konnov, Kukovec and Tran, "TLA+
+-- Model Checking Made Symbolic", OOPSLA 2019, on the reduction to KerA+ and on symbolic transitions.
+use Rattle.std.specs.Prelude.{ℕ, IsTrue, None, Some}
+use Rattle.tla_meaning.specs.declared.actions.Assignable.{Assignable}
+use Rattle.tla_meaning.specs.declared.expr.Expr.{Expr}
+use Rattle.tla_meaning.specs.Actions.{counts}
+use Rattle.tla_meaning.specs.Numbers.{Width}
+use Rattle.kernel_trees.specs.declared.kernel.Ker.{Ker}
+use Rattle.kernel_trees.specs.Paths.{marks_below, ways}
+use Rattle.kera_reducer.specs.JobPaths.{SamePaths, TypedTree, job_ways, tree_names_below}
+use Rattle.kera_reducer.specs.Reduction.{Keeps, KeepsAction, Numbering}
+use Rattle.kera_reducer.specs.inner.Builds.{Builds}
+use Rattle.kera_reducer.specs.inner.SameWays.{SameWays}
+use Rattle.kera_reducer.specs.inner.Steps.{SameStep}
+
+-- each value is kept
+abbrev pub KeepsValues : Width → Type 0
+KeepsValues w = (ρ : Numbering) (e : Expr) (k : Ker) → Builds None ρ e k → Keeps w ρ e k
+
+-- what is built in an action position has the effect of its expression there, if values are kept
+abbrev pub KeepsActions : Width → Assignable → Numbering → Expr → Ker → Type 0
+KeepsActions w m ρ e k = KeepsValues w → Builds (Some m) ρ e k → KeepsAction w m ρ e k
+
+-- it has the paths of its expression, step by step
+abbrev pub KeepsSteps : Assignable → Numbering → TypedTree → Ker → Type 0
+KeepsSteps m ρ t k = Builds (Some m) ρ t.tree k → SameWays SameStep (job_ways (counts m) t) (ways (counts m) k)
+
+-- so the same is told of them: by all names that may be assigned, and by those of the first n, if it reads no others
+abbrev pub KeepsPaths : Assignable → Numbering → TypedTree → Ker → Type 0
+KeepsPaths m ρ t k = Builds (Some m) ρ t.tree k → SamePaths (counts m) t k
+
+abbrev pub KeepsPathsBelow : ℕ → Assignable → Numbering → TypedTree → Ker → Type 0
+KeepsPathsBelow n m ρ t k =
+    IsTrue (tree_names_below n t.tree) → Builds (Some m) ρ t.tree k → SamePaths (marks_below n m) t k

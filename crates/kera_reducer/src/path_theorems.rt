@@ -1,0 +1,24 @@
+// Laws of what the reduction keeps of an action, each as the contract of a function that does nothing.
+ghost use Rattle.std.specs.Prelude.{ℕ};
+ghost use Rattle.tla_meaning.specs.Numbers.{Width};
+ghost use Rattle.tla_meaning.specs.declared.actions.Assignable.{Assignable};
+ghost use Rattle.tla_meaning.specs.declared.expr.Expr.{Expr};
+ghost use Rattle.kernel_trees.specs.declared.kernel.Ker.{Ker};
+ghost use Rattle.kera_reducer.specs.JobPaths.{TypedTree};
+ghost use Rattle.kera_reducer.specs.PathLaws.{KeepsActions, KeepsPaths, KeepsPathsBelow, KeepsSteps};
+ghost use Rattle.kera_reducer.specs.Reduction.{Numbering};
+
+/// What is built in an action position has there the effect of its expression, at all states and where bound names have
+/// the values of their numbers, if what is built as a value keeps value and form.
+pub fn built_actions_keep_their_effect()
+    ensures { (w : Width) (m : Assignable) (ρ : Numbering) (e : Expr) (k : Ker) → KeepsActions w m ρ e k }
+{}
+
+/// What is built in an action position has the paths of its expression: as many, in the same order, each with the same
+/// place, and step by step with trees that are built of one another. So each ends or does not, and assigns and reads the
+/// same names at the same places, by all names that may be assigned, and by those of the first n where it holds no others.
+pub fn built_actions_keep_their_paths()
+    ensures steps { (m : Assignable) (ρ : Numbering) (t : TypedTree) (k : Ker) → KeepsSteps m ρ t k }
+    ensures paths { (m : Assignable) (ρ : Numbering) (t : TypedTree) (k : Ker) → KeepsPaths m ρ t k }
+    ensures below { (n : ℕ) (m : Assignable) (ρ : Numbering) (t : TypedTree) (k : Ker) → KeepsPathsBelow n m ρ t k }
+{}
