@@ -69,10 +69,10 @@ split_pair : (o : Outcome) (os : List Outcome) →
 split_pair o os = join_pair o (joined os) (values os) ∙ by o (joined os)
   where
     by : (o : Outcome) (g : Fault) → elim o as (λ _. Outcome) [
-          | Val v ↦ fault_or g (Val (both_of v (nested (values os))))
-          | Wrong q ↦ fault_or (join_faults (IsWrong q) g) (Val (sequence []))
-          | Big q ↦ fault_or (join_faults (IsBig q) g) (Val (sequence []))
-        ] ≡ fault_or (join_faults (fault_of o) g) (paired (values (o ∷ os)))
+      | Val v ↦ fault_or g (Val (both_of v (nested (values os))))
+      | Wrong q ↦ fault_or (join_faults (IsWrong q) g) (Val (sequence []))
+      | Big q ↦ fault_or (join_faults (IsBig q) g) (Val (sequence []))
+    ] ≡ fault_or (join_faults (fault_of o) g) (paired (values (o ∷ os)))
     by (Val v) g = refl
     by (Wrong q) NoFault = refl
     by (Wrong q) (IsWrong r) = refl
@@ -258,9 +258,9 @@ module _ (w : Width) (wide : is_wide w ≡ true) (s t : State) (b : Scope) where
       levels_read rs us more (x ∷ xs) [] later o h e g = absurd h
       levels_read rs us more (x ∷ xs) (v ∷ vs) later o h e g = (
         λ c q. index_val l ty (rs ++ x.rest ∷ []) (is_nil xs && not more) x.index us v (vs ++ later) c h.0 (names c q ∙ ap Some e)
-        (matches_more rs us x.rest o) (both_nil vs later ∙ ap₂ (λ m n. m && n) (nil_same xs vs h.1) g),
+            (matches_more rs us x.rest o) (both_nil vs later ∙ ap₂ (λ m n. m && n) (nil_same xs vs h.1) g),
         levels_read (rs ++ x.rest ∷ []) (us ++ v ∷ []) more xs vs later (more_more rs us x.rest v o) h.1
-        (e ∙ ap nested (sym (append_once us v (vs ++ later)))) g,
+            (e ∙ ap nested (sym (append_once us v (vs ++ later)))) g,
       )
 
       last_read : (rs : List Ty) (more : Bool) (ls : List Level) → last_number (read_levels l ty rs more ls) ≡ last_number ls
@@ -307,5 +307,5 @@ module _ (w : Width) (wide : is_wide w ≡ true) (s t : State) (b : Scope) where
           some = some_read rs (not (is_nil us)) u.levels h.0.some;
         },
         changes_read (rs ++ map (λ x. x.rest) u.levels) (vs ++ y.0) us ys (more_all rs vs u.levels y.0 o h.0.indexes) h.1
-        (e ∙ ap nested (sym (append_assoc vs y.0 (all_values ys)))),
+            (e ∙ ap nested (sym (append_assoc vs y.0 (all_values ys)))),
       )

@@ -122,4 +122,3 @@ first_of a b = simp (value_cmp_out, value.outs-Int)
 
 pub second_of : (a b : Value) → apply ((value.Int (pos 1), a) ∷ (value.Int (pos 2), b) ∷ []) (value.Int (pos 2)) ≡ Some b
 second_of a b = simp (value_cmp_out, value.outs-Int)
-

@@ -34,3 +34,4 @@ pub mod CaseEffects
 pub mod ActsKept
 pub mod MarksBelow
 pub mod PathLaws
+pub mod Kept

@@ -279,11 +279,12 @@ AllTrue vs = (bs : List Bool) × (truths vs ≡ Some bs) × (list_all (λ b. b) 
 trues : {X : Type 0} (cs : List X) → AllTrue (values (map (λ x. yes_no true) cs))
 trues [] = ([], refl, refl)
 trues (c ∷ cs) =
-    let h = trues cs in
-    (true ∷ h.0,
-    ap (λ (l : Layer Value). option_and_then (λ b. option_map (λ bs. b ∷ bs) (truths (values (map (λ x. yes_no true) cs)))) (truth_of l)) (value.outs-Bool true)
-    ∙ ap (option_map (λ bs. true ∷ bs)) h.1,
-    h.2)
+    let h = trues cs in (
+      true ∷ h.0,
+      ap (λ (l : Layer Value). option_and_then (λ b. option_map (λ bs. b ∷ bs) (truths (values (map (λ x. yes_no true) cs)))) (truth_of l)) (value.outs-Bool true)
+          ∙ ap (option_map (λ bs. true ∷ bs)) h.1,
+      h.2,
+    )
 
 none_wrong : {X : Type 0} (cs : List X) → joined (map (λ x. yes_no true) cs) ≡ NoFault
 none_wrong [] = refl

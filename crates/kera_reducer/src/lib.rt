@@ -2,5 +2,7 @@
 #![tactic(auto)]
 
 mod path_theorems;
+mod theorems;
 
 pub use path_theorems::{built_actions_keep_their_effect, built_actions_keep_their_paths};
+pub use theorems::{what_is_built_keeps_its_outcomes, what_is_built_of_a_part_keeps_its_outcomes};
