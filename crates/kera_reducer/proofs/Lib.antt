@@ -29,3 +29,5 @@ pub mod CaseEffects
 pub mod ActsKept
 pub mod MarksBelow
 pub mod PathLaws
+pub mod RowNodes
+pub mod NodesKept

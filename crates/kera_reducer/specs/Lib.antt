@@ -2,4 +2,5 @@
 pub mod Reduction
 pub mod JobPaths
 pub mod PathLaws
+pub mod Origins
 pub mod inner

@@ -3,4 +3,6 @@
 
 mod path_theorems;
 
-pub use path_theorems::{built_actions_keep_their_effect, built_actions_keep_their_paths};
+pub use path_theorems::{
+    built_actions_keep_their_effect, built_actions_keep_their_paths, built_trees_keep_places_and_names,
+};
