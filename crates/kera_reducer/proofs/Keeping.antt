@@ -13,12 +13,15 @@ use Rattle.kernel_trees.specs.declared.kernel.Ker.{Ker}
 use Rattle.kernel_trees.specs.declared.kernel.KerOp.{KerOp}
 use Rattle.kernel_trees.specs.declared.kernel.KerOp.TheVariants as ker
 use Rattle.kera_reducer.specs.Reduction.{Numbering, Keeps, is_wide, mentioned, mentioned_at, any_mentioned}
-use Rattle.kera_reducer.specs.inner.Rows.{node, tree}
+use Rattle.kera_reducer.specs.inner.Rows.{node, tree, Level, Change}
 use Rattle.kera_reducer.specs.inner.Builds as rows
 use Rattle.kera_reducer.specs.inner.Builds.{Builds, BuildsEach, BuildsNode, BuildsPath, BuildsChanges}
 use Rattle.kera_reducer.proofs.Frame.{KeepsNode, KeepsEach, keeps_opened}
 use Rattle.kera_reducer.proofs.Same.{keeps_same}
 use Rattle.kera_reducer.proofs.Binding.{keeps_boolean, keeps_integer, keeps_text, keeps_declared, keeps_bound, keeps_range, keeps_binder, keeps_fold}
+use Rattle.kera_reducer.proofs.Pairs.{keeps_equivalence, keeps_single, keeps_low_item, keeps_high_item, keeps_field}
+use Rattle.kera_reducer.proofs.PowerRows.{keeps_power, keeps_high_power}
+use Rattle.kera_reducer.proofs.ExceptRows.{KeepsPath, KeepsChanges, last_kept, level_kept, none_kept, change_kept, keeps_except, keeps_except_let}
 use Rattle.kera_reducer.proofs.Negations.{keeps_assign, keeps_unequal, keeps_no_member, keeps_greater, keeps_at_most, keeps_at_least, keeps_implies, keeps_negative, keeps_finite, keeps_truth_values, keeps_cases, keeps_noted}
 
 -- ---- in an action position, of trees that hold no name that may be assigned
@@ -111,15 +114,24 @@ module _ (w : Width) (wide : is_wide w ≡ true) where
     keeps_node i ρ p o es xs k (rows.negative _ _ _ _ a ks b) q = keeps_negative w ρ p es xs a wide ks (keeps_each None ρ es ks b tt)
     keeps_node i ρ p o es xs k (rows.finite _ _ _ _ a x n b) q = keeps_finite w ρ p es xs a x n (keeps_each None ρ es (x ∷ []) b tt)
     keeps_node i ρ p o es xs k (rows.truth_values _ _ _ a d) q = keeps_truth_values w ρ p [] xs a d
-    keeps_node i ρ p o es xs k (rows.equivalent _ _ _ _ l t x y f b) q = ?
-    keeps_node i ρ p o es xs k (rows.one_pair _ _ _ _ l t d z x y f g b) q = ?
-    keeps_node i ρ p o es xs k (rows.power _ _ _ _ l d x y n f g h b) q = ?
-    keeps_node i ρ p o es xs k (rows.high_power _ _ _ _ l t d x y n f g h b) q = ?
-    keeps_node i ρ p o es xs k (rows.field _ _ _ _ a x y z f b) q = ?
-    keeps_node i ρ p o es xs k (rows.low_item _ _ _ _ a x y n f g b) q = ?
-    keeps_node i ρ p o es xs k (rows.high_item _ _ _ _ l t x y n f g h b) q = ?
-    keeps_node i ρ p o es xs k (rows.except _ _ cs e _ x a f us g h b c) q = ?
-    keeps_node i ρ p o es xs k (rows.except_let _ _ cs e _ x l t f us g h b c) q = ?
+    keeps_node i ρ p o es xs k (rows.equivalent _ _ _ _ l t x y f b) q =
+        keeps_equivalence w wide ρ p es xs x y (keeps_each None ρ es (x ∷ y ∷ []) b tt) l t f
+    keeps_node i ρ p o es xs k (rows.one_pair _ _ _ _ l t d z x y f g b) q =
+        keeps_single w wide ρ p es xs x y (keeps_each None ρ es (x ∷ y ∷ []) b tt) l t d z f g
+    keeps_node i ρ p o es xs k (rows.power _ _ _ _ l d x y n f g h b) q =
+        keeps_power w wide ρ p es xs x y (keeps_each None ρ es (x ∷ y ∷ []) b tt) l f n g d h
+    keeps_node i ρ p o es xs k (rows.high_power _ _ _ _ l t d x y n f g h b) q =
+        keeps_high_power w wide ρ p es xs x y (keeps_each None ρ es (x ∷ y ∷ []) b tt) l f n g t d
+    keeps_node i ρ p o es xs k (rows.field _ _ _ _ a x y z f b) q =
+        keeps_field w wide ρ p es xs x y (keeps_each None ρ es (x ∷ y ∷ []) b tt) a z f
+    keeps_node i ρ p o es xs k (rows.low_item _ _ _ _ a x y n f g b) q =
+        keeps_low_item w wide ρ p es xs x y (keeps_each None ρ es (x ∷ y ∷ []) b tt) a n f g
+    keeps_node i ρ p o es xs k (rows.high_item _ _ _ _ l t x y n f g h b) q =
+        keeps_high_item w wide ρ p es xs x y (keeps_each None ρ es (x ∷ y ∷ []) b tt) l t n f g
+    keeps_node i ρ p o es xs k (rows.except _ _ cs e fs x a f u us g h b c) q =
+        keeps_except w wide ρ x p cs e fs f (keeps None ρ e f b tt) a u us g h (keeps_changes ρ x cs fs (u ∷ us) c)
+    keeps_node i ρ p o es xs k (rows.except_let _ _ cs e fs x l t f us g h b c) q =
+        keeps_except_let w wide ρ x p cs e fs f (keeps None ρ e f b tt) us l t g h (keeps_changes ρ x cs fs us c)
     keeps_node i ρ p o es xs k (rows.cases _ _ other _ _ a ks f b) q = keeps_cases w ρ p es xs a other ks f (keeps_each None ρ es ks b tt)
     keeps_node i ρ p o es xs k (rows.as_value m _ _ _ _ _ _ f b) q = keeps_node None ρ p o es xs k b tt
     keeps_node i ρ p o es xs k (rows.conjunction m _ _ _ _ a ks b) q =
@@ -131,3 +143,14 @@ module _ (w : Width) (wide : is_wide w ≡ true) where
         (keeps_each (Some m) _ (drop (length xs) es) bs c (silent_drop m (length xs) es (sym (any_map m es) ∙ q))) a ker.Some refl
     keeps_node i ρ p o es xs k (rows.branches m _ _ c cs _ a d g x y f b e) q = loud m (c ∷ cs) f q
     keeps_node i ρ p o es xs k (rows.split_cases m _ _ other _ _ a ys u f b) q = loud m es f q
+
+    keeps_path : (ρ : Numbering) (x : List ℕ) (n : ℕ) (es : List Expr) (ls : List Level) (k : Ker) → BuildsPath ρ x n es ls k → KeepsPath w ρ x n es ls k
+    keeps_path ρ x n es ls k (rows.last_level _ _ e f l _ b c) =
+        last_kept ρ x e f l k (keeps None ρ e l.index b tt) (keeps None _ f k c tt)
+    keeps_path ρ x n es ls k (rows.one_level _ _ m e fs l y ys _ b c) =
+        level_kept ρ x m e fs l y ys k (keeps None ρ e l.index b tt) (keeps_path ρ x m fs (y ∷ ys) k c)
+
+    keeps_changes : (ρ : Numbering) (x : List ℕ) (ns : List ℕ) (es : List Expr) (us : List Change) → BuildsChanges ρ x ns es us → KeepsChanges w ρ x ns es us
+    keeps_changes ρ x ns es us (rows.no_changes _ _) = none_kept ρ x
+    keeps_changes ρ x ns es us (rows.one_change _ _ n ms _ u vs b c) =
+        change_kept ρ x n ms es u vs (keeps_path ρ x n (take (suc n) es) u.levels u.right b) (keeps_changes ρ x ms (drop (suc n) es) vs c)

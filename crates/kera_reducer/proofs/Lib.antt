@@ -10,6 +10,11 @@ pub mod Lets
 pub mod Negations
 pub mod Pairs
 pub mod PowerRows
+pub mod Paths
+pub mod Excepting
+pub mod ExceptReads
+pub mod ExceptRows
+pub mod Keeping
 pub mod JobTrees
 pub mod JobPathExamples
 pub mod WayPairs
