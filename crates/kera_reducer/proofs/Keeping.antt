@@ -90,11 +90,11 @@ module _ (w : Width) (wide : is_wide w ≡ true) where
 
     keeps_node : (i : Option Assignable) (ρ : Numbering) (p : Place) (o : Op) (es : List Expr) (xs : List (List ℕ)) (k : Ker) →
         BuildsNode i ρ p o es xs k → SilentNode i o es → KeepsNode w ρ p o es xs k
-    keeps_node i ρ p o es xs k (rows.boolean _ _ b _ _ a) q = keeps_boolean w ρ p es xs a b
-    keeps_node i ρ p o es xs k (rows.integer _ _ x _ _ a) q = keeps_integer w ρ p es xs a x
-    keeps_node i ρ p o es xs k (rows.text _ _ x _ _ a) q = keeps_text w ρ p es xs a x
+    keeps_node i ρ p o es xs k (rows.boolean _ _ b _ a) q = keeps_boolean w ρ p es xs a b
+    keeps_node i ρ p o es xs k (rows.integer _ _ x _ a) q = keeps_integer w ρ p es xs a x
+    keeps_node i ρ p o es xs k (rows.text _ _ x _ a) q = keeps_text w ρ p es xs a x
     keeps_node i ρ p o es xs k (rows.declared _ _ n primed _ _ a) q = keeps_declared w ρ p es xs a n primed
-    keeps_node i ρ p o es xs k (rows.bound_name _ _ x n _ _ a f) q = keeps_bound w ρ p es xs a x n f
+    keeps_node i ρ p o es xs k (rows.bound_name _ _ x n _ a f) q = keeps_bound w ρ p es xs a x n f
     keeps_node i ρ p o es xs k (rows.same _ _ _ ko _ _ a ks f g b) q =
         subst (λ z. KeepsNode w ρ p z es xs (node p a ko ks)) f (keeps_same w ρ p es xs ks (keeps_each None ρ es ks b tt) a ko g)
     keeps_node i ρ p o es xs k (rows.range _ _ _ _ a x y b) q = keeps_range w ρ p es xs a x y (keeps_each None ρ es (x ∷ y ∷ []) b tt)

@@ -1,5 +1,5 @@
 -- The laws of what the reduction keeps of an action.
-use Rattle.std.proofs.Common.{◌≡◌, ℕ, Bool, true, false, not, ◌&&◌, IsTrue, true≢false, List, [], ◌∷◌, refl, sym, ◌∙◌, ap, subst, Option}
+use Rattle.std.proofs.Common.{◌≡◌, ℕ, Bool, true, false, not, ◌&&◌, IsTrue, true≢false, List, [], ◌∷◌, refl, sym, ◌∙◌, ap, subst, Option, None}
 use Rattle.tla_meaning.specs.declared.actions.Assignable.{Assignable}
 use Rattle.tla_meaning.specs.declared.expr.Expr.{Expr}
 use Rattle.tla_meaning.specs.declared.place.Place.{Place}
@@ -15,6 +15,7 @@ use Rattle.kera_reducer.specs.Reduction.{Numbering}
 use Rattle.kera_reducer.specs.inner.SameWays.{Pairs, SameWays}
 use Rattle.kera_reducer.specs.inner.Steps.{SameStep}
 use Rattle.kera_reducer.proofs.ActsKept.{tree_acts}
+use Rattle.kera_reducer.proofs.Keeping.{keeps}
 use Rattle.kera_reducer.proofs.KernelNames.{is_read, reads_has}
 use Rattle.kera_reducer.proofs.MarksBelow.{same_job_ways, same_kernel_ways}
 use Rattle.kera_reducer.proofs.NamesKept.{names_kept}
@@ -24,7 +25,7 @@ use Rattle.kera_reducer.proofs.Telling.{SameTold, paths_told}
 use Rattle.kera_reducer.proofs.WaysKept.{tree_ways}
 
 pub keeps_actions : (w : Width) (m : Assignable) (ρ : Numbering) (e : Expr) (k : Ker) → KeepsActions w m ρ e k
-keeps_actions w m ρ e k keeps h = tree_acts w m keeps h
+keeps_actions w m ρ e k wide h = tree_acts w m (λ ρ e k b. keeps w wide None ρ e k b tt) h
 
 pub keeps_reads : (m : Marks) (i : Option Assignable) (ρ : Numbering) (e : Expr) (k : Ker) (n : ℕ) (p : Place) → KeepsReads m i ρ e k n p
 keeps_reads m i ρ e k n p h = names_kept (is_read m n p) h ∙ sym (reads_has m k n p)

@@ -11,8 +11,8 @@ ghost use Rattle.kera_reducer.specs.PathLaws.{KeepsActions, KeepsPaths, KeepsPat
 ghost use Rattle.kera_reducer.specs.Origins.{KeepsPlaces, KeepsTexts};
 ghost use Rattle.kera_reducer.specs.Reduction.{Numbering};
 
-/// What is built in an action position has there the effect of its expression, at all states and where bound names have
-/// the values of their numbers, if what is built as a value keeps value and form.
+/// What is built in an action position has there the effect of its expression, faults with their places among it: under
+/// no width and under each from 4 on, at states of normal values, where bound names have the values of their numbers.
 pub fn built_actions_keep_their_effect()
     ensures { (w : Width) (m : Assignable) (ρ : Numbering) (e : Expr) (k : Ker) → KeepsActions w m ρ e k }
 {}
