@@ -9,7 +9,7 @@ use Rattle.tla_meaning.specs.Executions.{no_scope}
 use Rattle.tla_meaning.specs.Numbers.{Width}
 use Rattle.kernel_trees.specs.declared.kernel.Ker.{Ker}
 use Rattle.kera_reducer.specs.Reduction.{Matched, Numbering}
-use Rattle.kera_reducer.specs.Laws.{IsSilent, KeepsOutcomes, KeepsEffects, HasValueOf, HasFormOf, HasEffectOf}
+use Rattle.kera_reducer.specs.Laws.{IsSilent, KeepsOutcomes, HasValueOf, HasFormOf, HasEffectOf}
 use Rattle.kera_reducer.proofs.Keeping.{Silent, keeps}
 use Rattle.kera_reducer.proofs.PathLaws.{keeps_actions}
 
@@ -19,9 +19,6 @@ silent (Some m) e h = h
 
 pub keeps_outcomes : (w : Width) (i : Option Assignable) (ρ : Numbering) (e : Expr) (k : Ker) → KeepsOutcomes w i ρ e k
 keeps_outcomes w i ρ e k h q b = keeps w h i ρ e k b (silent i e q)
-
-pub keeps_effects : (w : Width) (m : Assignable) (ρ : Numbering) (e : Expr) (k : Ker) → KeepsEffects w m ρ e k
-keeps_effects w m ρ e k h b = keeps_actions w m ρ e k (λ ρ e k b. keeps w h None ρ e k b tt) b
 
 whole : (s t : State) → All Normal s.vals → All Normal t.vals → Matched [] no_scope no_scope s t
 whole s t g h = record {
@@ -36,4 +33,4 @@ pub has_form : (w : Width) (e : Expr) (k : Ker) (s t : State) → HasFormOf w e 
 has_form w e k s t h b g n = (keeps_outcomes w None [] e k h tt b).form no_scope no_scope s t (whole s t g n)
 
 pub has_effect : (w : Width) (m : Assignable) (e : Expr) (k : Ker) (s t : State) → HasEffectOf w m e k s t
-has_effect w m e k s t h b g n = keeps_effects w m [] e k h b no_scope no_scope s t (whole s t g n)
+has_effect w m e k s t h b g n = keeps_actions w m [] e k h b no_scope no_scope s t (whole s t g n)

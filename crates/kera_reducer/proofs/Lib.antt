@@ -35,3 +35,5 @@ pub mod ActsKept
 pub mod MarksBelow
 pub mod PathLaws
 pub mod Kept
+pub mod RowNodes
+pub mod NodesKept

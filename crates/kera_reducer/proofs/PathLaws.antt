@@ -1,7 +1,8 @@
 -- The laws of what the reduction keeps of an action.
-use Rattle.std.proofs.Common.{◌≡◌, ℕ, Bool, true, false, not, ◌&&◌, IsTrue, true≢false, List, [], ◌∷◌, refl, sym, ◌∙◌, ap, subst}
+use Rattle.std.proofs.Common.{◌≡◌, ℕ, Bool, true, false, not, ◌&&◌, IsTrue, true≢false, List, [], ◌∷◌, refl, sym, ◌∙◌, ap, subst, Option, None}
 use Rattle.tla_meaning.specs.declared.actions.Assignable.{Assignable}
 use Rattle.tla_meaning.specs.declared.expr.Expr.{Expr}
+use Rattle.tla_meaning.specs.declared.place.Place.{Place}
 use Rattle.tla_meaning.specs.Actions.{counts}
 use Rattle.tla_meaning.specs.Numbers.{Width}
 use Rattle.kernel_trees.specs.declared.kernel.Ker.{Ker}
@@ -9,11 +10,13 @@ use Rattle.kernel_trees.specs.Paths.{Marks, Step, marks_below, only_below, ways}
 use Rattle.kernel_trees.specs.Ways.{Way}
 use Rattle.kernel_trees.proofs.Marking.{SameMarks}
 use Rattle.kera_reducer.specs.JobPaths.{JobStep, TypedTree, has_name, job_ways, outside}
-use Rattle.kera_reducer.specs.PathLaws.{KeepsActions, KeepsPaths, KeepsPathsBelow, KeepsSteps}
+use Rattle.kera_reducer.specs.PathLaws.{KeepsActions, KeepsPaths, KeepsPathsBelow, KeepsReads, KeepsSteps}
 use Rattle.kera_reducer.specs.Reduction.{Numbering}
 use Rattle.kera_reducer.specs.inner.SameWays.{Pairs, SameWays}
 use Rattle.kera_reducer.specs.inner.Steps.{SameStep}
 use Rattle.kera_reducer.proofs.ActsKept.{tree_acts}
+use Rattle.kera_reducer.proofs.Keeping.{keeps}
+use Rattle.kera_reducer.proofs.KernelNames.{is_read, reads_has}
 use Rattle.kera_reducer.proofs.MarksBelow.{same_job_ways, same_kernel_ways}
 use Rattle.kera_reducer.proofs.NamesKept.{names_kept}
 use Rattle.kera_reducer.proofs.Roots.{tree_root}
@@ -22,7 +25,10 @@ use Rattle.kera_reducer.proofs.Telling.{SameTold, paths_told}
 use Rattle.kera_reducer.proofs.WaysKept.{tree_ways}
 
 pub keeps_actions : (w : Width) (m : Assignable) (ρ : Numbering) (e : Expr) (k : Ker) → KeepsActions w m ρ e k
-keeps_actions w m ρ e k keeps h = tree_acts w m keeps h
+keeps_actions w m ρ e k wide h = tree_acts w m (λ ρ e k b. keeps w wide None ρ e k b tt) h
+
+pub keeps_reads : (m : Marks) (i : Option Assignable) (ρ : Numbering) (e : Expr) (k : Ker) (n : ℕ) (p : Place) → KeepsReads m i ρ e k n p
+keeps_reads m i ρ e k n p h = names_kept (is_read m n p) h ∙ sym (reads_has m k n p)
 
 pub keeps_steps : (m : Assignable) (ρ : Numbering) (t : TypedTree) (k : Ker) → KeepsSteps m ρ t k
 keeps_steps m ρ t k h = tree_ways m h t.kinds

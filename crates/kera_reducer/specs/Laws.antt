@@ -10,7 +10,7 @@ use Rattle.tla_meaning.specs.Executions.{no_scope}
 use Rattle.tla_meaning.specs.Numbers.{Width}
 use Rattle.kernel_trees.specs.declared.kernel.Ker.{Ker}
 use Rattle.kernel_trees.specs.Trees.{ker_effect, ker_form, ker_val}
-use Rattle.kera_reducer.specs.Reduction.{Keeps, KeepsAction, Numbering, is_wide, mentioned}
+use Rattle.kera_reducer.specs.Reduction.{Keeps, Numbering, is_wide, mentioned}
 use Rattle.kera_reducer.specs.inner.Builds.{Builds}
 
 -- in an action position, no name that may be assigned
@@ -22,10 +22,6 @@ IsSilent (Some m) e = mentioned m e ≡ false
 -- where the expression holds no name that may be assigned, since a CASE that holds one is split there
 abbrev pub KeepsOutcomes : Width → Option Assignable → Numbering → Expr → Ker → Type 0
 KeepsOutcomes w i ρ e k = IsTrue (is_wide w) → IsSilent i e → Builds i ρ e k → Keeps w ρ e k
-
--- and in an action position the effect
-abbrev pub KeepsEffects : Width → Assignable → Numbering → Expr → Ker → Type 0
-KeepsEffects w m ρ e k = IsTrue (is_wide w) → Builds (Some m) ρ e k → KeepsAction w m ρ e k
 
 -- ---- of a part of a job, in which no name is bound, at normal states
 

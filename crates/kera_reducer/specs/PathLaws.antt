@@ -1,25 +1,27 @@
 -- What the reduction keeps of an action, as laws: its effect, and its paths. Source: Konnov, Kukovec and Tran, "TLA+
 -- Model Checking Made Symbolic", OOPSLA 2019, on the reduction to KerA+ and on symbolic transitions.
-use Rattle.std.specs.Prelude.{ℕ, IsTrue, None, Some}
+use Rattle.std.specs.Prelude.{◌≡◌, ℕ, IsTrue, Option, Some}
 use Rattle.tla_meaning.specs.declared.actions.Assignable.{Assignable}
 use Rattle.tla_meaning.specs.declared.expr.Expr.{Expr}
+use Rattle.tla_meaning.specs.declared.place.Place.{Place}
 use Rattle.tla_meaning.specs.Actions.{counts}
 use Rattle.tla_meaning.specs.Numbers.{Width}
 use Rattle.kernel_trees.specs.declared.kernel.Ker.{Ker}
-use Rattle.kernel_trees.specs.Paths.{marks_below, ways}
-use Rattle.kera_reducer.specs.JobPaths.{SamePaths, TypedTree, job_ways, tree_names_below}
-use Rattle.kera_reducer.specs.Reduction.{Keeps, KeepsAction, Numbering}
+use Rattle.kernel_trees.specs.Assignments.{reads_at}
+use Rattle.kernel_trees.specs.Paths.{Marks, marks_below, ways}
+use Rattle.kera_reducer.specs.JobPaths.{SamePaths, TypedTree, job_ways, tree_names_below, tree_reads}
+use Rattle.kera_reducer.specs.Reduction.{KeepsAction, Numbering, is_wide}
 use Rattle.kera_reducer.specs.inner.Builds.{Builds}
 use Rattle.kera_reducer.specs.inner.SameWays.{SameWays}
 use Rattle.kera_reducer.specs.inner.Steps.{SameStep}
 
--- each value is kept
-abbrev pub KeepsValues : Width → Type 0
-KeepsValues w = (ρ : Numbering) (e : Expr) (k : Ker) → Builds None ρ e k → Keeps w ρ e k
-
--- what is built in an action position has the effect of its expression there, if values are kept
+-- what is built in an action position has the effect of its expression there
 abbrev pub KeepsActions : Width → Assignable → Numbering → Expr → Ker → Type 0
-KeepsActions w m ρ e k = KeepsValues w → Builds (Some m) ρ e k → KeepsAction w m ρ e k
+KeepsActions w m ρ e k = IsTrue (is_wide w) → Builds (Some m) ρ e k → KeepsAction w m ρ e k
+
+-- what is built reads the names that its expression reads, at the same places
+abbrev pub KeepsReads : Marks → Option Assignable → Numbering → Expr → Ker → ℕ → Place → Type 0
+KeepsReads m i ρ e k n p = Builds i ρ e k → tree_reads m e n p ≡ reads_at m k n p
 
 -- it has the paths of its expression, step by step
 abbrev pub KeepsSteps : Assignable → Numbering → TypedTree → Ker → Type 0

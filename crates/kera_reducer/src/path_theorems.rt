@@ -1,15 +1,18 @@
-// Laws of what the reduction keeps of an action, each as the contract of a function that does nothing.
-ghost use Rattle.std.specs.Prelude.{ℕ};
+// Laws of what the reduction keeps of an action and of places, each as the contract of a function that does nothing.
+ghost use Rattle.std.specs.Prelude.{List, Option, ℕ};
 ghost use Rattle.tla_meaning.specs.Numbers.{Width};
 ghost use Rattle.tla_meaning.specs.declared.actions.Assignable.{Assignable};
 ghost use Rattle.tla_meaning.specs.declared.expr.Expr.{Expr};
+ghost use Rattle.tla_meaning.specs.declared.place.Place.{Place};
+ghost use Rattle.kernel_trees.specs.Paths.{Marks};
 ghost use Rattle.kernel_trees.specs.declared.kernel.Ker.{Ker};
 ghost use Rattle.kera_reducer.specs.JobPaths.{TypedTree};
-ghost use Rattle.kera_reducer.specs.PathLaws.{KeepsActions, KeepsPaths, KeepsPathsBelow, KeepsSteps};
+ghost use Rattle.kera_reducer.specs.PathLaws.{KeepsActions, KeepsPaths, KeepsPathsBelow, KeepsReads, KeepsSteps};
+ghost use Rattle.kera_reducer.specs.Origins.{KeepsPlaces, KeepsTexts};
 ghost use Rattle.kera_reducer.specs.Reduction.{Numbering};
 
-/// What is built in an action position has there the effect of its expression, at all states and where bound names have
-/// the values of their numbers, if what is built as a value keeps value and form.
+/// What is built in an action position has there the effect of its expression, faults with their places among it: under
+/// no width and under each from 4 on, at states of normal values, where bound names have the values of their numbers.
 pub fn built_actions_keep_their_effect()
     ensures { (w : Width) (m : Assignable) (ρ : Numbering) (e : Expr) (k : Ker) → KeepsActions w m ρ e k }
 {}
@@ -21,4 +24,11 @@ pub fn built_actions_keep_their_paths()
     ensures steps { (m : Assignable) (ρ : Numbering) (t : TypedTree) (k : Ker) → KeepsSteps m ρ t k }
     ensures paths { (m : Assignable) (ρ : Numbering) (t : TypedTree) (k : Ker) → KeepsPaths m ρ t k }
     ensures below { (n : ℕ) (m : Assignable) (ρ : Numbering) (t : TypedTree) (k : Ker) → KeepsPathsBelow n m ρ t k }
+{}
+
+/// What is built has no place and no text that its expression does not have, and reads the same names at the same places.
+pub fn built_trees_keep_places_and_names()
+    ensures places { (i : Option Assignable) (ρ : Numbering) (e : Expr) (k : Ker) (p : Place) → KeepsPlaces i ρ e k p }
+    ensures texts { (i : Option Assignable) (ρ : Numbering) (e : Expr) (k : Ker) (x : List ℕ) → KeepsTexts i ρ e k x }
+    ensures reads { (m : Marks) (i : Option Assignable) (ρ : Numbering) (e : Expr) (k : Ker) (n : ℕ) (p : Place) → KeepsReads m i ρ e k n p }
 {}

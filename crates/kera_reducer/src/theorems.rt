@@ -5,15 +5,14 @@ ghost use Rattle.tla_meaning.specs.declared.actions.Assignable.{Assignable};
 ghost use Rattle.tla_meaning.specs.declared.expr.Expr.{Expr};
 ghost use Rattle.tla_meaning.specs.declared.job.State.{State};
 ghost use Rattle.kernel_trees.specs.declared.kernel.Ker.{Ker};
-ghost use Rattle.kera_reducer.specs.Laws.{HasEffectOf, HasFormOf, HasValueOf, KeepsEffects, KeepsOutcomes};
+ghost use Rattle.kera_reducer.specs.Laws.{HasEffectOf, HasFormOf, HasValueOf, KeepsOutcomes};
 ghost use Rattle.kera_reducer.specs.Reduction.{Numbering};
 
-/// What is built of an expression has its outcome with all places, the form that it is as the right side of a
-/// membership, and in an action position its effect: without a width and under each from 4 on, wherever bound names have
-/// the values of their numbers and all values that are read are normal.
+/// What is built of an expression has its outcome, faults with their places among it, and is the same form as the right
+/// side of a membership: under no width and under each from 4 on, at states of normal values, where bound names have the
+/// values of their numbers.
 pub fn what_is_built_keeps_its_outcomes()
-    ensures values { (w : Width) (i : Option Assignable) (ρ : Numbering) (e : Expr) (k : Ker) → KeepsOutcomes w i ρ e k }
-    ensures actions { (w : Width) (m : Assignable) (ρ : Numbering) (e : Expr) (k : Ker) → KeepsEffects w m ρ e k }
+    ensures { (w : Width) (i : Option Assignable) (ρ : Numbering) (e : Expr) (k : Ker) → KeepsOutcomes w i ρ e k }
 {}
 
 /// So what is built of a part of a job, in which no name is bound, has its value, its form and its effect at all normal
