@@ -1,10 +1,8 @@
 -- The operands of an EXCEPT as pairs that are named, and what is read from these.
-use Rattle.std.proofs.Common.{◌≡◌, ℕ, Bool, true, false, not, ◌&&◌, true≢false, List, [], ◌∷◌, ◌++◌, map, pos, refl, sym, ◌∙◌, ap, ap₂, subst, Option, Some, None, if◌then◌else◌}
-use Rattle.std.specs.List.{list_all}
+use Rattle.std.proofs.Common.{◌≡◌, Bool, true, false, not, ◌&&◌, true≢false, List, [], ◌∷◌, ◌++◌, map, pos, refl, sym, ◌∙◌, ap, ap₂, subst, Some, if◌then◌else◌}
 use Rattle.tla_values.specs.Order.{Layer}
-use Rattle.tla_values.specs.declared.value.Value.{Value, out-Value}
+use Rattle.tla_values.specs.declared.value.Value.{Value}
 use Rattle.tla_values.specs.declared.value.Value.TheVariants as value
-use Rattle.tla_values.specs.declared.value.Value.TheOpen as layer
 use Rattle.tla_meaning.specs.declared.op.Op.TheVariants as op
 use Rattle.tla_meaning.specs.declared.place.Place.{Place}
 use Rattle.tla_meaning.specs.declared.job.State.{State}
@@ -18,7 +16,7 @@ use Rattle.tla_meaning.specs.Operators.{table, applied, or_wrong}
 use Rattle.tla_meaning.specs.Numbers.{Width}
 use Rattle.tla_meaning.specs.Scopes.{Scope, bind, find_last, value_found}
 use Rattle.tla_meaning.specs.Meaning.{Update}
-use Rattle.tla_meaning.proofs.Views.{and_left, and_right, and_both, false≢true}
+use Rattle.tla_meaning.proofs.Views.{false≢true}
 use Rattle.snowcat_rows.specs.declared.types.Ty.{Ty}
 use Rattle.kernel_trees.specs.declared.kernel.Ker.{Ker}
 use Rattle.kernel_trees.specs.declared.kernel.KerOp.{KerOp}
@@ -26,12 +24,12 @@ use Rattle.kernel_trees.specs.declared.kernel.KerOp.TheVariants as ker
 use Rattle.kernel_trees.specs.Trees.{ker_val, number_name}
 use Rattle.kernel_trees.proofs.Operators.{val_bound, val_item, val_tuple}
 use Rattle.kera_reducer.specs.Reduction.{is_wide}
-use Rattle.kera_reducer.specs.inner.Rows.{Let, item, bound, pair, pairs, behind, operand_at, index_at, is_literal, is_literal_op, is_nil, op_at, place_of, type_of, Level, Change, read_levels, read_changes, is_plain, is_plain_op, indexes, all_levels}
+use Rattle.kera_reducer.specs.inner.Rows.{Let, item, bound, pairs, behind, operand_at, index_at, is_literal, is_literal_op, is_nil, op_at, place_of, type_of, Level, Change, read_levels, read_changes}
 use Rattle.kera_reducer.proofs.Widths.{fits_all, number_there}
 use Rattle.kera_reducer.proofs.Outcomes.{strict_same}
 use Rattle.kera_reducer.proofs.Lets.{both_of, first_of, second_of}
 use Rattle.kera_reducer.proofs.Pairs.{literal_val}
-use Rattle.kera_reducer.proofs.Excepting.{one_value, rest_of, cons≢none, none≢cons, HasLevels, Closed, HasRight, NormalNew, HasChange, HasChanges, last_number}
+use Rattle.kera_reducer.proofs.Excepting.{rest_of, cons≢none, HasLevels, Closed, HasRight, NormalNew, HasChanges, last_number}
 
 -- ---- values in pairs
 

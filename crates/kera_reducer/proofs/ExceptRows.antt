@@ -1,11 +1,10 @@
 -- The rows of EXCEPT: what the language makes of its operands, and what the kernel's updates do.
-use Rattle.std.proofs.Common.{◌≡◌, ℕ, zero, suc, Bool, true, false, not, ◌&&◌, ◌||◌, true≢false, List, [], ◌∷◌, ◌++◌, map, take, drop, replicate, refl, sym, ◌∙◌, ap, ap₂, subst, Option, Some, None, pos, if◌then◌else◌}
+use Rattle.std.proofs.Common.{◌≡◌, ℕ, zero, suc, Bool, true, false, not, ◌&&◌, ◌||◌, true≢false, List, [], ◌∷◌, ◌++◌, map, take, drop, replicate, refl, sym, ◌∙◌, ap, subst, Some, None, if◌then◌else◌}
 use Rattle.std.specs.Prelude.{nat_eq}
 use Rattle.std.specs.List.{list_all, list_any}
 use Rattle.tla_values.specs.Order.{Layer}
 use Rattle.tla_values.specs.Sets.{Normal}
 use Rattle.tla_values.specs.declared.value.Value.{Value, out-Value}
-use Rattle.tla_values.specs.declared.value.Value.TheVariants as value
 use Rattle.tla_values.specs.declared.value.Value.TheOpen as layer
 use Rattle.tla_meaning.specs.declared.expr.Expr.{Expr}
 use Rattle.tla_meaning.specs.declared.op.Op.TheVariants as op
@@ -17,8 +16,8 @@ use Rattle.tla_meaning.specs.declared.outcome.Outcome.{Outcome}
 use Rattle.tla_meaning.specs.declared.outcome.Outcome.TheVariants.{Val, Wrong, Big}
 use Rattle.tla_meaning.specs.Outcomes.{IsNormalOutcome, join_faults, fault_of, joined, values, fault_or, strict, with_value}
 use Rattle.tla_meaning.specs.Numbers.{Width}
-use Rattle.tla_meaning.specs.Scopes.{Denotation, Scope, bind, find_last, or_else, same_text}
-use Rattle.tla_meaning.specs.Meaning.{Meaning, Update, outcomes, outer, inner, child, plain, except_marks, all_indexes, updates, updated, first_updated}
+use Rattle.tla_meaning.specs.Scopes.{Denotation, Scope, bind, find_last, or_else}
+use Rattle.tla_meaning.specs.Meaning.{Update, outcomes, outer, inner, child, plain, except_marks, all_indexes, updates, updated, first_updated}
 use Rattle.tla_meaning.specs.Actions.{meaning}
 use Rattle.tla_meaning.proofs.Laws.{find-append}
 use Rattle.tla_meaning.proofs.Views.{and_left, and_right, and_both, false≢true}
@@ -31,17 +30,17 @@ use Rattle.kernel_trees.proofs.Operators.{form_plain, constant_value}
 use Rattle.kernel_trees.proofs.Binders.{val_update, updated_by}
 use Rattle.kernel_shapes.specs.Laws.{IsNormal}
 use Rattle.kera_reducer.specs.Reduction.{Numbering, Matched, Keeps, fresh, are_fresh, numbered, is_wide}
-use Rattle.kera_reducer.specs.inner.Rows.{Let, let_in, tree, bound, pairs, operand_at, Level, Change, changed_at, changed, all_levels, indexes, level_numbers, all_plain, is_plain, is_plain_op, is_plain_value, op_at, place_of, is_nil, read_changes, except_by_let}
+use Rattle.kera_reducer.specs.inner.Rows.{Let, bound, pairs, operand_at, Level, Change, changed_at, changed, all_levels, indexes, level_numbers, all_plain, is_plain, is_plain_op, is_plain_value, op_at, place_of, is_nil, read_changes, except_by_let}
 use Rattle.kera_reducer.specs.inner.Builds.{is_let, is_except_let}
 use Rattle.kera_reducer.proofs.Widths.{fits_all, number_there}
 use Rattle.kera_reducer.proofs.Tying.{names_apart, not_true, tied_unread, tied_two}
 use Rattle.kera_reducer.proofs.Normals.{outcome_normal, bind_normal, matched_bind}
-use Rattle.kera_reducer.proofs.Outcomes.{strict_same, tuple_then}
+use Rattle.kera_reducer.proofs.Outcomes.{strict_same}
 use Rattle.kera_reducer.proofs.Frame.{node_means, KeepsNode, plain_row}
 use Rattle.kera_reducer.proofs.Lets.{empty, let_scope, val_let, read_named}
 use Rattle.kera_reducer.proofs.Pairs.{literal_val}
-use Rattle.kera_reducer.proofs.Excepting.{one_value, rest_of, cons≢none, none≢cons, last_number, HasLevels, Closed, HasRight, NormalNew, HasChange, HasChanges, many_val}
-use Rattle.kera_reducer.proofs.ExceptReads.{nested, index_vals, pairs_val, operand_val, HaveValues, Given, AllGiven, all_values, changes_read, OneMore}
+use Rattle.kera_reducer.proofs.Excepting.{one_value, rest_of, cons≢none, last_number, HasLevels, Closed, HasChanges, many_val}
+use Rattle.kera_reducer.proofs.ExceptReads.{nested, index_vals, pairs_val, operand_val, HaveValues, AllGiven, all_values, changes_read}
 
 -- ---- what the parts keep
 

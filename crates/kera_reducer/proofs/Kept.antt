@@ -1,5 +1,5 @@
 -- The laws of what is built, for each tree and for whole parts.
-use Rattle.std.proofs.Common.{◌≡◌, IsTrue, All, [], refl, Option, Some, None}
+use Rattle.std.proofs.Common.{All, [], refl, Option, Some, None}
 use Rattle.std.proofs.lemmas.List.Elements.{recursion_from_All}
 use Rattle.tla_values.specs.Sets.{Normal}
 use Rattle.tla_meaning.specs.declared.actions.Assignable.{Assignable}
