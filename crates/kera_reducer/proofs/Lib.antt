@@ -37,3 +37,5 @@ pub mod PathLaws
 pub mod Kept
 pub mod RowNodes
 pub mod NodesKept
+pub mod Building
+pub mod BuildExamples
