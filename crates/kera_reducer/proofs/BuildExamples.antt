@@ -1,5 +1,5 @@
 -- Small expressions and the kernel trees that are built of them.
-use Rattle.std.proofs.Common.{◌≡◌, ℕ, Bool, true, false, List, [], ◌∷◌, ◌&&◌, refl, ◌∙◌, ap, sym, subst, pos, Some, None, Option, if◌then◌else◌}
+use Rattle.std.proofs.Common.{◌≡◌, ℕ, true, false, List, [], ◌∷◌, ◌&&◌, refl, ◌∙◌, ap, subst, pos, None, if◌then◌else◌}
 use Rattle.tla_values.specs.Order.{Layer}
 use Rattle.tla_values.specs.declared.value.Value.{Value}
 use Rattle.tla_values.specs.declared.value.Value.TheVariants as value
@@ -13,7 +13,7 @@ use Rattle.kernel_trees.specs.declared.kernel.Ker.TheOpen.{Ker-F}
 use Rattle.kernel_trees.specs.declared.kernel.KerOp.{KerOp}
 use Rattle.kernel_trees.specs.declared.kernel.KerOp.TheVariants as ker
 use Rattle.kera_reducer.specs.Reduction.{Numbering}
-use Rattle.kera_reducer.specs.inner.Rows.{op_at, Let, Level, Change, level_numbers, indexes, all_plain, is_literal_op, is_plain_op, is_plain_value}
+use Rattle.kera_reducer.specs.inner.Rows.{op_at, Let, Level, Change, indexes, all_plain, is_literal_op, is_plain_op, is_plain_value}
 use Rattle.kera_reducer.specs.inner.Builds as rows
 use Rattle.kera_reducer.specs.inner.Builds.{Builds, BuildsEach}
 use Rattle.kera_reducer.proofs.Building.{built}
