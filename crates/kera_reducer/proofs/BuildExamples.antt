@@ -74,7 +74,9 @@ module _ (a : Ty) where
   abbrev let_of : ℕ → Ker → Ker → Ker
   let_of n d e =
       plain n ker.First
-      (node n ker.FoldLeft (plain n ker.Push (bound n 0 ∷ e ∷ []) ∷ plain n ker.SeqOf [] ∷ plain n ker.SeqOf (d ∷ []) ∷ []) (0 ∷ 1 ∷ []) ∷ [])
+      (node n ker.FoldLeft
+      (plain n ker.Push (bound n 0 ∷ e ∷ []) ∷ plain n ker.SeqOf [] ∷ plain n ker.SeqOf (d ∷ []) ∷ [])
+      (0 ∷ 1 ∷ []) ∷ [])
 
   -- ---- operands
 
@@ -87,8 +89,10 @@ module _ (a : Ty) where
   of_name : (ρ : Numbering) (n i : ℕ) → Builds None ρ (name n i) (declared n i)
   of_name ρ n i = built None ρ (at n) (op.Name i false) [] [] _ (rows.declared ρ (at n) i false [] [] a)
 
-  two : (ρ : Numbering) (e f : Expr) (k l : Ker) → Builds None ρ e k → Builds None ρ f l → BuildsEach None ρ (e ∷ f ∷ []) (k ∷ l ∷ [])
-  two ρ e f k l b c = rows.one_more None ρ e k (f ∷ []) (l ∷ []) b (rows.one_more None ρ f l [] [] c (rows.none_left None ρ))
+  two : (ρ : Numbering) (e f : Expr) (k l : Ker) → Builds None ρ e k → Builds None ρ f l →
+      BuildsEach None ρ (e ∷ f ∷ []) (k ∷ l ∷ [])
+  two ρ e f k l b c =
+      rows.one_more None ρ e k (f ∷ []) (l ∷ []) b (rows.one_more None ρ f l [] [] c (rows.none_left None ρ))
 
   -- ---- `x => y`: below a negation, so that no path is split
 
@@ -96,7 +100,8 @@ module _ (a : Ty) where
       (plain 3 ker.Not (plain 3 ker.And (declared 1 0 ∷ plain 3 ker.Not (declared 6 1 ∷ []) ∷ []) ∷ []))
   implication =
       built None [] (at 3) op.Implies (name 1 0 ∷ name 6 1 ∷ []) [] _
-      (rows.implies [] (at 3) (name 1 0 ∷ name 6 1 ∷ []) [] a (declared 1 0) (declared 6 1) (two [] _ _ _ _ (of_name [] 1 0) (of_name [] 6 1)))
+      (rows.implies [] (at 3) (name 1 0 ∷ name 6 1 ∷ []) [] a (declared 1 0) (declared 6 1)
+      (two [] _ _ _ _ (of_name [] 1 0) (of_name [] 6 1)))
 
   -- ---- `x <=> y`: what reads x stands at x
 
@@ -110,7 +115,8 @@ module _ (a : Ty) where
   equivalence : Builds None [] (tree 3 op.Iff (name 1 0 ∷ name 7 1 ∷ []))
       (let_of 3 (plain 3 ker.TupOf (declared 1 0 ∷ declared 7 1 ∷ []))
       (plain 3 ker.Equal
-      (plain 3 ker.Not (plain 1 (ker.Item 1) (bound 1 1 ∷ []) ∷ []) ∷ plain 3 ker.Not (plain 7 (ker.Item 2) (bound 7 1 ∷ []) ∷ []) ∷ [])))
+      (plain 3 ker.Not (plain 1 (ker.Item 1) (bound 1 1 ∷ []) ∷ []) ∷ plain 3 ker.Not
+      (plain 7 (ker.Item 2) (bound 7 1 ∷ []) ∷ []) ∷ [])))
   equivalence =
       subst (Builds None [] (tree 3 op.Iff (name 1 0 ∷ name 7 1 ∷ [])))
       (λ i. compared (out-roll-Ker (root 1 (ker.Name 0 false) []) i) (out-roll-Ker (root 7 (ker.Name 1 false) []) i))
@@ -123,26 +129,32 @@ module _ (a : Ty) where
   constant_op : (n i : ℕ) → op_at (constant n i) ≡ ker.Const (value.Int (pos i))
   constant_op n i = ap (λ (x : Ker-F Ker). x.op) (out-roll-Ker (root n (ker.Const (value.Int (pos i))) []))
 
-  square : Builds None [] (tree 2 op.Pow (name 1 0 ∷ number 3 2 ∷ [])) (let_of 2 (declared 1 0) (plain 2 ker.Times (bound 1 1 ∷ bound 1 1 ∷ [])))
+  square : Builds None [] (tree 2 op.Pow (name 1 0 ∷ number 3 2 ∷ []))
+      (let_of 2 (declared 1 0) (plain 2 ker.Times (bound 1 1 ∷ bound 1 1 ∷ [])))
   square =
       subst (Builds None [] (tree 2 op.Pow (name 1 0 ∷ number 3 2 ∷ [])))
       (λ i. let x : Ker-F Ker = out-roll-Ker (root 1 (ker.Name 0 false) []) i in
       let_of 2 (declared 1 0) (plain 2 ker.Times (at_root x (ker.Bound 1) [] ∷ at_root x (ker.Bound 1) [] ∷ [])))
       (built None [] (at 2) op.Pow (name 1 0 ∷ number 3 2 ∷ []) [] _
-      (rows.power [] (at 2) (name 1 0 ∷ number 3 2 ∷ []) [] the_let a (declared 1 0) (constant 3 2) 2 refl (constant_op 3 2) refl
+      (rows.power [] (at 2) (name 1 0 ∷ number 3 2 ∷ []) [] the_let a (declared 1 0) (constant 3 2) 2 refl
+      (constant_op 3 2) refl
       (two [] _ _ _ _ (of_name [] 1 0) (of_number [] 3 2))))
 
   -- the product is only compared
   first_power : Builds None [] (tree 2 op.Pow (name 1 0 ∷ number 3 1 ∷ []))
       (let_of 2 (declared 1 0)
-      (plain 2 ker.If (plain 2 ker.Less (plain 2 ker.Times (constant 2 1 ∷ bound 1 1 ∷ []) ∷ bound 1 1 ∷ []) ∷ bound 1 1 ∷ bound 1 1 ∷ [])))
+      (plain 2 ker.If
+      (plain 2 ker.Less
+      (plain 2 ker.Times (constant 2 1 ∷ bound 1 1 ∷ []) ∷ bound 1 1 ∷ []) ∷ bound 1 1 ∷ bound 1 1 ∷ [])))
   first_power =
       subst (Builds None [] (tree 2 op.Pow (name 1 0 ∷ number 3 1 ∷ [])))
       (λ i. let x : Ker-F Ker = out-roll-Ker (root 1 (ker.Name 0 false) []) i in
       let y : Ker = at_root x (ker.Bound 1) [] in
-      let_of 2 (declared 1 0) (plain 2 ker.If (plain 2 ker.Less (plain 2 ker.Times (constant 2 1 ∷ y ∷ []) ∷ y ∷ []) ∷ y ∷ y ∷ [])))
+      let_of 2 (declared 1 0)
+      (plain 2 ker.If (plain 2 ker.Less (plain 2 ker.Times (constant 2 1 ∷ y ∷ []) ∷ y ∷ []) ∷ y ∷ y ∷ [])))
       (built None [] (at 2) op.Pow (name 1 0 ∷ number 3 1 ∷ []) [] _
-      (rows.power [] (at 2) (name 1 0 ∷ number 3 1 ∷ []) [] the_let a (declared 1 0) (constant 3 1) 1 refl (constant_op 3 1) refl
+      (rows.power [] (at 2) (name 1 0 ∷ number 3 1 ∷ []) [] the_let a (declared 1 0) (constant 3 1) 1 refl
+      (constant_op 3 1) refl
       (two [] _ _ _ _ (of_name [] 1 0) (of_number [] 3 1))))
 
   -- ---- `t[7]` and `t[8]`: 8 may be Big, and is so where it stands
@@ -154,14 +166,16 @@ module _ (a : Ty) where
       (two [] _ _ _ _ (of_name [] 1 0) (of_number [] 3 7)))
 
   eighth : Builds None [] (tree 2 op.Apply (name 1 0 ∷ number 3 8 ∷ []))
-      (let_of 2 (plain 2 ker.TupOf (declared 1 0 ∷ constant 3 8 ∷ [])) (plain 2 (ker.Item 8) (plain 1 (ker.Item 1) (bound 1 1 ∷ []) ∷ [])))
+      (let_of 2 (plain 2 ker.TupOf (declared 1 0 ∷ constant 3 8 ∷ []))
+      (plain 2 (ker.Item 8) (plain 1 (ker.Item 1) (bound 1 1 ∷ []) ∷ [])))
   eighth =
       subst (Builds None [] (tree 2 op.Apply (name 1 0 ∷ number 3 8 ∷ [])))
       (λ i. let x : Ker-F Ker = out-roll-Ker (root 1 (ker.Name 0 false) []) i in
       let_of 2 (plain 2 ker.TupOf (declared 1 0 ∷ constant 3 8 ∷ []))
       (plain 2 (ker.Item 8) (at_root x (ker.Item 1) (at_root (record x { ty = a }) (ker.Bound 1) [] ∷ []) ∷ [])))
       (built None [] (at 2) op.Apply (name 1 0 ∷ number 3 8 ∷ []) [] _
-      (rows.high_item [] (at 2) (name 1 0 ∷ number 3 8 ∷ []) [] the_let a (declared 1 0) (constant 3 8) 8 refl (constant_op 3 8) refl
+      (rows.high_item [] (at 2) (name 1 0 ∷ number 3 8 ∷ []) [] the_let a (declared 1 0) (constant 3 8) 8 refl
+      (constant_op 3 8) refl
       (two [] _ _ _ _ (of_name [] 1 0) (of_number [] 3 8))))
 
   -- ---- `[r EXCEPT !.a = 1, !.b = 2]`: two updates, and no LET
@@ -186,11 +200,15 @@ module _ (a : Ty) where
       ap (λ (x : Ker-F Ker). is_plain_op x.op && true) (out-roll-Ker (root 5 (ker.Const (value.Text b_field)) []))
       ∙ ap (λ (l : Layer Value). is_plain_value l && true) (value.outs-Text b_field)
 
-  record_changes : Builds None [] (roll-Expr (record { place = at 1; op = op.Except (1 ∷ 1 ∷ []); args = name 2 0 ∷ of_record; binds = old ∷ [] }))
-      (node 1 ker.Update (node 1 ker.Update (declared 2 0 ∷ text 3 a_field ∷ constant 4 1 ∷ []) (0 ∷ []) ∷ text 5 b_field ∷ constant 6 2 ∷ []) (1 ∷ []))
+  record_changes : Builds None []
+      (roll-Expr (record { place = at 1; op = op.Except (1 ∷ 1 ∷ []); args = name 2 0 ∷ of_record; binds = old ∷ [] }))
+      (node 1 ker.Update
+      (node 1 ker.Update (declared 2 0 ∷ text 3 a_field ∷ constant 4 1 ∷ [])
+      (0 ∷ []) ∷ text 5 b_field ∷ constant 6 2 ∷ []) (1 ∷ []))
   record_changes =
       built None [] (at 1) (op.Except (1 ∷ 1 ∷ [])) (name 2 0 ∷ of_record) (old ∷ []) _
-      (rows.except [] (at 1) (1 ∷ 1 ∷ []) (name 2 0) of_record old a (declared 2 0) first_change (second_change ∷ []) texts_are_plain refl (of_name [] 2 0)
+      (rows.except [] (at 1) (1 ∷ 1 ∷ []) (name 2 0) of_record old a (declared 2 0) first_change
+      (second_change ∷ []) texts_are_plain refl (of_name [] 2 0)
       (rows.one_change [] old 1 (1 ∷ []) of_record first_change (second_change ∷ [])
       (rows.last_level [] old _ _ (level (text 3 a_field) 0) (constant 4 1) (of_text [] 3 a_field) (of_number _ 4 1))
       (rows.one_change [] old 1 [] _ second_change []
@@ -208,14 +226,16 @@ module _ (a : Ty) where
   of_quotient : Builds None [] quotient built_quotient
   of_quotient =
       built None [] (at 5) op.Div (number 4 1 ∷ number 6 0 ∷ []) [] _
-      (rows.same [] (at 5) op.Div ker.Quotient (number 4 1 ∷ number 6 0 ∷ []) [] a (constant 4 1 ∷ constant 6 0 ∷ []) refl refl
+      (rows.same [] (at 5) op.Div ker.Quotient (number 4 1 ∷ number 6 0 ∷ []) [] a
+      (constant 4 1 ∷ constant 6 0 ∷ []) refl refl
       (two [] _ _ _ _ (of_number [] 4 1) (of_number [] 6 0)))
 
   abbrev along : Change
   along = change (level (constant 3 1) 2 ∷ level built_quotient 3 ∷ []) (constant 7 2)
 
   not_plain : all_plain (indexes (along ∷ [])) ≡ false
-  not_plain = ap (λ (x : Ker-F Ker). is_plain_op x.op && true) (out-roll-Ker (root 5 ker.Quotient (constant 4 1 ∷ constant 6 0 ∷ [])))
+  not_plain = ap (λ (x : Ker-F Ker). is_plain_op x.op && true)
+      (out-roll-Ker (root 5 ker.Quotient (constant 4 1 ∷ constant 6 0 ∷ [])))
 
   -- what the operands' roots show: of the function, of the first index, which stays a literal, and of the second
   abbrev updated_along : Ker-F Ker → Ker-F Ker → Ker-F Ker → Ker
@@ -230,17 +250,38 @@ module _ (a : Ty) where
       else at_root (record j { ty = a }) (ker.Item 2) (at_root (record j { ty = a }) (ker.Item 2) (y j ∷ []) ∷ []))
       ∷ constant 7 2 ∷ []) (3 ∷ []) ∷ []) (2 ∷ []))
 
-  path_change : Builds None [] (roll-Expr (record { place = at 1; op = op.Except (2 ∷ []); args = name 2 0 ∷ number 3 1 ∷ quotient ∷ number 7 2 ∷ []; binds = old ∷ [] }))
+  path_change : Builds None []
+      (roll-Expr
+      (record {
+        place = at 1;
+        op = op.Except
+            (2 ∷ []);
+        args = name 2 0 ∷ number 3 1 ∷ quotient ∷ number 7 2 ∷ [];
+        binds = old ∷ [];
+      }))
       (let_of 1 (plain 1 ker.TupOf (declared 2 0 ∷ plain 1 ker.TupOf (constant 3 1 ∷ built_quotient ∷ []) ∷ []))
       (node 1 ker.Update (plain 2 (ker.Item 1) (bound 2 1 ∷ []) ∷ constant 3 1
-      ∷ node 1 ker.Update (bound 1 2 ∷ plain 5 (ker.Item 2) (plain 5 (ker.Item 2) (bound 5 1 ∷ []) ∷ []) ∷ constant 7 2 ∷ []) (3 ∷ []) ∷ []) (2 ∷ [])))
+      ∷ node 1 ker.Update
+      (bound 1 2 ∷ plain 5 (ker.Item 2) (plain 5 (ker.Item 2) (bound 5 1 ∷ []) ∷ []) ∷ constant 7 2 ∷ [])
+      (3 ∷ []) ∷ []) (2 ∷ [])))
   path_change =
-      subst (Builds None [] (roll-Expr (record { place = at 1; op = op.Except (2 ∷ []); args = name 2 0 ∷ number 3 1 ∷ quotient ∷ number 7 2 ∷ []; binds = old ∷ [] })))
-      (λ i. updated_along (out-roll-Ker (root 2 (ker.Name 0 false) []) i) (out-roll-Ker (root 3 (ker.Const (value.Int (pos 1))) []) i)
+      subst (Builds None []
+      (roll-Expr (record {
+        place = at 1;
+        op = op.Except
+            (2 ∷ []);
+        args = name 2 0 ∷ number 3 1 ∷ quotient ∷ number 7 2 ∷ [];
+        binds = old ∷ [];
+      })))
+      (λ i. updated_along (out-roll-Ker (root 2 (ker.Name 0 false) []) i)
+      (out-roll-Ker (root 3 (ker.Const (value.Int (pos 1))) []) i)
       (out-roll-Ker (root 5 ker.Quotient (constant 4 1 ∷ constant 6 0 ∷ [])) i))
       (built None [] (at 1) (op.Except (2 ∷ [])) (name 2 0 ∷ number 3 1 ∷ quotient ∷ number 7 2 ∷ []) (old ∷ []) _
-      (rows.except_let [] (at 1) (2 ∷ []) (name 2 0) (number 3 1 ∷ quotient ∷ number 7 2 ∷ []) old the_let a (declared 2 0) (along ∷ []) refl not_plain (of_name [] 2 0)
+      (rows.except_let [] (at 1) (2 ∷ []) (name 2 0) (number 3 1 ∷ quotient ∷ number 7 2 ∷ []) old the_let a
+      (declared 2 0) (along ∷ []) refl not_plain (of_name [] 2 0)
       (rows.one_change [] old 2 [] (number 3 1 ∷ quotient ∷ number 7 2 ∷ []) along []
-      (rows.one_level [] old 1 (number 3 1) (quotient ∷ number 7 2 ∷ []) (level (constant 3 1) 2) (level built_quotient 3) [] (constant 7 2) (of_number [] 3 1)
-      (rows.last_level [] old quotient (number 7 2) (level built_quotient 3) (constant 7 2) of_quotient (of_number _ 7 2)))
+      (rows.one_level [] old 1 (number 3 1) (quotient ∷ number 7 2 ∷ []) (level (constant 3 1) 2)
+      (level built_quotient 3) [] (constant 7 2) (of_number [] 3 1)
+      (rows.last_level [] old quotient (number 7 2) (level built_quotient 3) (constant 7 2) of_quotient
+      (of_number _ 7 2)))
       (rows.no_changes [] old))))

@@ -9,8 +9,10 @@ use Rattle.kernel_trees.specs.declared.kernel.Ker.{Ker}
 use Rattle.kera_reducer.specs.Reduction.{Numbering}
 use Rattle.kera_reducer.specs.inner.Builds.{Builds, BuildsNode, at_node}
 
-pub built : (i : Option Assignable) (ρ : Numbering) (p : Place) (o : Op) (es : List Expr) (xs : List (List ℕ)) (k : Ker) →
+pub built : (i : Option Assignable) (ρ : Numbering) (p : Place) (o : Op) (es : List Expr) (xs : List (List ℕ))
+    (k : Ker) →
     BuildsNode i ρ p o es xs k → Builds i ρ (roll-Expr (record { place = p; op = o; args = es; binds = xs })) k
 built i ρ p o es xs k b =
     at_node i ρ _ k
-    (subst (λ (x : Expr-F Expr). BuildsNode i ρ x.place x.op x.args x.binds k) (sym (out-roll-Expr (record { place = p; op = o; args = es; binds = xs }))) b)
+    (subst (λ (x : Expr-F Expr). BuildsNode i ρ x.place x.op x.args x.binds k)
+    (sym (out-roll-Expr (record { place = p; op = o; args = es; binds = xs }))) b)

@@ -98,7 +98,8 @@ module _ (w : Width) (s t : State) where
       ∙ split_pair (ker_val w k b s t) (index_vals (l ∷ ls) b)
       ∙ strict_same (ker_val w k b s t ∷ index_vals (l ∷ ls) b) _ _ by
     where
-      by : (vs : List Value) → ker_val w k b s t ∷ ker_val w l.index b s t ∷ index_vals ls b ≡ map Val vs → paired vs ≡ Val (nested vs)
+      by : (vs : List Value) → ker_val w k b s t ∷ ker_val w l.index b s t ∷ index_vals ls b ≡ map Val vs →
+          paired vs ≡ Val (nested vs)
       by [] e = absurd (cons≢none e)
       by (v ∷ []) e = absurd (cons≢none (other_values e))
       by (v ∷ u ∷ vs) e = refl
@@ -123,7 +124,8 @@ matches_more [] (v ∷ u ∷ vs) r h = absurd h
 matches_more (q ∷ rs) [] r h = absurd h
 matches_more (q ∷ rs) (v ∷ vs) r h = matches_more rs vs r h
 
-more_more : (rs : List Ty) (vs : List Value) (r : Ty) (u : Value) → OneMore rs vs → OneMore (rs ++ r ∷ []) (vs ++ u ∷ [])
+more_more : (rs : List Ty) (vs : List Value) (r : Ty) (u : Value) → OneMore rs vs →
+    OneMore (rs ++ r ∷ []) (vs ++ u ∷ [])
 more_more [] [] r u h = absurd h
 more_more [] (v ∷ []) r u h = tt
 more_more [] (v ∷ x ∷ vs) r u h = absurd h
@@ -139,21 +141,24 @@ both_nil [] ys = refl
 both_nil (x ∷ xs) ys = refl
 
 module _ (w : Width) (wide : is_wide w ≡ true) (s t : State) (c : Scope) where
-  first_item : (q : Place) (a : Ty) (y : Ker) (u v : Value) → ker_val w y c s t ≡ Val (both_of u v) → ker_val w (item q a 1 y) c s t ≡ Val u
+  first_item : (q : Place) (a : Ty) (y : Ker) (u v : Value) → ker_val w y c s t ≡ Val (both_of u v) →
+      ker_val w (item q a 1 y) c s t ≡ Val u
   first_item q a y u v h =
       val_item w s t q a 1 y [] c
       ∙ (λ i. strict (h i ∷ number_there w q (pos 1) (fits_all w wide (pos 1) refl) i ∷ []) (table w q op.Apply))
       ∙ ap (λ (x : Layer Value). applied q x (value.Int (pos 1))) (value.outs-Fun _)
       ∙ ap (or_wrong q) (first_of u v)
 
-  second_item : (q : Place) (a : Ty) (y : Ker) (u v : Value) → ker_val w y c s t ≡ Val (both_of u v) → ker_val w (item q a 2 y) c s t ≡ Val v
+  second_item : (q : Place) (a : Ty) (y : Ker) (u v : Value) → ker_val w y c s t ≡ Val (both_of u v) →
+      ker_val w (item q a 2 y) c s t ≡ Val v
   second_item q a y u v h =
       val_item w s t q a 2 y [] c
       ∙ (λ i. strict (h i ∷ number_there w q (pos 2) (fits_all w wide (pos 2) refl) i ∷ []) (table w q op.Apply))
       ∙ ap (λ (x : Layer Value). applied q x (value.Int (pos 2))) (value.outs-Fun _)
       ∙ ap (or_wrong q) (second_of u v)
 
-  behind_val : (q : Place) (y : Ker) (rs : List Ty) (us vs : List Value) → Matches rs us → is_nil vs ≡ false → ker_val w y c s t ≡ Val (nested (us ++ vs)) →
+  behind_val : (q : Place) (y : Ker) (rs : List Ty) (us vs : List Value) → Matches rs us → is_nil vs ≡ false →
+      ker_val w y c s t ≡ Val (nested (us ++ vs)) →
       ker_val w (behind q y rs) c s t ≡ Val (nested vs)
   behind_val q y [] [] vs m h e = e
   behind_val q y [] (u ∷ us) vs m h e = absurd m
@@ -163,7 +168,8 @@ module _ (w : Width) (wide : is_wide w ≡ true) (s t : State) (c : Scope) where
       (second_item q r y u (nested (us ++ vs)) (e ∙ ap Val (nested_more u (us ++ vs) (not_nil us vs h))))
 
   -- an operand, where what is named has these values before it and behind it
-  pub operand_val : (l : Let) (ty : Ty) (rs : List Ty) (last : Bool) (k : Ker) (us : List Value) (v : Value) (vs : List Value) →
+  pub operand_val : (l : Let) (ty : Ty) (rs : List Ty) (last : Bool) (k : Ker) (us : List Value) (v : Value)
+      (vs : List Value) →
       find_last (number_name l.named) c.bound ≡ Some (nested (us ++ v ∷ vs)) → Matches rs us → is_nil vs ≡ last →
       ker_val w (operand_at l ty rs last k) c s t ≡ Val v
   operand_val l ty rs last k us v vs q m h = by last h
@@ -182,7 +188,8 @@ module _ (w : Width) (wide : is_wide w ≡ true) (s t : State) (c : Scope) where
       by false h = first_item (place_of k) (type_of k) _ v (nested vs) (left ∙ ap Val (nested_more v vs h))
 
 -- a literal is the same everywhere
-pub literal_same : (w : Width) (s t : State) (k : Ker) (b c : Scope) → is_literal k ≡ true → ker_val w k c s t ≡ ker_val w k b s t
+pub literal_same : (w : Width) (s t : State) (k : Ker) (b c : Scope) → is_literal k ≡ true →
+    ker_val w k c s t ≡ ker_val w k b s t
 literal_same w s t k b c h = by (op_at k) refl h
   where
     by : (o : KerOp) → op_at k ≡ o → is_literal_op o ≡ true → ker_val w k c s t ≡ ker_val w k b s t
@@ -208,8 +215,10 @@ module _ (w : Width) (wide : is_wide w ≡ true) (s t : State) (b : Scope) where
   not_twice true = refl
   not_twice false = refl
 
-  index_val : (l : Let) (ty : Ty) (rs : List Ty) (last : Bool) (k : Ker) (us : List Value) (v : Value) (vs : List Value) (c : Scope) →
-      ker_val w k b s t ≡ Val v → find_last (number_name l.named) c.bound ≡ Some (nested (us ++ v ∷ vs)) → Matches rs us → is_nil vs ≡ last →
+  index_val : (l : Let) (ty : Ty) (rs : List Ty) (last : Bool) (k : Ker) (us : List Value) (v : Value)
+      (vs : List Value) (c : Scope) →
+      ker_val w k b s t ≡ Val v → find_last (number_name l.named) c.bound ≡ Some (nested (us ++ v ∷ vs)) →
+      Matches rs us → is_nil vs ≡ last →
       ker_val w (index_at l ty rs last k) c s t ≡ Val v
   index_val l ty rs last k us v vs c e q m h = by (is_literal k) refl
     where
@@ -237,34 +246,43 @@ module _ (w : Width) (wide : is_wide w ≡ true) (s t : State) (b : Scope) where
 
     -- ---- where they are read
 
-    module _ (l : Let) (ty : Ty) (whole : Value) (names : (c : Scope) → P c → find_last (number_name l.named) c.bound ≡ Some whole) where
-      levels_read : (rs : List Ty) (us : List Value) (more : Bool) (ls : List Level) (vs later : List Value) → OneMore rs us → HaveValues ls vs →
-          whole ≡ nested (us ++ (vs ++ later)) → is_nil later ≡ not more → HasLevels w s t p P (read_levels l ty rs more ls) vs
+    module _ (l : Let) (ty : Ty) (whole : Value)
+        (names : (c : Scope) → P c → find_last (number_name l.named) c.bound ≡ Some whole) where
+      levels_read : (rs : List Ty) (us : List Value) (more : Bool) (ls : List Level) (vs later : List Value) →
+          OneMore rs us → HaveValues ls vs →
+          whole ≡ nested (us ++ (vs ++ later)) → is_nil later ≡ not more →
+          HasLevels w s t p P (read_levels l ty rs more ls) vs
       levels_read rs us more [] [] later o h e g = tt
       levels_read rs us more [] (v ∷ vs) later o h e g = absurd h
       levels_read rs us more (x ∷ xs) [] later o h e g = absurd h
       levels_read rs us more (x ∷ xs) (v ∷ vs) later o h e g = (
-        λ c q. index_val l ty (rs ++ x.rest ∷ []) (is_nil xs && not more) x.index us v (vs ++ later) c h.0 (names c q ∙ ap Some e)
+        λ c q. index_val l ty (rs ++ x.rest ∷ []) (is_nil xs && not more) x.index us v (vs ++ later) c h.0
+            (names c q ∙ ap Some e)
             (matches_more rs us x.rest o) (both_nil vs later ∙ ap₂ (λ m n. m && n) (nil_same xs vs h.1) g),
         levels_read (rs ++ x.rest ∷ []) (us ++ v ∷ []) more xs vs later (more_more rs us x.rest v o) h.1
             (e ∙ ap nested (sym (append_assoc us (v ∷ []) (vs ++ later)))) g,
       )
 
-      last_read : (rs : List Ty) (more : Bool) (ls : List Level) → last_number (read_levels l ty rs more ls) ≡ last_number ls
+      last_read : (rs : List Ty) (more : Bool) (ls : List Level) →
+          last_number (read_levels l ty rs more ls) ≡ last_number ls
       last_read rs more [] = refl
       last_read rs more (x ∷ []) = refl
       last_read rs more (x ∷ y ∷ ls) = last_read (rs ++ x.rest ∷ []) more (y ∷ ls)
 
-      closed_read : (rs : List Ty) (more : Bool) (ls : List Level) → Closed w s t p P ls → Closed w s t p P (read_levels l ty rs more ls)
+      closed_read : (rs : List Ty) (more : Bool) (ls : List Level) → Closed w s t p P ls →
+          Closed w s t p P (read_levels l ty rs more ls)
       closed_read rs more [] h = tt
       closed_read rs more (x ∷ xs) h = (h.0, closed_read (rs ++ x.rest ∷ []) more xs h.1)
 
-      some_read : (rs : List Ty) (more : Bool) (ls : List Level) → is_nil ls ≡ false → is_nil (read_levels l ty rs more ls) ≡ false
+      some_read : (rs : List Ty) (more : Bool) (ls : List Level) → is_nil ls ≡ false →
+          is_nil (read_levels l ty rs more ls) ≡ false
       some_read rs more [] h = absurd (true≢false h)
       some_read rs more (x ∷ xs) h = refl
 
-      more_all : (rs : List Ty) (us : List Value) (ls : List Level) (vs : List Value) → OneMore rs us → HaveValues ls vs → OneMore (rs ++ map (λ x. x.rest) ls) (us ++ vs)
-      more_all rs us [] [] o h = subst (λ z. OneMore z (us ++ [])) (sym (append-nil rs)) (subst (OneMore rs) (sym (append-nil us)) o)
+      more_all : (rs : List Ty) (us : List Value) (ls : List Level) (vs : List Value) → OneMore rs us →
+          HaveValues ls vs → OneMore (rs ++ map (λ x. x.rest) ls) (us ++ vs)
+      more_all rs us [] [] o h =
+          subst (λ z. OneMore z (us ++ [])) (sym (append-nil rs)) (subst (OneMore rs) (sym (append-nil us)) o)
       more_all rs us [] (v ∷ vs) o h = absurd h
       more_all rs us (x ∷ xs) [] o h = absurd h
       more_all rs us (x ∷ xs) (v ∷ vs) o h =
@@ -277,22 +295,27 @@ module _ (w : Width) (wide : is_wide w ≡ true) (s t : State) (b : Scope) where
       values_nil [] (y ∷ ys) h = absurd h
       values_nil (u ∷ us) [] h = absurd h
       values_nil (u ∷ us) (y ∷ ys) h =
-          both_nil y.0 (all_values ys) ∙ ap (λ z. z && is_nil (all_values ys)) (nil_same u.levels y.0 h.0.indexes ∙ h.0.some)
+          both_nil y.0 (all_values ys)
+          ∙ ap (λ z. z && is_nil (all_values ys)) (nil_same u.levels y.0 h.0.indexes ∙ h.0.some)
 
-      pub changes_read : (rs : List Ty) (vs : List Value) (us : List Change) (ys : List Update) → OneMore rs vs → AllGiven us ys →
+      pub changes_read : (rs : List Ty) (vs : List Value) (us : List Change) (ys : List Update) → OneMore rs vs →
+          AllGiven us ys →
           whole ≡ nested (vs ++ all_values ys) → HasChanges w s t p P (read_changes l ty rs us) ys
       changes_read rs vs [] [] o h e = tt
       changes_read rs vs [] (y ∷ ys) o h e = absurd h
       changes_read rs vs (u ∷ us) [] o h e = absurd h
       changes_read rs vs (u ∷ us) (y ∷ ys) o h e = (
         record {
-          levels = levels_read rs vs (not (is_nil us)) u.levels y.0 (all_values ys) o h.0.indexes e (values_nil us ys h.1 ∙ sym (not_twice (is_nil us)));
+          levels = levels_read rs vs (not (is_nil us)) u.levels y.0 (all_values ys) o h.0.indexes e
+              (values_nil us ys h.1 ∙ sym (not_twice (is_nil us)));
           closed = closed_read rs (not (is_nil us)) u.levels h.0.closed;
           right = λ c q old n.
-              ap (λ z. ker_val w u.right (bind (number_name z ∷ []) (old ∷ []) c) s t) (last_read rs (not (is_nil us)) u.levels) ∙ h.0.right c q old n;
+              ap (λ z. ker_val w u.right (bind (number_name z ∷ []) (old ∷ []) c) s t)
+              (last_read rs (not (is_nil us)) u.levels) ∙ h.0.right c q old n;
           normal = h.0.normal;
           some = some_read rs (not (is_nil us)) u.levels h.0.some;
         },
-        changes_read (rs ++ map (λ x. x.rest) u.levels) (vs ++ y.0) us ys (more_all rs vs u.levels y.0 o h.0.indexes) h.1
+        changes_read (rs ++ map (λ x. x.rest) u.levels) (vs ++ y.0) us ys
+            (more_all rs vs u.levels y.0 o h.0.indexes) h.1
             (e ∙ ap nested (sym (append_assoc vs y.0 (all_values ys)))),
       )

@@ -25,7 +25,8 @@ node_means w p o es xs a =
     denotation_of w p o (length xs) (view p (role o (length xs)) xs (map (meaning w) es) a)
 
 -- the same value and the same form as a node
-pub record KeepsNode (w : Width) (ρ : Numbering) (p : Place) (o : Op) (es : List Expr) (xs : List (List ℕ)) (k : Ker) : Type 0 where
+pub record KeepsNode (w : Width) (ρ : Numbering) (p : Place) (o : Op) (es : List Expr) (xs : List (List ℕ))
+    (k : Ker) : Type 0 where
   pub value : (a b : Scope) (s t : State) → Matched ρ a b s t → (node_means w p o es xs a).value s t ≡ ker_val w k b s t
   pub form : (a b : Scope) (s t : State) → Matched ρ a b s t → (node_means w p o es xs a).form s t ≡ ker_form w k b s t
 
@@ -62,19 +63,22 @@ module _ (w : Width) (ρ : Numbering) (s t : State) where
   abbrev pub ker_forms : List Ker → Scope → List Formed
   ker_forms ks b = map (λ k. ker_form w k b s t) ks
 
-  pub vals_kept : (es : List Expr) (ks : List Ker) (a b : Scope) → KeepsEach w ρ es ks → Matched ρ a b s t → job_vals es a ≡ ker_vals ks b
+  pub vals_kept : (es : List Expr) (ks : List Ker) (a b : Scope) → KeepsEach w ρ es ks → Matched ρ a b s t →
+      job_vals es a ≡ ker_vals ks b
   vals_kept [] [] a b h r = refl
   vals_kept [] (k ∷ ks) a b h r = absurd h
   vals_kept (e ∷ es) [] a b h r = absurd h
   vals_kept (e ∷ es) (k ∷ ks) a b h r = λ i. h.0.value a b s t r i ∷ vals_kept es ks a b h.1 r i
 
-  pub forms_kept : (es : List Expr) (ks : List Ker) (a b : Scope) → KeepsEach w ρ es ks → Matched ρ a b s t → job_forms es a ≡ ker_forms ks b
+  pub forms_kept : (es : List Expr) (ks : List Ker) (a b : Scope) → KeepsEach w ρ es ks → Matched ρ a b s t →
+      job_forms es a ≡ ker_forms ks b
   forms_kept [] [] a b h r = refl
   forms_kept [] (k ∷ ks) a b h r = absurd h
   forms_kept (e ∷ es) [] a b h r = absurd h
   forms_kept (e ∷ es) (k ∷ ks) a b h r = λ i. h.0.form a b s t r i ∷ forms_kept es ks a b h.1 r i
 
-  outcomes_job : (p : Place) (es : List Expr) (a : Scope) → outcomes (outer p [] (map (meaning w) es) a) s t ≡ job_vals es a
+  outcomes_job : (p : Place) (es : List Expr) (a : Scope) →
+      outcomes (outer p [] (map (meaning w) es) a) s t ≡ job_vals es a
   outcomes_job p [] a = refl
   outcomes_job p (e ∷ es) a = ap (λ (os : List Outcome). val w e a s t ∷ os) (outcomes_job p es a)
 
@@ -83,19 +87,24 @@ module _ (w : Width) (ρ : Numbering) (s t : State) where
   forms_job p (e ∷ es) a = ap (λ (fs : List Formed). (meaning w e a).form s t ∷ fs) (forms_job p es a)
 
   -- the operands' outcomes and forms are those of the kernel's children
-  pub operands_kept : (p : Place) (es : List Expr) (ks : List Ker) (a b : Scope) → KeepsEach w ρ es ks → Matched ρ a b s t →
+  pub operands_kept : (p : Place) (es : List Expr) (ks : List Ker) (a b : Scope) → KeepsEach w ρ es ks →
+      Matched ρ a b s t →
       outcomes (outer p [] (map (meaning w) es) a) s t ≡ ker_vals ks b
   operands_kept p es ks a b h r = outcomes_job p es a ∙ vals_kept es ks a b h r
 
-  pub operand_forms_kept : (p : Place) (es : List Expr) (ks : List Ker) (a b : Scope) → KeepsEach w ρ es ks → Matched ρ a b s t →
+  pub operand_forms_kept : (p : Place) (es : List Expr) (ks : List Ker) (a b : Scope) → KeepsEach w ρ es ks →
+      Matched ρ a b s t →
       forms (outer p [] (map (meaning w) es) a) s t ≡ ker_forms ks b
   operand_forms_kept p es ks a b h r = forms_job p es a ∙ forms_kept es ks a b h r
 
 -- ---- a row that is no set form: its values are enough
 
-pub plain_row : (w : Width) (ρ : Numbering) (p q : Place) (o : Op) (es : List Expr) (xs : List (List ℕ)) (c : Ty) (ko : KerOp) (ks : List Ker) (ns : List ℕ) →
-    ((a : Scope) (s t : State) → (node_means w p o es xs a).form s t ≡ plain ((node_means w p o es xs a).value s t)) → ((s t : State) → is_form w s t ko ≡ false) →
-    ((a b : Scope) (s t : State) → Matched ρ a b s t → (node_means w p o es xs a).value s t ≡ ker_val w (tree q c ko ks ns) b s t) →
+pub plain_row : (w : Width) (ρ : Numbering) (p q : Place) (o : Op) (es : List Expr) (xs : List (List ℕ)) (c : Ty)
+    (ko : KerOp) (ks : List Ker) (ns : List ℕ) →
+    ((a : Scope) (s t : State) → (node_means w p o es xs a).form s t ≡ plain ((node_means w p o es xs a).value s t)) →
+    ((s t : State) → is_form w s t ko ≡ false) →
+    ((a b : Scope) (s t : State) → Matched ρ a b s t →
+    (node_means w p o es xs a).value s t ≡ ker_val w (tree q c ko ks ns) b s t) →
     KeepsNode w ρ p o es xs (tree q c ko ks ns)
 plain_row w ρ p q o es xs c ko ks ns f g h = record {
   value = h;

@@ -23,7 +23,12 @@ keeps_outcomes w i ρ e k h q b = keeps w h i ρ e k b (silent i e q)
 whole : (s t : State) → All Normal s.vals → All Normal t.vals → Matched [] no_scope no_scope s t
 whole s t g h = record {
   tied = λ x. refl;
-  normal = record { bound = tt; named = refl; now = recursion_from_All Normal s.vals g; next = recursion_from_All Normal t.vals h };
+  normal = record {
+    bound = tt;
+    named = refl;
+    now = recursion_from_All Normal s.vals g;
+    next = recursion_from_All Normal t.vals h;
+  };
 }
 
 pub has_value : (w : Width) (e : Expr) (k : Ker) (s t : State) → HasValueOf w e k s t

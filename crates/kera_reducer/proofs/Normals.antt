@@ -34,12 +34,14 @@ normal_scope a h q = record { bound = h; named = subst (λ ds. AllByRecursion (�
 pub outcome_normal : (w : Width) (e : Expr) (a : Scope) (s t : State) → IsNormal a s t → IsNormalOutcome (val w e a s t)
 outcome_normal w e a s t n = (meaning_normal w e a (normal_scope a n.bound n.named)).value s t n.now n.next
 
-bound_normal : (xs : List (List ℕ)) (vs : List Value) → Normals vs → AllByRecursion (λ (b : List ℕ × Value). Normal b.1) (bound_to xs vs)
+bound_normal : (xs : List (List ℕ)) (vs : List Value) → Normals vs →
+    AllByRecursion (λ (b : List ℕ × Value). Normal b.1) (bound_to xs vs)
 bound_normal [] vs h = tt
 bound_normal (x ∷ xs) [] h = (truth_normal false, bound_normal xs [] h)
 bound_normal (x ∷ xs) (v ∷ vs) h = (h.0, bound_normal xs vs h.1)
 
-pub bind_normal : (xs : List (List ℕ)) (vs : List Value) (a : Scope) (s t : State) → Normals vs → IsNormal a s t → IsNormal (bind xs vs a) s t
+pub bind_normal : (xs : List (List ℕ)) (vs : List Value) (a : Scope) (s t : State) → Normals vs → IsNormal a s t →
+    IsNormal (bind xs vs a) s t
 bind_normal xs vs a s t h n = record {
   bound = all_plus (λ b. Normal b.1) a.bound (bound_to xs vs) n.bound (bound_normal xs vs h);
   named = n.named;
@@ -48,9 +50,11 @@ bind_normal xs vs a s t h n = record {
 }
 
 -- under the names of a binder
-pub matched_bind : (xs : List (List ℕ)) (ns : List ℕ) (vs : List Value) (ρ : Numbering) (a b : Scope) (s t : State) → all_fresh xs ns ρ ≡ true → Normals vs →
+pub matched_bind : (xs : List (List ℕ)) (ns : List ℕ) (vs : List Value) (ρ : Numbering) (a b : Scope) (s t : State) →
+    all_fresh xs ns ρ ≡ true → Normals vs →
     Matched ρ a b s t → Matched (numbered xs ns ρ) (bind xs vs a) (bind (names_of ns) vs b) s t
-matched_bind xs ns vs ρ a b s t f h r = record { tied = tied_bind xs ns vs ρ a b f r.tied; normal = bind_normal xs vs a s t h r.normal }
+matched_bind xs ns vs ρ a b s t f h r =
+    record { tied = tied_bind xs ns vs ρ a b f r.tied; normal = bind_normal xs vs a s t h r.normal }
 
 -- ---- binders
 
@@ -63,37 +67,48 @@ values_normal (Big q ∷ os) h = values_normal os h.1
 abbrev pub of_sets : Place → Op → List Outcome → (List Value → Outcome) → Outcome
 of_sets p o os body = strict os (on_all_sets p (λ xss. strict (map body (choices xss)) (bound_table p o (choices xss))))
 
-each_same : (f g : List Value → Outcome) → ((vs : List Value) → Normals vs → f vs ≡ g vs) → (cs : List (List Value)) → NormalLists cs → map f cs ≡ map g cs
+each_same : (f g : List Value → Outcome) → ((vs : List Value) → Normals vs → f vs ≡ g vs) → (cs : List (List Value)) →
+    NormalLists cs → map f cs ≡ map g cs
 each_same f g h [] k = refl
 each_same f g h (c ∷ cs) k = λ i. h c k.0 i ∷ each_same f g h cs k.1 i
 
 -- bodies that agree at normal members
-pub over_same : (p : Place) (o : Op) (os : List Outcome) (f g : List Value → Outcome) → NormalOutcomes os → ((vs : List Value) → Normals vs → f vs ≡ g vs) →
+pub over_same : (p : Place) (o : Op) (os : List Outcome) (f g : List Value → Outcome) → NormalOutcomes os →
+    ((vs : List Value) → Normals vs → f vs ≡ g vs) →
     of_sets p o os f ≡ of_sets p o os g
-over_same p o os f g n h = ap (fault_or (joined os)) (by (all_set_items (values os)) (all_items_normal (values os) (values_normal os n)))
+over_same p o os f g n h =
+    ap (fault_or (joined os)) (by (all_set_items (values os)) (all_items_normal (values os) (values_normal os n)))
   where
     by : (x : Option (List (List Value))) → IfSomes (λ xss. AllByRecursion NormalSet xss) x →
-        elim x as (λ _. Outcome) [ None ↦ Wrong p | Some xss ↦ strict (map f (choices xss)) (bound_table p o (choices xss)) ]
-        ≡ elim x as (λ _. Outcome) [ None ↦ Wrong p | Some xss ↦ strict (map g (choices xss)) (bound_table p o (choices xss)) ]
+        elim x as (λ _.
+        Outcome) [ None ↦ Wrong p | Some xss ↦ strict (map f (choices xss)) (bound_table p o (choices xss)) ]
+        ≡ elim x as (λ _.
+        Outcome) [ None ↦ Wrong p | Some xss ↦ strict (map g (choices xss)) (bound_table p o (choices xss)) ]
     by None k = refl
-    by (Some xss) k = ap (λ zs. strict zs (bound_table p o (choices xss))) (each_same f g h (choices xss) (choices_normal xss (lists_of xss k)))
+    by (Some xss) k =
+        ap (λ zs. strict zs (bound_table p o (choices xss)))
+        (each_same f g h (choices xss) (choices_normal xss (lists_of xss k)))
 
 -- ---- folds
 
-folded_same : (f g : Value → Value → Outcome) → ((u v : Value) → Normal u → Normal v → f u v ≡ g u v) → ((u v : Value) → Normal u → Normal v → IsNormalOutcome (f u v)) →
+folded_same : (f g : Value → Value → Outcome) → ((u v : Value) → Normal u → Normal v → f u v ≡ g u v) →
+    ((u v : Value) → Normal u → Normal v → IsNormalOutcome (f u v)) →
     (xs : List Value) (v : Value) → Normals xs → Normal v → folded f xs v ≡ folded g xs v
 folded_same f g h k [] v n m = refl
 folded_same f g h k (x ∷ xs) v n m =
-    by (λ u l. folded_same f g h k xs u n.1 l) (f v x) (k v x m n.0) ∙ ap (λ o. with_value o (folded g xs)) (h v x m n.0)
+    by (λ u l. folded_same f g h k xs u n.1 l) (f v x) (k v x m n.0)
+    ∙ ap (λ o. with_value o (folded g xs)) (h v x m n.0)
   where
-    by : ((u : Value) → Normal u → folded f xs u ≡ folded g xs u) → (o : Outcome) → IsNormalOutcome o → with_value o (folded f xs) ≡ with_value o (folded g xs)
+    by : ((u : Value) → Normal u → folded f xs u ≡ folded g xs u) → (o : Outcome) → IsNormalOutcome o →
+        with_value o (folded f xs) ≡ with_value o (folded g xs)
     by rest (Val u) l = rest u l
     by rest (Wrong q) l = refl
     by rest (Big q) l = refl
 
 -- bodies that agree at normal values
 pub fold_same : (p : Place) (os : List Outcome) (f g : Value → Value → Outcome) → NormalOutcomes os →
-    ((u v : Value) → Normal u → Normal v → f u v ≡ g u v) → ((u v : Value) → Normal u → Normal v → IsNormalOutcome (f u v)) →
+    ((u v : Value) → Normal u → Normal v → f u v ≡ g u v) →
+    ((u v : Value) → Normal u → Normal v → IsNormalOutcome (f u v)) →
     strict os (fold_over p f) ≡ strict os (fold_over p g)
 fold_same p os f g n h k = ap (fault_or (joined os)) (by (values os) (values_normal os n))
   where
@@ -102,7 +117,8 @@ fold_same p os f g n h k = ap (fault_or (joined os)) (by (values os) (values_nor
         ≡ elim l as (λ _. Outcome) [ layer.Fun ps ↦ on_items p (λ xs. folded g xs v) (items_of ps) | _ ↦ Wrong p ]
     on_layer (layer.Fun ps) v m l = by_items (items_of ps) (items_of_normal ps l)
       where
-        by_items : (o : Option (List Value)) → IfSomes Normals o → on_items p (λ xs. folded f xs v) o ≡ on_items p (λ xs. folded g xs v) o
+        by_items : (o : Option (List Value)) → IfSomes Normals o →
+            on_items p (λ xs. folded f xs v) o ≡ on_items p (λ xs. folded g xs v) o
         by_items None l = refl
         by_items (Some xs) l = folded_same f g h k xs v l m
     on_layer l v m r = refl

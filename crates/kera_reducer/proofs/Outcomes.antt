@@ -25,7 +25,8 @@ use Rattle.tla_meaning.proofs.Joins.{both_comm}
 
 -- ---- operators that join their operands
 
-pub strict_by : (os : List Outcome) (f g : List Value → Outcome) → ((vs : List Value) → f vs ≡ g vs) → strict os f ≡ strict os g
+pub strict_by : (os : List Outcome) (f g : List Value → Outcome) → ((vs : List Value) → f vs ≡ g vs) →
+    strict os f ≡ strict os g
 strict_by os f g h = ap (fault_or (joined os)) (h (values os))
 
 left_none : (f g : Fault) → join_faults f g ≡ NoFault → f ≡ NoFault
@@ -36,9 +37,6 @@ left_none (IsWrong p) (IsBig q) e = e
 left_none (IsBig p) NoFault e = e
 left_none (IsBig p) (IsWrong q) e = cc
 left_none (IsBig p) (IsBig q) e = cc
-
-right_none : (f g : Fault) → join_faults f g ≡ NoFault → g ≡ NoFault
-right_none f g e = ap (λ x. join_faults x g) (sym (left_none f g e)) ∙ e
 
 wrong≢none : {p : Place} → IsWrong p ≡ NoFault → ⊥
 wrong≢none e = cc
@@ -54,7 +52,8 @@ all_values (Wrong p ∷ os) h = absurd (wrong≢none (left_none (IsWrong p) (joi
 all_values (Big p ∷ os) h = absurd (big≢none (left_none (IsBig p) (joined os) h))
 
 -- operators that agree where the operands have values
-pub strict_same : (os : List Outcome) (f g : List Value → Outcome) → ((vs : List Value) → os ≡ map Val vs → f vs ≡ g vs) → strict os f ≡ strict os g
+pub strict_same : (os : List Outcome) (f g : List Value → Outcome) →
+    ((vs : List Value) → os ≡ map Val vs → f vs ≡ g vs) → strict os f ≡ strict os g
 strict_same os f g h = by (joined os) refl
   where
     by : (x : Fault) → joined os ≡ x → fault_or x (f (values os)) ≡ fault_or x (g (values os))
@@ -84,7 +83,8 @@ negated w p o = strict (o ∷ []) (table w p op.Not)
 abbrev pub not_layer : Place → Layer Value → Outcome
 not_layer p l = by_truth p l (yes_no false) (yes_no true)
 
-pub negated_is : (w : Width) (p : Place) (v : Value) (l : Layer Value) → out-Value v ≡ l → negated w p (Val v) ≡ not_layer p l
+pub negated_is : (w : Width) (p : Place) (v : Value) (l : Layer Value) → out-Value v ≡ l →
+    negated w p (Val v) ≡ not_layer p l
 negated_is w p v l q = ap (at_layer w p) q ∙ by l
   where
     at_layer : Width → Place → Layer Value → Outcome
@@ -101,7 +101,8 @@ negated_is w p v l q = ap (at_layer w p) q ∙ by l
 pub not_truth : (w : Width) (p : Place) (b : Bool) → negated w p (yes_no b) ≡ yes_no (not b)
 not_truth w p b = ap (λ (l : Layer Value). on_truth p (λ a. yes_no (not a)) (l ∷ [])) (value.outs-Bool b)
 
-truth_opened : (p : Place) (b : Bool) (x y : Outcome) → by_truth p (out-Value (truth b)) x y ≡ by_truth p (layer.Bool b) x y
+truth_opened : (p : Place) (b : Bool) (x y : Outcome) →
+    by_truth p (out-Value (truth b)) x y ≡ by_truth p (layer.Bool b) x y
 truth_opened p b x y = ap (λ (l : Layer Value). by_truth p l x y) (value.outs-Bool b)
 
 -- a negation chooses the other way
@@ -119,12 +120,14 @@ choose_not w p (Val v) x y = ap (λ o. choose p o x y) (negated_is w p v (out-Va
     by (layer.Fun ps) = refl
 
 -- and is chosen so
-not_choose : (w : Width) (p : Place) (o : Outcome) (b c : Bool) → negated w p (choose p o (yes_no b) (yes_no c)) ≡ choose p o (yes_no (not b)) (yes_no (not c))
+not_choose : (w : Width) (p : Place) (o : Outcome) (b c : Bool) →
+    negated w p (choose p o (yes_no b) (yes_no c)) ≡ choose p o (yes_no (not b)) (yes_no (not c))
 not_choose w p (Wrong q) b c = refl
 not_choose w p (Big q) b c = refl
 not_choose w p (Val v) b c = by (out-Value v)
   where
-    by : (l : Layer Value) → negated w p (by_truth p l (yes_no b) (yes_no c)) ≡ by_truth p l (yes_no (not b)) (yes_no (not c))
+    by : (l : Layer Value) →
+        negated w p (by_truth p l (yes_no b) (yes_no c)) ≡ by_truth p l (yes_no (not b)) (yes_no (not c))
     by (layer.Bool true) = not_truth w p b
     by (layer.Bool false) = not_truth w p c
     by (layer.Int i) = refl
@@ -133,7 +136,8 @@ not_choose w p (Val v) b c = by (out-Value v)
     by (layer.Fun ps) = refl
 
 -- `a => b` is `~(a /\ ~b)`
-pub implies_row : (w : Width) (p : Place) (a b : Outcome) → implied p (a ∷ b ∷ []) ≡ negated w p (conjoined p (a ∷ negated w p b ∷ []))
+pub implies_row : (w : Width) (p : Place) (a b : Outcome) →
+    implied p (a ∷ b ∷ []) ≡ negated w p (conjoined p (a ∷ negated w p b ∷ []))
 implies_row w p (Wrong q) b = refl
 implies_row w p (Big q) b = refl
 implies_row w p (Val v) b = by (out-Value v)
@@ -150,7 +154,8 @@ implies_row w p (Val v) b = by (out-Value v)
     by (layer.Fun ps) = refl
 
 -- an operator that joins its operands, negated
-pub negated_strict : (w : Width) (p : Place) (os : List Outcome) (f g : List Value → Outcome) → ((vs : List Value) → negated w p (f vs) ≡ g vs) →
+pub negated_strict : (w : Width) (p : Place) (os : List Outcome) (f g : List Value → Outcome) →
+    ((vs : List Value) → negated w p (f vs) ≡ g vs) →
     negated w p (strict os f) ≡ strict os g
 negated_strict w p os f g h = by (joined os)
   where
@@ -173,22 +178,26 @@ not_in_set w p v f true = not_truth w p (belongs f v)
 not_in_set w p v f false = refl
 
 not_fault : (w : Width) (p : Place) (g : Fault) →
-    negated w p (elim g [ NoFault ↦ Wrong p | IsWrong q ↦ Wrong q | IsBig q ↦ Big q ]) ≡ elim g [ NoFault ↦ Wrong p | IsWrong q ↦ Wrong q | IsBig q ↦ Big q ]
+    negated w p (elim g [ NoFault ↦ Wrong p | IsWrong q ↦ Wrong q | IsBig q ↦ Big q ])
+    ≡ elim g [ NoFault ↦ Wrong p | IsWrong q ↦ Wrong q | IsBig q ↦ Big q ]
 not_fault w p NoFault = refl
 not_fault w p (IsWrong q) = refl
 not_fault w p (IsBig q) = refl
 
-no_forms : (p : Place) (test : Value → SetForm → Outcome) (o : Outcome) (os : List Outcome) → in_form p test (o ∷ os) [] ≡ Wrong p
+no_forms : (p : Place) (test : Value → SetForm → Outcome) (o : Outcome) (os : List Outcome) →
+    in_form p test (o ∷ os) [] ≡ Wrong p
 no_forms p test (Val v) os = refl
 no_forms p test (Wrong q) os = refl
 no_forms p test (Big q) os = refl
 
-one_form : (p : Place) (test : Value → SetForm → Outcome) (o : Outcome) (os : List Outcome) (d : Formed) → in_form p test (o ∷ os) (d ∷ []) ≡ Wrong p
+one_form : (p : Place) (test : Value → SetForm → Outcome) (o : Outcome) (os : List Outcome) (d : Formed) →
+    in_form p test (o ∷ os) (d ∷ []) ≡ Wrong p
 one_form p test (Val v) os d = refl
 one_form p test (Wrong q) os d = refl
 one_form p test (Big q) os d = refl
 
-more_forms : (p : Place) (test : Value → SetForm → Outcome) (o : Outcome) (os : List Outcome) (d f g : Formed) (fs : List Formed) →
+more_forms : (p : Place) (test : Value → SetForm → Outcome) (o : Outcome) (os : List Outcome) (d f g : Formed)
+    (fs : List Formed) →
     in_form p test (o ∷ os) (d ∷ f ∷ g ∷ fs) ≡ Wrong p
 more_forms p test (Val v) os d (Made f) g fs = refl
 more_forms p test (Val v) os d (Broken f) g fs = refl
@@ -204,7 +213,8 @@ not_in_row w p (Wrong q ∷ os) (d ∷ f ∷ []) = not_fault w p (join_faults (I
 not_in_row w p (Big q ∷ os) (d ∷ f ∷ []) = not_fault w p (join_faults (IsBig q) (form_fault f))
 not_in_row w p (o ∷ os) [] = ap (negated w p) (no_forms p _ o os) ∙ sym (no_forms p _ o os)
 not_in_row w p (o ∷ os) (d ∷ []) = ap (negated w p) (one_form p _ o os d) ∙ sym (one_form p _ o os d)
-not_in_row w p (o ∷ os) (d ∷ f ∷ g ∷ fs) = ap (negated w p) (more_forms p _ o os d f g fs) ∙ sym (more_forms p _ o os d f g fs)
+not_in_row w p (o ∷ os) (d ∷ f ∷ g ∷ fs) = ap (negated w p) (more_forms p _ o os d f g fs)
+    ∙ sym (more_forms p _ o os d f g fs)
 
 -- ---- comparisons
 
@@ -212,7 +222,8 @@ abbrev pub swapped_values : List Value → List Value
 swapped_values (u ∷ v ∷ []) = v ∷ u ∷ []
 swapped_values vs = vs
 
-pub strict_swapped : (a b : Outcome) (f : List Value → Outcome) → strict (b ∷ a ∷ []) f ≡ strict (a ∷ b ∷ []) (λ vs. f (swapped_values vs))
+pub strict_swapped : (a b : Outcome) (f : List Value → Outcome) →
+    strict (b ∷ a ∷ []) f ≡ strict (a ∷ b ∷ []) (λ vs. f (swapped_values vs))
 strict_swapped (Val u) (Val v) f = refl
 strict_swapped (Val u) (Wrong q) f = refl
 strict_swapped (Val u) (Big q) f = refl
@@ -230,11 +241,13 @@ one_number : (p : Place) (f : ℤ → ℤ → Outcome) (l : Layer Value) → on_
 one_number p f (layer.Int i) = refl
 one_number p f l = refl
 
-more_numbers : (p : Place) (f : ℤ → ℤ → Outcome) (k l m : Layer Value) (ls : List (Layer Value)) → on_numbers p f (k ∷ l ∷ m ∷ ls) ≡ Wrong p
+more_numbers : (p : Place) (f : ℤ → ℤ → Outcome) (k l m : Layer Value) (ls : List (Layer Value)) →
+    on_numbers p f (k ∷ l ∷ m ∷ ls) ≡ Wrong p
 more_numbers p f (layer.Int i) (layer.Int j) m ls = refl
 more_numbers p f k l m ls = refl
 
-two_numbers : (p : Place) (f g : ℤ → ℤ → Outcome) → ((i j : ℤ) → f j i ≡ g i j) → (k l : Layer Value) → on_numbers p f (l ∷ k ∷ []) ≡ on_numbers p g (k ∷ l ∷ [])
+two_numbers : (p : Place) (f g : ℤ → ℤ → Outcome) → ((i j : ℤ) → f j i ≡ g i j) → (k l : Layer Value) →
+    on_numbers p f (l ∷ k ∷ []) ≡ on_numbers p g (k ∷ l ∷ [])
 two_numbers p f g h (layer.Int i) (layer.Int j) = h i j
 two_numbers p f g h k (layer.Int j) = refl
 two_numbers p f g h k l = refl
@@ -263,7 +276,8 @@ pub not_less_at : (w : Width) (p : Place) (vs : List Value) → negated w p (tab
 not_less_at w p vs = not_numbers w p (map out-Value vs)
 
 -- `a <= b` is `b >= a`
-pub at_most_at : (w : Width) (p : Place) (vs : List Value) → negated w p (table w p op.Lt (swapped_values vs)) ≡ table w p op.Le vs
+pub at_most_at : (w : Width) (p : Place) (vs : List Value) →
+    negated w p (table w p op.Lt (swapped_values vs)) ≡ table w p op.Le vs
 at_most_at w p vs =
     not_less_at w p (swapped_values vs)
     ∙ swapped_numbers p (λ a b. yes_no (int_le b a)) (λ a b. yes_no (int_le a b)) (λ i j. refl) vs
@@ -273,12 +287,14 @@ at_most_at w p vs =
 zero_minus : (n : ℤ) → pos 0 -ℤ n ≡ neg_ℤ n
 zero_minus n = omega (arith, ints)
 
-pub negative_at : (w : Width) (p : Place) (vs : List Value) → table w p op.Sub (value.Int (pos 0) ∷ vs) ≡ table w p op.Neg vs
+pub negative_at : (w : Width) (p : Place) (vs : List Value) →
+    table w p op.Sub (value.Int (pos 0) ∷ vs) ≡ table w p op.Neg vs
 negative_at w p vs =
     ap (λ (l : Layer Value). on_numbers p (λ a b. number w p (a -ℤ b)) (l ∷ map out-Value vs)) (value.outs-Int (pos 0))
     ∙ by (map out-Value vs)
   where
-    by : (ls : List (Layer Value)) → on_numbers p (λ a b. number w p (a -ℤ b)) (layer.Int (pos 0) ∷ ls) ≡ on_number p (λ a. number w p (neg_ℤ a)) ls
+    by : (ls : List (Layer Value)) →
+        on_numbers p (λ a b. number w p (a -ℤ b)) (layer.Int (pos 0) ∷ ls) ≡ on_number p (λ a. number w p (neg_ℤ a)) ls
     by [] = refl
     by (layer.Int i ∷ []) = ap (number w p) (zero_minus i)
     by (l ∷ []) = refl
@@ -295,7 +311,9 @@ trues [] = ([], refl, refl)
 trues (c ∷ cs) =
     let h = trues cs in (
       true ∷ h.0,
-      ap (λ (l : Layer Value). option_and_then (λ b. option_map (λ bs. b ∷ bs) (truths (values (map (λ x. yes_no true) cs)))) (truth_of l)) (value.outs-Bool true)
+      ap (λ (l : Layer Value).
+          option_and_then (λ b. option_map (λ bs. b ∷ bs) (truths (values (map (λ x. yes_no true) cs)))) (truth_of l))
+          (value.outs-Bool true)
           ∙ ap (option_map (λ bs. true ∷ bs)) h.1,
       h.2,
     )
@@ -308,7 +326,8 @@ pub all_true : {X : Type 0} (p : Place) (cs : List X) →
     strict (map (λ x. yes_no true) cs) (on_all_truths p (λ bs. yes_no (list_all (λ b. b) bs))) ≡ yes_no true
 all_true p cs =
     let h = trues cs in
-    ap (λ x. fault_or x (on_all_truths p (λ bs. yes_no (list_all (λ b. b) bs)) (values (map (λ x. yes_no true) cs)))) (none_wrong cs)
+    ap (λ x. fault_or x (on_all_truths p (λ bs. yes_no (list_all (λ b. b) bs)) (values (map (λ x. yes_no true) cs))))
+    (none_wrong cs)
     ∙ ap (λ (o : Option (List Bool)). elim o [ None ↦ Wrong p | Some bs ↦ yes_no (list_all (λ b. b) bs) ]) h.1
     ∙ ap yes_no h.2
 
@@ -320,7 +339,8 @@ field_row w p a (Wrong q) = refl
 field_row w p a (Big q) = refl
 field_row w p a (Val v) = by (out-Value v)
   where
-    by : (l : Layer Value) → on_function p (λ ps. or_wrong p (apply ps (value.Text a))) (l ∷ []) ≡ applied p l (value.Text a)
+    by : (l : Layer Value) →
+        on_function p (λ ps. or_wrong p (apply ps (value.Text a))) (l ∷ []) ≡ applied p l (value.Text a)
     by (layer.Fun ps) = refl
     by (layer.Bool b) = refl
     by (layer.Int i) = refl

@@ -25,7 +25,8 @@ use Rattle.kera_reducer.specs.inner.Rows.{node}
 use Rattle.kera_reducer.specs.inner.Builds.{is_same}
 use Rattle.kera_reducer.proofs.Frame.{node_means, KeepsNode, KeepsEach, operands_kept, operand_forms_kept}
 
-module _ (w : Width) (ρ : Numbering) (p : Place) (es : List Expr) (xs : List (List ℕ)) (ks : List Ker) (h : KeepsEach w ρ es ks) where
+module _ (w : Width) (ρ : Numbering) (p : Place) (es : List Expr) (xs : List (List ℕ)) (ks : List Ker)
+    (h : KeepsEach w ρ es ks) where
   -- the operands of both, in scopes that are tied
   module _ (a b : Scope) (s t : State) (r : Matched ρ a b s t) where
     operands : outcomes (outer p [] (map (meaning w) es) a) s t ≡ outcomes (outer p [] (all_meanings w ks) b) s t
@@ -34,7 +35,8 @@ module _ (w : Width) (ρ : Numbering) (p : Place) (es : List Expr) (xs : List (L
     operand_forms : forms (outer p [] (map (meaning w) es) a) s t ≡ forms (outer p [] (all_meanings w ks) b) s t
     operand_forms = operand_forms_kept w ρ s t p es ks a b h r ∙ sym (forms_here w s t p ks b)
 
-    same_value_of : (o : KerOp) → is_same o ≡ true → (node_means w p (op_of o) es xs a).value s t ≡ (sense_at w p o 0 [] ks b).value s t
+    same_value_of : (o : KerOp) → is_same o ≡ true →
+        (node_means w p (op_of o) es xs a).value s t ≡ (sense_at w p o 0 [] ks b).value s t
     same_value_of (ker.Const v) g = absurd (false≢true g)
     same_value_of (ker.Name i primed) g = absurd (false≢true g)
     same_value_of (ker.Bound n) g = absurd (false≢true g)
@@ -55,7 +57,8 @@ module _ (w : Width) (ρ : Numbering) (p : Place) (es : List Expr) (xs : List (L
     same_value_of ker.Included g = ap₂ (in_form p (all_in p)) operands operand_forms
     same_value_of o g = ap (λ (os : List Outcome). strict os (table w p (op_of o))) operands
 
-    same_form_of : (o : KerOp) → is_same o ≡ true → (node_means w p (op_of o) es xs a).form s t ≡ (sense_at w p o 0 [] ks b).form s t
+    same_form_of : (o : KerOp) → is_same o ≡ true →
+        (node_means w p (op_of o) es xs a).form s t ≡ (sense_at w p o 0 [] ks b).form s t
     same_form_of (ker.Const v) g = absurd (false≢true g)
     same_form_of (ker.Name i primed) g = absurd (false≢true g)
     same_form_of (ker.Bound n) g = absurd (false≢true g)

@@ -1,5 +1,5 @@
--- What the reduction keeps, as laws: of each tree that is built, and of whole parts of a job. Source: Konnov, Kukovec and
--- Tran, "TLA+ Model Checking Made Symbolic", OOPSLA 2019, on the reduction to KerA+.
+-- What the reduction keeps, as laws: of each tree that is built, and of whole parts of a job. Source: Konnov, Kukovec
+-- and Tran, "TLA+ Model Checking Made Symbolic", OOPSLA 2019, on the reduction to KerA+.
 use Rattle.std.specs.Prelude.{◌≡◌, false, IsTrue, All, [], Option, None, Some}
 use Rattle.tla_values.specs.Sets.{Normal}
 use Rattle.tla_meaning.specs.declared.actions.Assignable.{Assignable}

@@ -24,9 +24,9 @@ abbrev pub Tied : Numbering → Scope → Scope → Type 0
 Tied ρ a b =
     (x : List ℕ) → find_last x a.bound ≡ option_and_then (λ n. find_last (number_name n) b.bound) (find_last x ρ)
 
--- the scopes are tied, and all values that a tree reads are normal. Where a function has an argument twice, which no value
--- of the language has, an EXCEPT of two indexes is not what two nested ones are: `[f EXCEPT ![i][j] = e]` leaves such an f
--- as it is where j is no argument of f[i].
+-- the scopes are tied, and all values that a tree reads are normal. Where a function has an argument twice, which no
+-- value of the language has, an EXCEPT of two indexes is not what two nested ones are: `[f EXCEPT ![i][j] = e]` leaves
+-- such an f as it is where j is no argument of f[i].
 pub record Matched (ρ : Numbering) (a b : Scope) (s t : State) : Type 0 where
   pub tied : Tied ρ a b
   pub normal : IsNormal a s t

@@ -1,9 +1,9 @@
--- The reduction, row by row: an expression, where its bound names have these numbers, is built as a kernel tree. Source:
--- Konnov, Kukovec and Tran, "TLA+ Model Checking Made Symbolic", OOPSLA 2019, on the reduction to KerA+.
+-- The reduction, row by row: an expression, where its bound names have these numbers, is built as a kernel tree.
+-- Source: Konnov, Kukovec and Tran, "TLA+ Model Checking Made Symbolic", OOPSLA 2019, on the reduction to KerA+.
 --
 -- The types of the nodes are left open. A node whose operator has a row of its own has the number of children that the
--- operator asks for, and an exponent is a literal: no row speaks of other nodes. Of the operators, `Use`, `Param`, `Let`,
--- `Prime`, `Unchanged`, `Boxed` and `Angled` are gone after expansion, and `Outside` is refused before.
+-- operator asks for, and an exponent is a literal: no row speaks of other nodes. Of the operators, `Use`, `Param`,
+-- `Let`, `Prime`, `Unchanged`, `Boxed` and `Angled` are gone after expansion, and `Outside` is refused before.
 use Rattle.std.specs.Prelude.{◌≡◌, ℕ, suc, Bool, true, false, not, ◌&&◌, nat_eq, nat_le, List, [], ◌∷◌, ◌++◌, take, drop, length, Option, Some, None, ℤ, pos}
 use Rattle.std.specs.List.{list_any}
 use Rattle.tla_values.specs.declared.value.Value.TheVariants as value
@@ -89,7 +89,8 @@ mutual
     no_arms : (m : Assignable) (ρ : Numbering) → BuildsArms m ρ [] [] None
     other_arm : (m : Assignable) (ρ : Numbering) (e : Expr) (k : Ker)
         → Builds (Some m) ρ e k → BuildsArms m ρ (e ∷ []) [] (Some k)
-    one_arm : (m : Assignable) (ρ : Numbering) (c e : Expr) (g k : Ker) (es : List Expr) (xs : List (Ker × Ker)) (o : Option Ker)
+    one_arm : (m : Assignable) (ρ : Numbering) (c e : Expr) (g k : Ker) (es : List Expr) (xs : List (Ker × Ker))
+        (o : Option Ker)
         → Builds None ρ c g → Builds (Some m) ρ e k → BuildsArms m ρ es xs o
         → BuildsArms m ρ (c ∷ e ∷ es) ((g, k) ∷ xs) o
 
@@ -98,7 +99,8 @@ mutual
     last_level : (ρ : Numbering) (x : List ℕ) (e f : Expr) (l : Level) (k : Ker)
         → Builds None ρ e l.index → Builds None (numbered (x ∷ []) (l.number ∷ []) ρ) f k
         → BuildsPath ρ x 1 (e ∷ f ∷ []) (l ∷ []) k
-    one_level : (ρ : Numbering) (x : List ℕ) (n : ℕ) (e : Expr) (es : List Expr) (l m : Level) (ls : List Level) (k : Ker)
+    one_level : (ρ : Numbering) (x : List ℕ) (n : ℕ) (e : Expr) (es : List Expr) (l m : Level) (ls : List Level)
+        (k : Ker)
         → Builds None ρ e l.index → BuildsPath ρ x n es (m ∷ ls) k
         → BuildsPath ρ x (suc n) (e ∷ es) (l ∷ m ∷ ls) k
 
@@ -124,13 +126,15 @@ mutual
         → find_last x ρ ≡ Some n
         → BuildsNode None ρ p (op.Bound x) [] xs (bound p a n)
     -- ---- the same operator
-    same : (ρ : Numbering) (p : Place) (o : Op) (ko : KerOp) (es : List Expr) (xs : List (List ℕ)) (a : Ty) (ks : List Ker)
+    same : (ρ : Numbering) (p : Place) (o : Op) (ko : KerOp) (es : List Expr) (xs : List (List ℕ)) (a : Ty)
+        (ks : List Ker)
         → op_of ko ≡ o → is_same ko ≡ true → BuildsEach None ρ es ks
         → BuildsNode None ρ p o es xs (node p a ko ks)
     range : (ρ : Numbering) (p : Place) (es : List Expr) (xs : List (List ℕ)) (a : Ty) (k l : Ker)
         → BuildsEach None ρ es (k ∷ l ∷ [])
         → BuildsNode None ρ p op.Range es xs (node p a ker.Range (k ∷ l ∷ []))
-    binder : (ρ : Numbering) (p : Place) (o : Op) (ko : KerOp) (es : List Expr) (xs : List (List ℕ)) (a : Ty) (ks bs : List Ker) (ns : List ℕ)
+    binder : (ρ : Numbering) (p : Place) (o : Op) (ko : KerOp) (es : List Expr) (xs : List (List ℕ)) (a : Ty)
+        (ks bs : List Ker) (ns : List ℕ)
         → op_of ko ≡ o → is_binder ko ≡ true → all_fresh xs ns ρ ≡ true
         → BuildsEach None ρ (take (length xs) es) ks → BuildsEach None (numbered xs ns ρ) (drop (length xs) es) bs
         → BuildsNode None ρ p o es xs (tree p a ko (ks ++ bs) ns)
@@ -138,7 +142,8 @@ mutual
         → all_fresh xs ns ρ ≡ true
         → BuildsEach None (numbered xs ns ρ) (take 1 es) bs → BuildsEach None ρ (drop 1 es) ks
         → BuildsNode None ρ p op.Fold es xs (tree p a ker.FoldLeft (bs ++ ks) ns)
-    noted : (i : Option Assignable) (ρ : Numbering) (p : Place) (x : List ℕ) (es : List Expr) (xs : List (List ℕ)) (k : Ker)
+    noted : (i : Option Assignable) (ρ : Numbering) (p : Place) (x : List ℕ) (es : List Expr) (xs : List (List ℕ))
+        (k : Ker)
         → BuildsEach i ρ es (k ∷ [])
         → BuildsNode i ρ p (op.Noted x) es xs k
     -- ---- operators by others
@@ -174,15 +179,19 @@ mutual
     equivalent : (ρ : Numbering) (p : Place) (es : List Expr) (xs : List (List ℕ)) (l : Let) (t : Ty) (k m : Ker)
         → is_let l ≡ true → BuildsEach None ρ es (k ∷ m ∷ [])
         → BuildsNode None ρ p op.Iff es xs (equivalence p l t k m)
-    one_pair : (ρ : Numbering) (p : Place) (es : List Expr) (xs : List (List ℕ)) (l : Let) (t s : Ty) (z : ℕ) (k m : Ker)
+    one_pair : (ρ : Numbering) (p : Place) (es : List Expr) (xs : List (List ℕ)) (l : Let) (t s : Ty) (z : ℕ)
+        (k m : Ker)
         → is_let l ≡ true → nat_eq l.named z ≡ false → BuildsEach None ρ es (k ∷ m ∷ [])
         → BuildsNode None ρ p op.Single es xs (single p l t s z k m)
     -- ---- powers, and items and fields at a literal
     power : (ρ : Numbering) (p : Place) (es : List Expr) (xs : List (List ℕ)) (l : Let) (b : Ty) (k m : Ker) (n : ℕ)
-        → is_let l ≡ true → op_at m ≡ ker.Const (value.Int (pos n)) → nat_le n 7 ≡ true → BuildsEach None ρ es (k ∷ m ∷ [])
+        → is_let l ≡ true → op_at m ≡ ker.Const (value.Int (pos n)) → nat_le n 7 ≡ true →
+        BuildsEach None ρ es (k ∷ m ∷ [])
         → BuildsNode None ρ p op.Pow es xs (small_power p l b k n)
-    high_power : (ρ : Numbering) (p : Place) (es : List Expr) (xs : List (List ℕ)) (l : Let) (t b : Ty) (k m : Ker) (n : ℕ)
-        → is_let l ≡ true → op_at m ≡ ker.Const (value.Int (pos n)) → nat_le n 7 ≡ false → BuildsEach None ρ es (k ∷ m ∷ [])
+    high_power : (ρ : Numbering) (p : Place) (es : List Expr) (xs : List (List ℕ)) (l : Let) (t b : Ty) (k m : Ker)
+        (n : ℕ)
+        → is_let l ≡ true → op_at m ≡ ker.Const (value.Int (pos n)) → nat_le n 7 ≡ false →
+        BuildsEach None ρ es (k ∷ m ∷ [])
         → BuildsNode None ρ p op.Pow es xs (large_power p l t b k m n)
     field : (ρ : Numbering) (p : Place) (es : List Expr) (xs : List (List ℕ)) (a : Ty) (k m : Ker) (x : List ℕ)
         → op_at m ≡ ker.Const (value.Text x) → BuildsEach None ρ es (k ∷ m ∷ [])
@@ -191,14 +200,17 @@ mutual
         → op_at m ≡ ker.Const (value.Int (pos n)) → nat_le n 7 ≡ true → BuildsEach None ρ es (k ∷ m ∷ [])
         → BuildsNode None ρ p op.Apply es xs (node p a (ker.Item n) (k ∷ []))
     high_item : (ρ : Numbering) (p : Place) (es : List Expr) (xs : List (List ℕ)) (l : Let) (t : Ty) (k m : Ker) (n : ℕ)
-        → is_let l ≡ true → op_at m ≡ ker.Const (value.Int (pos n)) → nat_le n 7 ≡ false → BuildsEach None ρ es (k ∷ m ∷ [])
+        → is_let l ≡ true → op_at m ≡ ker.Const (value.Int (pos n)) → nat_le n 7 ≡ false →
+        BuildsEach None ρ es (k ∷ m ∷ [])
         → BuildsNode None ρ p op.Apply es xs (item_by_let p l t n k m)
     -- ---- EXCEPT: without a LET where no index but the first can have a fault
-    except : (ρ : Numbering) (p : Place) (cs : List ℕ) (e : Expr) (es : List Expr) (x : List ℕ) (a : Ty) (f : Ker) (u : Change) (us : List Change)
+    except : (ρ : Numbering) (p : Place) (cs : List ℕ) (e : Expr) (es : List Expr) (x : List ℕ) (a : Ty) (f : Ker)
+        (u : Change) (us : List Change)
         → all_plain (indexes (u ∷ us)) ≡ true → are_fresh (level_numbers (u ∷ us)) ρ ≡ true
         → Builds None ρ e f → BuildsChanges ρ x cs es (u ∷ us)
         → BuildsNode None ρ p (op.Except cs) (e ∷ es) (x ∷ []) (changed p a f (u ∷ us))
-    except_let : (ρ : Numbering) (p : Place) (cs : List ℕ) (e : Expr) (es : List Expr) (x : List ℕ) (l : Let) (t : Ty) (f : Ker) (us : List Change)
+    except_let : (ρ : Numbering) (p : Place) (cs : List ℕ) (e : Expr) (es : List Expr) (x : List ℕ) (l : Let) (t : Ty)
+        (f : Ker) (us : List Change)
         → is_except_let l (level_numbers us) ρ ≡ true → all_plain (indexes us) ≡ false
         → Builds None ρ e f → BuildsChanges ρ x cs es us
         → BuildsNode None ρ p (op.Except cs) (e ∷ es) (x ∷ []) (except_by_let p l t f us)
@@ -210,19 +222,24 @@ mutual
     as_value : (m : Assignable) (ρ : Numbering) (p : Place) (o : Op) (es : List Expr) (xs : List (List ℕ)) (k : Ker)
         → passes_on m o es ≡ false → BuildsNode None ρ p o es xs k
         → BuildsNode (Some m) ρ p o es xs k
-    conjunction : (m : Assignable) (ρ : Numbering) (p : Place) (es : List Expr) (xs : List (List ℕ)) (a : Ty) (ks : List Ker)
+    conjunction : (m : Assignable) (ρ : Numbering) (p : Place) (es : List Expr) (xs : List (List ℕ)) (a : Ty)
+        (ks : List Ker)
         → BuildsEach (Some m) ρ es ks
         → BuildsNode (Some m) ρ p op.And es xs (node p a ker.And ks)
-    disjunction : (m : Assignable) (ρ : Numbering) (p : Place) (es : List Expr) (xs : List (List ℕ)) (a : Ty) (ks : List Ker)
+    disjunction : (m : Assignable) (ρ : Numbering) (p : Place) (es : List Expr) (xs : List (List ℕ)) (a : Ty)
+        (ks : List Ker)
         → BuildsEach (Some m) ρ es ks
         → BuildsNode (Some m) ρ p op.Or es xs (node p a ker.Or ks)
-    choice : (m : Assignable) (ρ : Numbering) (p : Place) (es : List Expr) (xs : List (List ℕ)) (a : Ty) (ks bs : List Ker) (ns : List ℕ)
+    choice : (m : Assignable) (ρ : Numbering) (p : Place) (es : List Expr) (xs : List (List ℕ)) (a : Ty)
+        (ks bs : List Ker) (ns : List ℕ)
         → all_fresh xs ns ρ ≡ true
         → BuildsEach None ρ (take (length xs) es) ks → BuildsEach (Some m) (numbered xs ns ρ) (drop (length xs) es) bs
         → BuildsNode (Some m) ρ p op.Exists es xs (tree p a ker.Some (ks ++ bs) ns)
-    branches : (m : Assignable) (ρ : Numbering) (p : Place) (c : Expr) (es : List Expr) (xs : List (List ℕ)) (a b : Ty) (g k l : Ker)
+    branches : (m : Assignable) (ρ : Numbering) (p : Place) (c : Expr) (es : List Expr) (xs : List (List ℕ)) (a b : Ty)
+        (g k l : Ker)
         → any_mentioned m (c ∷ es) ≡ true → Builds None ρ c g → BuildsEach (Some m) ρ es (k ∷ l ∷ [])
         → BuildsNode (Some m) ρ p op.If (c ∷ es) xs (node p a ker.If (guard_of p b g ∷ k ∷ l ∷ []))
-    split_cases : (m : Assignable) (ρ : Numbering) (p : Place) (other : Bool) (es : List Expr) (xs : List (List ℕ)) (a : Ty) (ys : List (Ker × Ker)) (o : Option Ker)
+    split_cases : (m : Assignable) (ρ : Numbering) (p : Place) (other : Bool) (es : List Expr) (xs : List (List ℕ))
+        (a : Ty) (ys : List (Ker × Ker)) (o : Option Ker)
         → any_mentioned m es ≡ true → BuildsArms m ρ es ys o
         → BuildsNode (Some m) ρ p (op.Case other) es xs (split_case p a ys o)

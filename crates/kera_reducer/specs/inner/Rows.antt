@@ -1,5 +1,5 @@
--- The kernel trees for operators that the kernel lacks, each by those of the operands. A node that is made stands at the
--- place of the operator; one that only reads an operand that is evaluated already stands at the operand's.
+-- The kernel trees for operators that the kernel lacks, each by those of the operands. A node that is made stands at
+-- the place of the operator; one that only reads an operand that is evaluated already stands at the operand's.
 use Rattle.std.specs.Prelude.{ℕ, zero, suc, Bool, true, false, not, ◌&&◌, ◌||◌, if◌then◌else◌, List, [], ◌∷◌, ◌++◌, map, flat_map, Option, Some, None, pos}
 use Rattle.std.specs.List.{list_all}
 use Rattle.tla_values.specs.Order.{Layer}
@@ -88,7 +88,8 @@ pub record Let : Type 0 where
   pub unread : ℕ
   pub named : ℕ
 
--- `LET y == d IN e`: a fold over one item, whose result is the one item of a sequence. So d is evaluated first, and once.
+-- `LET y == d IN e`: a fold over one item, whose result is the one item of a sequence. So d is evaluated first, and
+-- once.
 abbrev pub let_in : Place → Let → Ker → Ker → Ker
 let_in p l d e =
     let none : Ker = node p l.wholes ker.SeqOf [] in
@@ -140,8 +141,8 @@ product p a y (suc n) = node p a ker.Times (product p a y n ∷ y ∷ [])
 abbrev pub tested : Place → Ty → Ty → Ker → Ker → Ker → Ker
 tested p a b x y z = node p a ker.If (node p b ker.Less (x ∷ y ∷ []) ∷ z ∷ z ∷ [])
 
--- a power of y: of 0 only that y is a number is asked, of 1 also that it is inside the width; the product with 1 is only
--- compared, as it may have other bounds than y
+-- a power of y: of 0 only that y is a number is asked, of 1 also that it is inside the width; the product with 1 is
+-- only compared, as it may have other bounds than y
 abbrev pub power_body : Place → Ty → Ty → Ker → ℕ → Ker
 power_body p a b y zero = tested p a b y y (number p a 1)
 power_body p a b y (suc zero) = tested p a b (node p a ker.Times (number p a 1 ∷ y ∷ [])) y y
@@ -250,7 +251,8 @@ nested_ifs p a (g ∷ k ∷ ks) = node p a ker.If (g ∷ k ∷ nested_ifs p a ks
 abbrev pub twice_negated : Place → Ty → Ker → Ker
 twice_negated p a g = negation p a (negation p a g)
 
--- behind the guards that are FALSE: the arms, each at its branch with its own guard TRUE, and the branch of OTHER or none
+-- behind the guards that are FALSE: the arms, each at its branch with its own guard TRUE, and the branch of OTHER or
+-- none
 abbrev pub case_branches : Place → Ty → List Ker → List (Ker × Ker) → Option Ker → List Ker
 case_branches p a front [] (Some o) = node (place_of o) a ker.And (map (negation p a) front ++ o ∷ []) ∷ []
 case_branches p a front [] None = node p a ker.And (map (negation p a) front ++ node p a ker.NoCase [] ∷ []) ∷ []
