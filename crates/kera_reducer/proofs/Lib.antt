@@ -36,3 +36,4 @@ pub mod MarksBelow
 pub mod PathLaws
 pub mod RowNodes
 pub mod NodesKept
+pub mod BuiltJobs

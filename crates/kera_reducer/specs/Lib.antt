@@ -3,4 +3,5 @@ pub mod Reduction
 pub mod JobPaths
 pub mod PathLaws
 pub mod Origins
+pub mod BuiltJobs
 pub mod inner

@@ -4,5 +4,6 @@
 mod path_theorems;
 
 pub use path_theorems::{
-    built_actions_keep_their_effect, built_actions_keep_their_paths, built_trees_keep_places_and_names,
+    built_actions_keep_their_effect, built_actions_keep_their_paths, built_jobs_keep_outcomes_and_paths,
+    built_trees_keep_places_and_names,
 };
