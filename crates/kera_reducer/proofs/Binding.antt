@@ -1,10 +1,6 @@
 -- Rows of literals, names, ranges, binders and folds: the operator stays.
-use Rattle.std.proofs.Common.{◌≡◌, ℕ, zero, suc, Bool, true, false, ◌&&◌, List, [], ◌∷◌, ◌++◌, map, take, drop, replicate, length, true≢false, refl, sym, ◌∙◌, ap, ap₂, subst, Option, Some, None, option_and_then, ℤ}
-use Rattle.std.specs.List.{slice_get}
-use Rattle.tla_values.specs.Order.{Layer}
-use Rattle.tla_values.specs.declared.value.Value.{Value, out-Value}
+use Rattle.std.proofs.Common.{◌≡◌, ℕ, zero, suc, Bool, true, false, List, [], ◌∷◌, ◌++◌, map, take, drop, replicate, length, refl, sym, ◌∙◌, ap, Some, option_and_then, ℤ}
 use Rattle.tla_values.specs.declared.value.Value.TheVariants as value
-use Rattle.tla_values.specs.declared.value.Value.TheOpen as layer
 use Rattle.tla_meaning.specs.declared.expr.Expr.{Expr}
 use Rattle.tla_meaning.specs.declared.op.Op.{Op}
 use Rattle.tla_meaning.specs.declared.op.Op.TheVariants as op
@@ -12,19 +8,18 @@ use Rattle.tla_meaning.specs.declared.place.Place.{Place}
 use Rattle.tla_meaning.specs.declared.job.State.{State}
 use Rattle.tla_meaning.specs.declared.outcome.Outcome.{Outcome}
 use Rattle.tla_meaning.specs.Outcomes.{strict}
-use Rattle.tla_meaning.specs.Numbers.{Width, number}
-use Rattle.tla_meaning.specs.Shapes.{choices}
-use Rattle.tla_meaning.specs.Operators.{table, yes_no, on_all_sets}
-use Rattle.tla_meaning.specs.Scopes.{Scope, Denotation, bind, find_last, value_found, absent}
-use Rattle.tla_meaning.specs.Meaning.{Meaning, outcomes, outer, inner, child, plain, bound_table, fold_over}
+use Rattle.tla_meaning.specs.Numbers.{Width}
+use Rattle.tla_meaning.specs.Operators.{table}
+use Rattle.tla_meaning.specs.Scopes.{Scope, bind, find_last, value_found}
+use Rattle.tla_meaning.specs.Meaning.{outcomes, outer, inner, child, plain, fold_over}
 use Rattle.tla_meaning.specs.Actions.{meaning}
-use Rattle.tla_meaning.proofs.Views.{and_left, and_right, false≢true}
+use Rattle.tla_meaning.proofs.Views.{and_right, false≢true}
 use Rattle.snowcat_rows.specs.declared.types.Ty.{Ty}
 use Rattle.kernel_trees.specs.declared.kernel.Ker.{Ker}
 use Rattle.kernel_trees.specs.declared.kernel.KerOp.{KerOp}
 use Rattle.kernel_trees.specs.declared.kernel.KerOp.TheVariants as ker
 use Rattle.kernel_trees.specs.Trees.{op_of, ker_val, names_of, number_name}
-use Rattle.kernel_trees.proofs.Nodes.{all_meanings, sense_at, body_sense, sets_here, body_here, outcomes_here}
+use Rattle.kernel_trees.proofs.Nodes.{all_meanings, sense_at, outcomes_here}
 use Rattle.kernel_trees.proofs.Operators.{is_form, by_node, val_const, val_name, val_bound, val_range, constant_value}
 use Rattle.kera_reducer.specs.Reduction.{Numbering, Matched, numbered, all_fresh, fresh}
 use Rattle.kera_reducer.specs.inner.Rows.{tree, node, bound}
@@ -32,7 +27,7 @@ use Rattle.kera_reducer.specs.inner.Builds.{is_binder}
 use Rattle.tla_meaning.proofs.NormalNodes.{NormalOutcomes}
 use Rattle.kernel_shapes.specs.Laws.{IsNormal}
 use Rattle.kera_reducer.proofs.Normals.{of_sets, over_same, fold_same, outcome_normal, bind_normal, matched_bind}
-use Rattle.kera_reducer.proofs.Frame.{node_means, KeepsNode, KeepsEach, ker_vals, operands_kept, plain_row, opened}
+use Rattle.kera_reducer.proofs.Frame.{node_means, KeepsNode, KeepsEach, operands_kept, plain_row}
 
 -- ---- literals and names
 

@@ -1,10 +1,8 @@
 -- The operands of an EXCEPT as pairs that are named, and what is read from these.
-use Rattle.std.proofs.Common.{◌≡◌, ℕ, Bool, true, false, not, ◌&&◌, true≢false, List, [], ◌∷◌, ◌++◌, map, pos, refl, sym, ◌∙◌, ap, ap₂, subst, Option, Some, None, if◌then◌else◌}
-use Rattle.std.specs.List.{list_all}
+use Rattle.std.proofs.Common.{◌≡◌, Bool, true, false, not, ◌&&◌, true≢false, List, [], ◌∷◌, ◌++◌, map, pos, refl, sym, ◌∙◌, ap, ap₂, subst, Some, if◌then◌else◌}
 use Rattle.tla_values.specs.Order.{Layer}
-use Rattle.tla_values.specs.declared.value.Value.{Value, out-Value}
+use Rattle.tla_values.specs.declared.value.Value.{Value}
 use Rattle.tla_values.specs.declared.value.Value.TheVariants as value
-use Rattle.tla_values.specs.declared.value.Value.TheOpen as layer
 use Rattle.tla_meaning.specs.declared.op.Op.TheVariants as op
 use Rattle.tla_meaning.specs.declared.place.Place.{Place}
 use Rattle.tla_meaning.specs.declared.job.State.{State}
@@ -18,7 +16,7 @@ use Rattle.tla_meaning.specs.Operators.{table, applied, or_wrong}
 use Rattle.tla_meaning.specs.Numbers.{Width}
 use Rattle.tla_meaning.specs.Scopes.{Scope, bind, find_last, value_found}
 use Rattle.tla_meaning.specs.Meaning.{Update}
-use Rattle.tla_meaning.proofs.Views.{and_left, and_right, and_both, false≢true}
+use Rattle.tla_meaning.proofs.Views.{false≢true}
 use Rattle.snowcat_rows.specs.declared.types.Ty.{Ty}
 use Rattle.kernel_trees.specs.declared.kernel.Ker.{Ker}
 use Rattle.kernel_trees.specs.declared.kernel.KerOp.{KerOp}
@@ -26,12 +24,12 @@ use Rattle.kernel_trees.specs.declared.kernel.KerOp.TheVariants as ker
 use Rattle.kernel_trees.specs.Trees.{ker_val, number_name}
 use Rattle.kernel_trees.proofs.Operators.{val_bound, val_item, val_tuple}
 use Rattle.kera_reducer.specs.Reduction.{is_wide}
-use Rattle.kera_reducer.specs.inner.Rows.{Let, item, bound, pair, pairs, behind, operand_at, index_at, is_literal, is_literal_op, is_nil, op_at, place_of, type_of, Level, Change, read_levels, read_changes, is_plain, is_plain_op, indexes, all_levels}
+use Rattle.kera_reducer.specs.inner.Rows.{Let, item, bound, pairs, behind, operand_at, index_at, is_literal, is_literal_op, is_nil, op_at, place_of, type_of, Level, Change, read_levels, read_changes}
 use Rattle.kera_reducer.proofs.Widths.{fits_all, number_there}
 use Rattle.kera_reducer.proofs.Outcomes.{strict_same}
 use Rattle.kera_reducer.proofs.Lets.{both_of, first_of, second_of}
 use Rattle.kera_reducer.proofs.Pairs.{literal_val}
-use Rattle.kera_reducer.proofs.Excepting.{one_value, rest_of, cons≢none, none≢cons, HasLevels, Closed, HasRight, NormalNew, HasChange, HasChanges, last_number}
+use Rattle.kera_reducer.proofs.Excepting.{rest_of, cons≢none, HasLevels, Closed, HasRight, NormalNew, HasChanges, last_number}
 
 -- ---- values in pairs
 
@@ -69,10 +67,10 @@ split_pair : (o : Outcome) (os : List Outcome) →
 split_pair o os = join_pair o (joined os) (values os) ∙ by o (joined os)
   where
     by : (o : Outcome) (g : Fault) → elim o as (λ _. Outcome) [
-          | Val v ↦ fault_or g (Val (both_of v (nested (values os))))
-          | Wrong q ↦ fault_or (join_faults (IsWrong q) g) (Val (sequence []))
-          | Big q ↦ fault_or (join_faults (IsBig q) g) (Val (sequence []))
-        ] ≡ fault_or (join_faults (fault_of o) g) (paired (values (o ∷ os)))
+      | Val v ↦ fault_or g (Val (both_of v (nested (values os))))
+      | Wrong q ↦ fault_or (join_faults (IsWrong q) g) (Val (sequence []))
+      | Big q ↦ fault_or (join_faults (IsBig q) g) (Val (sequence []))
+    ] ≡ fault_or (join_faults (fault_of o) g) (paired (values (o ∷ os)))
     by (Val v) g = refl
     by (Wrong q) NoFault = refl
     by (Wrong q) (IsWrong r) = refl
@@ -258,9 +256,9 @@ module _ (w : Width) (wide : is_wide w ≡ true) (s t : State) (b : Scope) where
       levels_read rs us more (x ∷ xs) [] later o h e g = absurd h
       levels_read rs us more (x ∷ xs) (v ∷ vs) later o h e g = (
         λ c q. index_val l ty (rs ++ x.rest ∷ []) (is_nil xs && not more) x.index us v (vs ++ later) c h.0 (names c q ∙ ap Some e)
-        (matches_more rs us x.rest o) (both_nil vs later ∙ ap₂ (λ m n. m && n) (nil_same xs vs h.1) g),
+            (matches_more rs us x.rest o) (both_nil vs later ∙ ap₂ (λ m n. m && n) (nil_same xs vs h.1) g),
         levels_read (rs ++ x.rest ∷ []) (us ++ v ∷ []) more xs vs later (more_more rs us x.rest v o) h.1
-        (e ∙ ap nested (sym (append_once us v (vs ++ later)))) g,
+            (e ∙ ap nested (sym (append_once us v (vs ++ later)))) g,
       )
 
       last_read : (rs : List Ty) (more : Bool) (ls : List Level) → last_number (read_levels l ty rs more ls) ≡ last_number ls
@@ -307,5 +305,5 @@ module _ (w : Width) (wide : is_wide w ≡ true) (s t : State) (b : Scope) where
           some = some_read rs (not (is_nil us)) u.levels h.0.some;
         },
         changes_read (rs ++ map (λ x. x.rest) u.levels) (vs ++ y.0) us ys (more_all rs vs u.levels y.0 o h.0.indexes) h.1
-        (e ∙ ap nested (sym (append_assoc vs y.0 (all_values ys)))),
+            (e ∙ ap nested (sym (append_assoc vs y.0 (all_values ys)))),
       )

@@ -1,11 +1,10 @@
 -- The rows of EXCEPT: what the language makes of its operands, and what the kernel's updates do.
-use Rattle.std.proofs.Common.{◌≡◌, ℕ, zero, suc, Bool, true, false, not, ◌&&◌, ◌||◌, true≢false, List, [], ◌∷◌, ◌++◌, map, take, drop, replicate, refl, sym, ◌∙◌, ap, ap₂, subst, Option, Some, None, pos, if◌then◌else◌}
+use Rattle.std.proofs.Common.{◌≡◌, ℕ, zero, suc, Bool, true, false, not, ◌&&◌, ◌||◌, true≢false, List, [], ◌∷◌, ◌++◌, map, take, drop, replicate, refl, sym, ◌∙◌, ap, subst, Some, None, if◌then◌else◌}
 use Rattle.std.specs.Prelude.{nat_eq}
 use Rattle.std.specs.List.{list_all, list_any}
 use Rattle.tla_values.specs.Order.{Layer}
 use Rattle.tla_values.specs.Sets.{Normal}
 use Rattle.tla_values.specs.declared.value.Value.{Value, out-Value}
-use Rattle.tla_values.specs.declared.value.Value.TheVariants as value
 use Rattle.tla_values.specs.declared.value.Value.TheOpen as layer
 use Rattle.tla_meaning.specs.declared.expr.Expr.{Expr}
 use Rattle.tla_meaning.specs.declared.op.Op.TheVariants as op
@@ -17,8 +16,8 @@ use Rattle.tla_meaning.specs.declared.outcome.Outcome.{Outcome}
 use Rattle.tla_meaning.specs.declared.outcome.Outcome.TheVariants.{Val, Wrong, Big}
 use Rattle.tla_meaning.specs.Outcomes.{IsNormalOutcome, join_faults, fault_of, joined, values, fault_or, strict, with_value}
 use Rattle.tla_meaning.specs.Numbers.{Width}
-use Rattle.tla_meaning.specs.Scopes.{Denotation, Scope, bind, find_last, or_else, same_text}
-use Rattle.tla_meaning.specs.Meaning.{Meaning, Update, outcomes, outer, inner, child, plain, except_marks, all_indexes, updates, updated, first_updated}
+use Rattle.tla_meaning.specs.Scopes.{Denotation, Scope, bind, find_last, or_else}
+use Rattle.tla_meaning.specs.Meaning.{Update, outcomes, outer, inner, child, plain, except_marks, all_indexes, updates, updated, first_updated}
 use Rattle.tla_meaning.specs.Actions.{meaning}
 use Rattle.tla_meaning.proofs.Laws.{find-append}
 use Rattle.tla_meaning.proofs.Views.{and_left, and_right, and_both, false≢true}
@@ -31,17 +30,17 @@ use Rattle.kernel_trees.proofs.Operators.{form_plain, constant_value}
 use Rattle.kernel_trees.proofs.Binders.{val_update, updated_by}
 use Rattle.kernel_shapes.specs.Laws.{IsNormal}
 use Rattle.kera_reducer.specs.Reduction.{Numbering, Matched, Keeps, fresh, are_fresh, numbered, is_wide}
-use Rattle.kera_reducer.specs.inner.Rows.{Let, let_in, tree, bound, pairs, operand_at, Level, Change, changed_at, changed, all_levels, indexes, level_numbers, all_plain, is_plain, is_plain_op, is_plain_value, op_at, place_of, is_nil, read_changes, except_by_let}
+use Rattle.kera_reducer.specs.inner.Rows.{Let, bound, pairs, operand_at, Level, Change, changed_at, changed, all_levels, indexes, level_numbers, all_plain, is_plain, is_plain_op, is_plain_value, op_at, place_of, is_nil, read_changes, except_by_let}
 use Rattle.kera_reducer.specs.inner.Builds.{is_let, is_except_let}
 use Rattle.kera_reducer.proofs.Widths.{fits_all, number_there}
 use Rattle.kera_reducer.proofs.Tying.{names_apart, not_true, tied_unread, tied_two}
 use Rattle.kera_reducer.proofs.Normals.{outcome_normal, bind_normal, matched_bind}
-use Rattle.kera_reducer.proofs.Outcomes.{strict_same, tuple_then}
+use Rattle.kera_reducer.proofs.Outcomes.{strict_same}
 use Rattle.kera_reducer.proofs.Frame.{node_means, KeepsNode, plain_row}
 use Rattle.kera_reducer.proofs.Lets.{empty, let_scope, val_let, read_named}
 use Rattle.kera_reducer.proofs.Pairs.{literal_val}
-use Rattle.kera_reducer.proofs.Excepting.{one_value, rest_of, cons≢none, none≢cons, last_number, HasLevels, Closed, HasRight, NormalNew, HasChange, HasChanges, many_val}
-use Rattle.kera_reducer.proofs.ExceptReads.{nested, index_vals, pairs_val, operand_val, HaveValues, Given, AllGiven, all_values, changes_read, OneMore}
+use Rattle.kera_reducer.proofs.Excepting.{one_value, rest_of, cons≢none, last_number, HasLevels, Closed, HasChanges, many_val}
+use Rattle.kera_reducer.proofs.ExceptReads.{nested, index_vals, pairs_val, operand_val, HaveValues, AllGiven, all_values, changes_read}
 
 -- ---- what the parts keep
 
@@ -202,22 +201,23 @@ module _ (w : Width) (wide : is_wide w ≡ true) (ρ : Numbering) (x : List ℕ)
           subst AreVals (map_append (λ (l : Level). ker_val w l.index b s t) u.levels (all_levels vs)) g in
           let some : is_nil u.levels ≡ false = path_some w ρ x p n fs u.levels u.right k in
           let free_last : fresh (last_number u.levels) ρ ≡ true = last_free u.levels some here in
-          subst (λ z. AllGiven w wide s t b p P (u ∷ vs) (job_updates (n ∷ ms) z)) (take_drop (suc n) es)
-          (record {
-            indexes = subst (λ z. HaveValues w wide s t b u.levels (values z)) (sym (path_outcomes w ρ x p s t n fs u.levels u.right k (except_marks ms) rest a b r))
-                (have_vals w wide s t b u.levels (vals_left (index_vals w s t u.levels b) (index_vals w s t (all_levels vs) b) there));
-            closed = all_closed u.levels here;
-            right = λ c q old o. sym (path_right w ρ x p s t n fs u.levels u.right k (except_marks ms) rest (bind (x ∷ []) (old ∷ []) a)
-                (bind (number_name (last_number u.levels) ∷ []) (old ∷ []) c)
-                (matched_bind (x ∷ []) (last_number u.levels ∷ []) (old ∷ []) ρ a c s t (and_both (fresh (last_number u.levels) ρ) true free_last refl) (o, tt) (matched c q)));
-            normal = λ v o. path_normal w ρ x p s t n fs u.levels u.right k (except_marks ms) rest (bind (x ∷ []) (v ∷ []) a) (bind_normal (x ∷ []) (v ∷ []) a s t (o, tt) r.normal);
-            some = some;
-          },
-          subst (λ z. AllGiven w wide s t b p P vs z)
-          (sym (λ i. updates p ms (path_drop_outer w ρ x p n fs u.levels u.right k (except_marks ms) rest a i)
-          (λ vs. path_drop_inner w ρ x p n fs u.levels u.right k (except_marks ms) rest (bind (x ∷ []) vs a) i) s t))
-          (all_given ms rest vs m (oks_right (map (λ l. l.number) u.levels) (level_numbers vs) numbers)
-          (vals_right (index_vals w s t u.levels b) (index_vals w s t (all_levels vs) b) there)))
+          subst (λ z. AllGiven w wide s t b p P (u ∷ vs) (job_updates (n ∷ ms) z)) (take_drop (suc n) es) (
+            record {
+              indexes = subst (λ z. HaveValues w wide s t b u.levels (values z)) (sym (path_outcomes w ρ x p s t n fs u.levels u.right k (except_marks ms) rest a b r))
+                  (have_vals w wide s t b u.levels (vals_left (index_vals w s t u.levels b) (index_vals w s t (all_levels vs) b) there));
+              closed = all_closed u.levels here;
+              right = λ c q old o. sym (path_right w ρ x p s t n fs u.levels u.right k (except_marks ms) rest (bind (x ∷ []) (old ∷ []) a)
+                  (bind (number_name (last_number u.levels) ∷ []) (old ∷ []) c)
+                  (matched_bind (x ∷ []) (last_number u.levels ∷ []) (old ∷ []) ρ a c s t (and_both (fresh (last_number u.levels) ρ) true free_last refl) (o, tt) (matched c q)));
+              normal = λ v o. path_normal w ρ x p s t n fs u.levels u.right k (except_marks ms) rest (bind (x ∷ []) (v ∷ []) a) (bind_normal (x ∷ []) (v ∷ []) a s t (o, tt) r.normal);
+              some = some;
+            },
+            subst (λ z. AllGiven w wide s t b p P vs z)
+                (sym (λ i. updates p ms (path_drop_outer w ρ x p n fs u.levels u.right k (except_marks ms) rest a i)
+                (λ vs. path_drop_inner w ρ x p n fs u.levels u.right k (except_marks ms) rest (bind (x ∷ []) vs a) i) s t))
+                (all_given ms rest vs m (oks_right (map (λ l. l.number) u.levels) (level_numbers vs) numbers)
+                (vals_right (index_vals w s t u.levels b) (index_vals w s t (all_levels vs) b) there)),
+          )
 
 -- ---- with a LET
 
@@ -328,10 +328,11 @@ module _ (w : Width) (wide : is_wide w ≡ true) (ρ : Numbering) (x : List ℕ)
                   all_given w wide ρ x p s t a b r P (λ c z. z.1) (λ n. fresh n ρ && not (nat_eq l.named n)) (λ n z. and_left (fresh n ρ) (not (nat_eq l.named n)) z)
                   (λ n z c u o y. (
                     find-append (number_name l.named) c.bound ((number_name n, u) ∷ [])
-                    ∙ ap (λ i. or_else (or_else None (if i then Some u else None)) (find_last (number_name l.named) c.bound))
-                    (names_apart l.named n (not_true (nat_eq l.named n) (and_right (fresh n ρ) (not (nat_eq l.named n)) z)))
-                    ∙ y.0,
-                    record { tied = tied_unread ρ a c y.1.tied n (and_left (fresh n ρ) (not (nat_eq l.named n)) z) u; normal = r.normal }))
+                        ∙ ap (λ i. or_else (or_else None (if i then Some u else None)) (find_last (number_name l.named) c.bound))
+                        (names_apart l.named n (not_true (nat_eq l.named n) (and_right (fresh n ρ) (not (nat_eq l.named n)) z)))
+                        ∙ y.0,
+                    record { tied = tied_unread ρ a c y.1.tied n (and_left (fresh n ρ) (not (nat_eq l.named n)) z) u; normal = r.normal },
+                  ))
                   cs es us k (all_apart l.named ρ (level_numbers us) levels_free apart)
                   (subst AreVals (sym indexes_are) (vals_there vs))
 
@@ -488,9 +489,9 @@ module _ (w : Width) (wide : is_wide w ≡ true) (ρ : Numbering) (x : List ℕ)
   pub keeps_except : (c : Ty) (u : Change) (us : List Change) → all_plain (indexes (u ∷ us)) ≡ true → are_fresh (level_numbers (u ∷ us)) ρ ≡ true →
       KeepsChanges w ρ x cs es (u ∷ us) → KeepsNode w ρ p (op.Except cs) (e ∷ es) (x ∷ []) (changed p c f (u ∷ us))
   keeps_except c u us g d k = record {
-      value = row;
-      form = λ a b s t r. ap plain (row a b s t r) ∙ sym (first_plain w p c f u us (some k) b s t);
-    }
+    value = row;
+    form = λ a b s t r. ap plain (row a b s t r) ∙ sym (first_plain w p c f u us (some k) b s t);
+  }
     where
       some : {ns : List ℕ} {es : List Expr} → KeepsChanges w ρ x ns es (u ∷ us) → is_nil u.levels ≡ false
       some (change_kept _ _ n ms fs _ _ y z) = path_some w ρ x p n (take (suc n) fs) u.levels u.right y

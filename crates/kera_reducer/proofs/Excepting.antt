@@ -1,5 +1,5 @@
 -- What updates of the kernel, one behind the other and one within the other, come to where their indexes have values.
-use Rattle.std.proofs.Common.{◌≡◌, ℕ, Bool, true, false, true≢false, List, [], ◌∷◌, ◌++◌, map, refl, sym, ◌∙◌, ap, ap₂, subst, Option, Some, None, if◌then◌else◌}
+use Rattle.std.proofs.Common.{◌≡◌, ℕ, false, true≢false, List, [], ◌∷◌, map, refl, sym, ◌∙◌, ap, subst, Option, Some, None, if◌then◌else◌}
 use Rattle.tla_values.specs.Order.{Layer}
 use Rattle.tla_values.specs.Sets.{Normal, apply, override_at}
 use Rattle.tla_values.specs.declared.value.Value.{Value, out-Value}
@@ -12,14 +12,13 @@ use Rattle.tla_meaning.specs.declared.outcome.Outcome.{Outcome}
 use Rattle.tla_meaning.specs.declared.outcome.Outcome.TheVariants.{Val, Wrong, Big}
 use Rattle.tla_meaning.specs.Outcomes.{IsNormalOutcome, strict, with_value}
 use Rattle.tla_meaning.specs.Numbers.{Width}
-use Rattle.tla_meaning.specs.Scopes.{Scope, bind, find_last, or_else, same_text, value_found}
+use Rattle.tla_meaning.specs.Scopes.{Scope, bind, find_last, or_else, value_found}
 use Rattle.tla_meaning.specs.Meaning.{Reached, At, Outside, NoFunction, Update, at_path, set_path, put_at, updated}
 use Rattle.tla_meaning.proofs.Laws.{find-append}
 use Rattle.tla_meaning.proofs.NormalShapes.{NormalLayer, IfSomes, layer_normal, apply_normal}
 use Rattle.tla_meaning.proofs.NormalNodes.{NormalReached, at_path_normal}
 use Rattle.snowcat_rows.specs.declared.types.Ty.{Ty}
 use Rattle.kernel_trees.specs.declared.kernel.Ker.{Ker}
-use Rattle.kernel_trees.specs.declared.kernel.KerOp.TheVariants as ker
 use Rattle.kernel_trees.specs.Trees.{ker_val, number_name}
 use Rattle.kernel_trees.proofs.Operators.{val_bound}
 use Rattle.kernel_trees.proofs.Binders.{val_update, updated_one, updated_by, one_update}

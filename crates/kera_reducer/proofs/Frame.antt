@@ -1,6 +1,6 @@
 -- What a node keeps, by what its children keep: the frame of all rows.
-use Rattle.std.proofs.Common.{◌≡◌, ℕ, false, List, [], ◌∷◌, map, length, refl, sym, ◌∙◌, ap, subst}
-use Rattle.tla_meaning.specs.declared.expr.Expr.{Expr, out-Expr, roll-Expr, roll-out-Expr}
+use Rattle.std.proofs.Common.{◌≡◌, ℕ, false, List, [], ◌∷◌, map, length, refl, sym, ◌∙◌, ap}
+use Rattle.tla_meaning.specs.declared.expr.Expr.{Expr, out-Expr, roll-out-Expr}
 use Rattle.tla_meaning.specs.declared.op.Op.{Op}
 use Rattle.tla_meaning.specs.declared.place.Place.{Place}
 use Rattle.tla_meaning.specs.declared.job.State.{State}
@@ -8,14 +8,13 @@ use Rattle.tla_meaning.specs.declared.outcome.Outcome.{Outcome}
 use Rattle.tla_meaning.specs.Forms.{Formed}
 use Rattle.tla_meaning.specs.Numbers.{Width}
 use Rattle.tla_meaning.specs.Scopes.{Denotation, Scope}
-use Rattle.tla_meaning.specs.Meaning.{Meaning, outcomes, forms, outer, plain, role, view}
+use Rattle.tla_meaning.specs.Meaning.{outcomes, forms, outer, plain, role, view}
 use Rattle.tla_meaning.specs.Actions.{meaning, denotation_of, val}
 use Rattle.tla_meaning.proofs.MeaningLemmas.{denotation-roll}
 use Rattle.snowcat_rows.specs.declared.types.Ty.{Ty}
 use Rattle.kernel_trees.specs.declared.kernel.Ker.{Ker}
 use Rattle.kernel_trees.specs.declared.kernel.KerOp.{KerOp}
 use Rattle.kernel_trees.specs.Trees.{ker_val, ker_form}
-use Rattle.kernel_trees.proofs.Nodes.{all_meanings}
 use Rattle.kernel_trees.proofs.Operators.{is_form, form_plain}
 use Rattle.kera_reducer.specs.Reduction.{Numbering, Matched, Keeps}
 use Rattle.kera_reducer.specs.inner.Rows.{tree}

@@ -1,8 +1,8 @@
 -- What is built keeps value and form: one induction over the rows.
-use Rattle.std.proofs.Common.{◌≡◌, ℕ, Bool, true, false, ◌||◌, List, [], ◌∷◌, ◌++◌, map, take, drop, length, refl, sym, ◌∙◌, ap, ap₂, subst, Option, Some, None, zero, suc}
+use Rattle.std.proofs.Common.{◌≡◌, ℕ, Bool, true, false, ◌||◌, List, [], ◌∷◌, ◌++◌, map, take, drop, length, refl, sym, ◌∙◌, ap, subst, Option, Some, None, zero, suc}
 use Rattle.std.specs.List.{list_any}
 use Rattle.tla_meaning.specs.declared.actions.Assignable.{Assignable}
-use Rattle.tla_meaning.specs.declared.expr.Expr.{Expr, out-Expr, roll-Expr, roll-out-Expr}
+use Rattle.tla_meaning.specs.declared.expr.Expr.{Expr, out-Expr, roll-out-Expr}
 use Rattle.tla_meaning.specs.declared.expr.Expr.TheFolds.{fold-roll-Expr}
 use Rattle.tla_meaning.specs.declared.op.Op.{Op}
 use Rattle.tla_meaning.specs.declared.op.Op.TheVariants as op
@@ -10,7 +10,6 @@ use Rattle.tla_meaning.specs.declared.place.Place.{Place}
 use Rattle.tla_meaning.specs.Numbers.{Width}
 use Rattle.tla_meaning.proofs.Views.{false≢true}
 use Rattle.kernel_trees.specs.declared.kernel.Ker.{Ker}
-use Rattle.kernel_trees.specs.declared.kernel.KerOp.{KerOp}
 use Rattle.kernel_trees.specs.declared.kernel.KerOp.TheVariants as ker
 use Rattle.kera_reducer.specs.Reduction.{Numbering, Keeps, is_wide, mentioned, mentioned_at, any_mentioned}
 use Rattle.kera_reducer.specs.inner.Rows.{node, tree, Level, Change}
@@ -90,11 +89,11 @@ module _ (w : Width) (wide : is_wide w ≡ true) where
 
     keeps_node : (i : Option Assignable) (ρ : Numbering) (p : Place) (o : Op) (es : List Expr) (xs : List (List ℕ)) (k : Ker) →
         BuildsNode i ρ p o es xs k → SilentNode i o es → KeepsNode w ρ p o es xs k
-    keeps_node i ρ p o es xs k (rows.boolean _ _ b _ a) q = keeps_boolean w ρ p es xs a b
-    keeps_node i ρ p o es xs k (rows.integer _ _ x _ a) q = keeps_integer w ρ p es xs a x
-    keeps_node i ρ p o es xs k (rows.text _ _ x _ a) q = keeps_text w ρ p es xs a x
+    keeps_node i ρ p o es xs k (rows.boolean _ _ b _ a) q = keeps_boolean w ρ p [] xs a b
+    keeps_node i ρ p o es xs k (rows.integer _ _ x _ a) q = keeps_integer w ρ p [] xs a x
+    keeps_node i ρ p o es xs k (rows.text _ _ x _ a) q = keeps_text w ρ p [] xs a x
     keeps_node i ρ p o es xs k (rows.declared _ _ n primed _ _ a) q = keeps_declared w ρ p es xs a n primed
-    keeps_node i ρ p o es xs k (rows.bound_name _ _ x n _ a f) q = keeps_bound w ρ p es xs a x n f
+    keeps_node i ρ p o es xs k (rows.bound_name _ _ x n _ a f) q = keeps_bound w ρ p [] xs a x n f
     keeps_node i ρ p o es xs k (rows.same _ _ _ ko _ _ a ks f g b) q =
         subst (λ z. KeepsNode w ρ p z es xs (node p a ko ks)) f (keeps_same w ρ p es xs ks (keeps_each None ρ es ks b tt) a ko g)
     keeps_node i ρ p o es xs k (rows.range _ _ _ _ a x y b) q = keeps_range w ρ p es xs a x y (keeps_each None ρ es (x ∷ y ∷ []) b tt)

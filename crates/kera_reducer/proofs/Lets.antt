@@ -1,36 +1,32 @@
 -- A definition within an expression, in the kernel: a fold over one item, whose result is the one item of a sequence. So
 -- operands are evaluated first, joined and once, and what follows may read them as often as it likes.
-use Rattle.std.proofs.Common.{◌≡◌, ℕ, true, false, not, List, [], ◌∷◌, ◌++◌, pos, map, refl, sym, ◌∙◌, ap, ap₂, Some, None, if◌then◌else◌}
+use Rattle.std.proofs.Common.{◌≡◌, true, false, [], ◌∷◌, pos, refl, ◌∙◌, ap, Some, None, if◌then◌else◌}
 use Rattle.std.specs.Prelude.{nat_eq}
 use Rattle.tla_values.specs.Order.{Layer}
 use Rattle.tla_values.specs.Sets.{apply}
 use Rattle.tla_values.proofs.OrderLemmas.{value_cmp_out}
-use Rattle.tla_values.specs.declared.value.Value.{Value, out-Value}
+use Rattle.tla_values.specs.declared.value.Value.{Value}
 use Rattle.tla_values.specs.declared.value.Value.TheVariants as value
 use Rattle.tla_values.specs.declared.value.Value.TheOpen as layer
 use Rattle.tla_meaning.specs.declared.op.Op.TheVariants as op
 use Rattle.tla_meaning.specs.declared.place.Place.{Place}
 use Rattle.tla_meaning.specs.declared.job.State.{State}
-use Rattle.tla_meaning.specs.declared.outcome.Fault.{Fault}
-use Rattle.tla_meaning.specs.declared.outcome.Fault.TheVariants.{NoFault, IsWrong, IsBig}
 use Rattle.tla_meaning.specs.declared.outcome.Outcome.{Outcome}
 use Rattle.tla_meaning.specs.declared.outcome.Outcome.TheVariants.{Val, Wrong, Big}
-use Rattle.tla_meaning.specs.Outcomes.{join_faults, joined, values, fault_or, strict, with_value}
+use Rattle.tla_meaning.specs.Outcomes.{strict, with_value}
 use Rattle.tla_meaning.specs.Shapes.{sequence, items_of}
-use Rattle.tla_meaning.specs.Operators.{table, on_items, applied, or_wrong}
-use Rattle.tla_meaning.specs.Numbers.{Width, number, in_width}
+use Rattle.tla_meaning.specs.Operators.{table, on_items}
+use Rattle.tla_meaning.specs.Numbers.{Width}
 use Rattle.tla_meaning.specs.Scopes.{Scope, bind, find_last, or_else, same_text, value_found}
 use Rattle.tla_meaning.specs.Meaning.{fold_over, folded}
 use Rattle.tla_meaning.proofs.Laws.{find-append}
-use Rattle.snowcat_rows.specs.declared.types.Ty.{Ty}
 use Rattle.kernel_trees.specs.declared.kernel.Ker.{Ker}
 use Rattle.kernel_trees.specs.declared.kernel.KerOp.TheVariants as ker
 use Rattle.kernel_trees.specs.Trees.{number_name, ker_val}
-use Rattle.kernel_trees.proofs.Operators.{by_node, val_bound, val_item, val_tuple}
+use Rattle.kernel_trees.proofs.Operators.{by_node, val_bound}
 use Rattle.kernel_trees.proofs.Binders.{val_fold}
 use Rattle.kernel_trees.proofs.Steps.{same_text_same}
-use Rattle.kera_reducer.specs.Reduction.{is_wide}
-use Rattle.kera_reducer.specs.inner.Rows.{Let, let_in, tree, node, bound, pair, item, place_of, type_of, named_one, named_first, named_second}
+use Rattle.kera_reducer.specs.inner.Rows.{Let, let_in, node, bound}
 use Rattle.kera_reducer.specs.inner.Builds.{is_let}
 use Rattle.kera_reducer.proofs.Tying.{names_apart, not_true}
 
@@ -122,4 +118,3 @@ first_of a b = simp (value_cmp_out, value.outs-Int)
 
 pub second_of : (a b : Value) → apply ((value.Int (pos 1), a) ∷ (value.Int (pos 2), b) ∷ []) (value.Int (pos 2)) ≡ Some b
 second_of a b = simp (value_cmp_out, value.outs-Int)
-

@@ -34,6 +34,7 @@ pub mod CaseEffects
 pub mod ActsKept
 pub mod MarksBelow
 pub mod PathLaws
+pub mod Kept
 pub mod RowNodes
 pub mod NodesKept
 pub mod BuiltJobs

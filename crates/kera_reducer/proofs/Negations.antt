@@ -1,6 +1,5 @@
 -- Rows of an operator by another one and negations, of CASE by nested IFs, and of annotations.
-use Rattle.std.proofs.Common.{◌≡◌, ℕ, Bool, true, false, not, List, [], ◌∷◌, map, refl, sym, ◌∙◌, ap, ap₂, subst, Option, Some, None, option_map, option_and_then, pos}
-use Rattle.std.specs.List.{list_all}
+use Rattle.std.proofs.Common.{◌≡◌, ℕ, Bool, true, false, not, List, [], ◌∷◌, map, refl, sym, ◌∙◌, ap, ap₂, Option, Some, None, option_map, option_and_then, pos}
 use Rattle.tla_values.specs.Order.{Layer}
 use Rattle.tla_values.specs.Sets.{set_of}
 use Rattle.tla_values.proofs.OrderLemmas.{value_cmp_out}
@@ -14,9 +13,9 @@ use Rattle.tla_meaning.specs.declared.place.Place.{Place}
 use Rattle.tla_meaning.specs.declared.job.State.{State}
 use Rattle.tla_meaning.specs.declared.outcome.Outcome.{Outcome}
 use Rattle.tla_meaning.specs.declared.outcome.Outcome.TheVariants.{Val, Wrong, Big}
-use Rattle.tla_meaning.specs.Outcomes.{joined, values, fault_or, strict}
-use Rattle.tla_meaning.specs.Shapes.{choices, all_set_items, the_set, set_items}
-use Rattle.tla_meaning.specs.Forms.{Formed, belongs}
+use Rattle.tla_meaning.specs.Outcomes.{strict}
+use Rattle.tla_meaning.specs.Shapes.{choices, the_set, set_items}
+use Rattle.tla_meaning.specs.Forms.{belongs}
 use Rattle.tla_meaning.specs.Operators.{table, yes_no, on_set, on_all_sets}
 use Rattle.tla_meaning.specs.Numbers.{Width, number}
 use Rattle.tla_meaning.specs.Scopes.{Scope, bind}
@@ -25,17 +24,16 @@ use Rattle.tla_meaning.specs.Meaning.{outcomes, outer, conjoined, implied, in_fo
 use Rattle.tla_meaning.proofs.Views.{false≢true}
 use Rattle.snowcat_rows.specs.declared.types.Ty.{Ty}
 use Rattle.kernel_trees.specs.declared.kernel.Ker.{Ker}
-use Rattle.kernel_trees.specs.declared.kernel.KerOp.{KerOp}
 use Rattle.kernel_trees.specs.declared.kernel.KerOp.TheVariants as ker
-use Rattle.kernel_trees.specs.Trees.{ker_val, names_of, number_name}
-use Rattle.kernel_trees.proofs.Operators.{by_node, val_const, val_not, val_and, val_equal, val_less, val_minus, val_set, val_member, val_if, val_nocase, constant_value}
-use Rattle.kernel_trees.proofs.Binders.{val_every, at_members}
+use Rattle.kernel_trees.specs.Trees.{ker_val, names_of}
+use Rattle.kernel_trees.proofs.Operators.{val_const, val_not, val_and, val_equal, val_less, val_minus, val_set, val_member, val_if, val_nocase, constant_value}
+use Rattle.kernel_trees.proofs.Binders.{val_every}
 use Rattle.kera_reducer.specs.Reduction.{Numbering, Matched, is_wide}
 use Rattle.kera_reducer.specs.inner.Rows.{tree, node, negation, number as number_at, truth as truth_at, implication, nested_ifs}
 use Rattle.kera_reducer.specs.inner.Builds.{has_arm}
 use Rattle.kera_reducer.proofs.Widths.{fits_all, number_there}
 use Rattle.kera_reducer.proofs.Outcomes.{strict_by, negated, negated_strict, implies_row, unequal_at, not_in_row, strict_swapped, greater_at, at_most_at, not_less_at, negative_at, all_true}
-use Rattle.kera_reducer.proofs.Frame.{node_means, KeepsNode, KeepsEach, ker_vals, ker_forms, operands_kept, operand_forms_kept, plain_row}
+use Rattle.kera_reducer.proofs.Frame.{KeepsNode, KeepsEach, ker_vals, ker_forms, operands_kept, operand_forms_kept, plain_row}
 
 -- constants that have no fault
 module _ (w : Width) (s t : State) (p : Place) (c : Ty) (b : Scope) where
@@ -163,8 +161,7 @@ module _ (w : Width) (ρ : Numbering) (p : Place) (es : List Expr) (xs : List (L
       ∙ ap (choose p (ker_val w g b s t) (ker_val w k b s t)) (nested_val s t b ks)
 
   pub keeps_cases : (other : Bool) (ks : List Ker) → has_arm ks ≡ true → KeepsEach w ρ es ks → KeepsNode w ρ p (op.Case other) es xs (nested_ifs p c ks)
-  keeps_cases other [] q h = plain_row w ρ p p (op.Case other) es xs c ker.NoCase [] [] (λ a s t. refl) (λ s t. refl)
-      (λ a b s t r. ap (case_chosen p) (operands_kept w ρ s t p es [] a b h r) ∙ sym (nested_val s t b []))
+  keeps_cases other [] q h = absurd (false≢true q)
   keeps_cases other (k ∷ []) q h = absurd (false≢true q)
   keeps_cases other (g ∷ k ∷ ks) q h = plain_row w ρ p p (op.Case other) es xs c ker.If (g ∷ k ∷ nested_ifs p c ks ∷ []) [] (λ a s t. refl) (λ s t. refl)
       (λ a b s t r. ap (case_chosen p) (operands_kept w ρ s t p es (g ∷ k ∷ ks) a b h r) ∙ sym (nested_val s t b (g ∷ k ∷ ks)))

@@ -1,5 +1,5 @@
 -- What is built has no place and no text that its expression does not have.
-use Rattle.std.proofs.Common.{◌≡◌, ℕ, zero, suc, Bool, true, false, not, ◌||◌, IsTrue, List, [], ◌∷◌, ◌++◌, map, take, drop, length, true≢false, refl, sym, ◌∙◌, ap, ap₂, subst, Option, Some, None}
+use Rattle.std.proofs.Common.{◌≡◌, ℕ, zero, suc, Bool, true, false, ◌||◌, IsTrue, List, [], ◌∷◌, ◌++◌, map, take, drop, length, true≢false, refl, sym, ◌∙◌, ap, Option}
 use Rattle.std.specs.List.{list_any}
 use Rattle.std.specs.Ordering.{is_eq}
 use Rattle.tla_values.specs.declared.value.Value.TheVariants as value
@@ -10,15 +10,14 @@ use Rattle.tla_meaning.specs.declared.expr.Expr.{Expr, roll-Expr, out-Expr, roll
 use Rattle.tla_meaning.specs.declared.expr.Expr.TheOpen.{Expr-F}
 use Rattle.tla_meaning.specs.declared.expr.Expr.TheFolds.{fold-roll-Expr}
 use Rattle.tla_meaning.specs.declared.op.Op.{Op}
-use Rattle.tla_meaning.specs.declared.op.Op.TheVariants as op
 use Rattle.tla_meaning.specs.declared.place.Place.{Place}
 use Rattle.tla_meaning.proofs.Views.{false≢true}
 use Rattle.kernel_trees.specs.declared.kernel.Ker.{Ker}
 use Rattle.kernel_trees.specs.declared.kernel.KerOp.{KerOp}
 use Rattle.kernel_trees.specs.declared.kernel.KerOp.TheVariants as ker
-use Rattle.kera_reducer.specs.Origins.{KeepsPlaces, KeepsTexts, has_node, is_text_constant, is_text_op, is_text_value, kernel_has_node}
+use Rattle.kera_reducer.specs.Origins.{KeepsPlaces, KeepsTexts, has_node, is_text_constant, is_text_op, is_text_value}
 use Rattle.kera_reducer.specs.Reduction.{Numbering}
-use Rattle.kera_reducer.specs.inner.Rows.{Change, Level, node}
+use Rattle.kera_reducer.specs.inner.Rows.{Change, Level}
 use Rattle.kera_reducer.specs.inner.Builds.{Builds, BuildsEach, BuildsArms, BuildsPath, BuildsChanges, BuildsNode, at_node, none_left, one_more, no_arms, other_arm, one_arm, last_level, one_level, no_changes, one_change, boolean, integer, text, declared, bound_name, same, range, binder, fold, noted, assign, implies, unequal, no_member, greater, at_most, at_least, negative, finite, truth_values, equivalent, one_pair, power, high_power, field, low_item, high_item, except, except_let, cases, as_value, conjunction, disjunction, choice, branches, split_cases, is_same, is_binder}
 use Rattle.kera_reducer.proofs.RowNodes.{AllArms, AllChanges, AllFree, AllLevels, Free, FreeOther, append_free, changed_free, equivalence_free, except_let_free, guard_free, implication_free, item_let_free, large_power_free, made, negation_free, nested_free, number_free, single_free, small_power_free, split_free, truth_free}
 

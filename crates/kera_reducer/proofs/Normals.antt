@@ -1,5 +1,5 @@
 -- Values that are bound by a binder, in a fold and by an EXCEPT are normal, and what agrees on these is the same.
-use Rattle.std.proofs.Common.{◌≡◌, ℕ, zero, suc, true, false, List, [], ◌∷◌, ◌++◌, map, take, replicate, refl, sym, ◌∙◌, ap, ap₂, subst, Option, Some, None}
+use Rattle.std.proofs.Common.{◌≡◌, ℕ, true, false, List, [], ◌∷◌, map, refl, sym, ◌∙◌, ap, subst, Option, Some, None}
 use Rattle.std.specs.List.{AllByRecursion}
 use Rattle.tla_values.specs.Order.{Layer}
 use Rattle.tla_values.specs.Sets.{Normal}
@@ -15,16 +15,16 @@ use Rattle.tla_meaning.specs.Outcomes.{IsNormalOutcome, joined, values, fault_or
 use Rattle.tla_meaning.specs.Shapes.{choices, all_set_items, items_of}
 use Rattle.tla_meaning.specs.Numbers.{Width}
 use Rattle.tla_meaning.specs.Operators.{on_all_sets, on_items}
-use Rattle.tla_meaning.specs.Scopes.{Scope, Denotation, bind, bound_to}
-use Rattle.tla_meaning.specs.Meaning.{Meaning, outcomes, outer, bound_table, fold_over, folded}
-use Rattle.tla_meaning.specs.Actions.{meaning, val}
+use Rattle.tla_meaning.specs.Scopes.{Scope, bind, bound_to}
+use Rattle.tla_meaning.specs.Meaning.{bound_table, fold_over, folded}
+use Rattle.tla_meaning.specs.Actions.{val}
 use Rattle.tla_meaning.proofs.NormalShapes.{Normals, NormalSet, NormalLists, NormalLayer, IfSomes, layer_normal, truth_normal, choices_normal, all_items_normal, lists_of, all_plus}
 use Rattle.tla_meaning.proofs.NormalTable.{items_of_normal}
 use Rattle.tla_meaning.proofs.NormalNodes.{NormalOutcomes}
 use Rattle.tla_meaning.proofs.NormalLaw.{NormalDef, NormalScope, meaning_normal}
 use Rattle.kernel_trees.specs.Trees.{names_of}
 use Rattle.kernel_shapes.specs.Laws.{IsNormal}
-use Rattle.kera_reducer.specs.Reduction.{Numbering, Matched, Tied, numbered, all_fresh, are_fresh}
+use Rattle.kera_reducer.specs.Reduction.{Numbering, Matched, numbered, all_fresh}
 use Rattle.kera_reducer.proofs.Tying.{tied_bind}
 
 normal_scope : (a : Scope) → AllByRecursion (λ b. Normal b.1) a.bound → a.named ≡ [] → NormalScope a

@@ -1,5 +1,5 @@
 -- Outcomes of operators over others: negations, operands the other way round, faults.
-use Rattle.std.proofs.Common.{◌≡◌, ℕ, Bool, true, false, not, List, [], ◌∷◌, map, refl, sym, ◌∙◌, ap, ap₂, subst, Option, Some, None, ℤ, pos, neg_ℤ, ◌-ℤ◌, int_lt, int_le, arith, if◌then◌else◌, option_map, option_and_then}
+use Rattle.std.proofs.Common.{◌≡◌, ℕ, Bool, true, false, not, List, [], ◌∷◌, map, refl, sym, ◌∙◌, ap, Option, Some, None, ℤ, pos, neg_ℤ, ◌-ℤ◌, int_lt, int_le, arith, if◌then◌else◌, option_map, option_and_then}
 use Rattle.std.specs.List.{list_all}
 use Rattle.std.proofs.lemmas.Int.{ints}
 use Rattle.std.proofs.lemmas.Bool.Decides.{nat_tests}
@@ -15,10 +15,10 @@ use Rattle.tla_meaning.specs.declared.outcome.Fault.{Fault}
 use Rattle.tla_meaning.specs.declared.outcome.Fault.TheVariants.{NoFault, IsWrong, IsBig}
 use Rattle.tla_meaning.specs.declared.outcome.Outcome.{Outcome}
 use Rattle.tla_meaning.specs.declared.outcome.Outcome.TheVariants.{Val, Wrong, Big}
-use Rattle.tla_meaning.specs.Outcomes.{join_faults, fault_of, joined, values, fault_or, strict, with_value}
+use Rattle.tla_meaning.specs.Outcomes.{join_faults, joined, values, fault_or, strict, with_value}
 use Rattle.tla_meaning.specs.Shapes.{truth, sequence}
 use Rattle.tla_meaning.specs.Forms.{Formed, Made, Broken, form_fault, is_set_form, belongs}
-use Rattle.tla_meaning.specs.Operators.{table, yes_no, on_truth, on_number, on_numbers, on_two, applied, or_wrong, on_function}
+use Rattle.tla_meaning.specs.Operators.{table, yes_no, on_truth, on_number, on_numbers, applied, or_wrong, on_function}
 use Rattle.tla_meaning.specs.Numbers.{Width, number}
 use Rattle.tla_meaning.specs.Meaning.{by_truth, choose, conjoined, implied, in_form, truth_of, truths, on_all_truths}
 use Rattle.tla_meaning.proofs.Joins.{both_comm}
@@ -279,11 +279,12 @@ AllTrue vs = (bs : List Bool) × (truths vs ≡ Some bs) × (list_all (λ b. b) 
 trues : {X : Type 0} (cs : List X) → AllTrue (values (map (λ x. yes_no true) cs))
 trues [] = ([], refl, refl)
 trues (c ∷ cs) =
-    let h = trues cs in
-    (true ∷ h.0,
-    ap (λ (l : Layer Value). option_and_then (λ b. option_map (λ bs. b ∷ bs) (truths (values (map (λ x. yes_no true) cs)))) (truth_of l)) (value.outs-Bool true)
-    ∙ ap (option_map (λ bs. true ∷ bs)) h.1,
-    h.2)
+    let h = trues cs in (
+      true ∷ h.0,
+      ap (λ (l : Layer Value). option_and_then (λ b. option_map (λ bs. b ∷ bs) (truths (values (map (λ x. yes_no true) cs)))) (truth_of l)) (value.outs-Bool true)
+          ∙ ap (option_map (λ bs. true ∷ bs)) h.1,
+      h.2,
+    )
 
 none_wrong : {X : Type 0} (cs : List X) → joined (map (λ x. yes_no true) cs) ≡ NoFault
 none_wrong [] = refl

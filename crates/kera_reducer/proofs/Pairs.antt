@@ -1,10 +1,10 @@
 -- Rows in which two operands are evaluated first, as a pair that is named, and then read: equivalences, functions of one
 -- pair, items at a literal that may be Big; and items and fields without a LET.
-use Rattle.std.proofs.Common.{◌≡◌, ℕ, ◌≤◌, arith, Bool, true, false, not, List, [], ◌∷◌, ◌++◌, map, pos, refl, sym, ◌∙◌, ap, ap₂, Option, Some, None, ℤ, if◌then◌else◌}
+use Rattle.std.proofs.Common.{◌≡◌, ℕ, ◌≤◌, arith, Bool, true, false, not, List, [], ◌∷◌, map, pos, refl, sym, ◌∙◌, ap, ap₂, Option, Some, None, ℤ, if◌then◌else◌}
 use Rattle.std.specs.Prelude.{nat_eq, nat_le, option_map, option_and_then}
 use Rattle.std.proofs.lemmas.Bool.{lt-ltb, leb-true}
 use Rattle.tla_values.specs.Order.{Layer, same_value}
-use Rattle.tla_values.specs.Sets.{apply, set_of, function_of}
+use Rattle.tla_values.specs.Sets.{set_of}
 use Rattle.tla_values.specs.Integers.{fits_width}
 use Rattle.tla_values.proofs.OrderLemmas.{value_cmp_out}
 use Rattle.tla_values.specs.declared.value.Value.{Value, out-Value}
@@ -21,25 +21,25 @@ use Rattle.tla_meaning.specs.Outcomes.{strict, with_value}
 use Rattle.tla_meaning.specs.Shapes.{truth, sequence, choices, the_set, set_items}
 use Rattle.tla_meaning.specs.Operators.{table, yes_no, on_truths, on_all_sets, applied, or_wrong}
 use Rattle.tla_meaning.specs.Numbers.{Width, number, in_width}
-use Rattle.tla_meaning.specs.Scopes.{Scope, bind, find_last, or_else, same_text, value_found}
+use Rattle.tla_meaning.specs.Scopes.{Scope, bind, find_last, or_else, value_found}
 use Rattle.tla_meaning.specs.Meaning.{outcomes, outer, bound_table}
 use Rattle.tla_meaning.specs.Actions.{meaning}
 use Rattle.tla_meaning.proofs.Joins.{least_same}
 use Rattle.tla_meaning.proofs.Laws.{find-append}
 use Rattle.snowcat_rows.specs.declared.types.Ty.{Ty}
-use Rattle.kernel_trees.specs.declared.kernel.Ker.{Ker, out-Ker, roll-Ker, roll-out-Ker}
+use Rattle.kernel_trees.specs.declared.kernel.Ker.{Ker, out-Ker, roll-out-Ker}
 use Rattle.kernel_trees.specs.declared.kernel.KerOp.TheVariants as ker
 use Rattle.kernel_trees.specs.Trees.{ker_val, names_of, number_name}
-use Rattle.kernel_trees.proofs.Operators.{by_node, val_const, val_bound, val_item, val_tuple, val_equal, val_not, val_set, val_field, constant_value}
-use Rattle.kernel_trees.proofs.Binders.{val_function, at_members}
+use Rattle.kernel_trees.proofs.Operators.{val_const, val_bound, val_item, val_tuple, val_equal, val_not, val_set, val_field, constant_value}
+use Rattle.kernel_trees.proofs.Binders.{val_function}
 use Rattle.kera_reducer.specs.Reduction.{Numbering, Matched, is_wide}
-use Rattle.kera_reducer.specs.inner.Rows.{Let, let_in, tree, node, bound, pair, item, negation, place_of, type_of, op_at, named_first, named_second, equivalence, single, item_by_let}
+use Rattle.kera_reducer.specs.inner.Rows.{Let, let_in, tree, node, bound, pair, item, place_of, type_of, op_at, named_first, named_second, equivalence, single, item_by_let}
 use Rattle.kera_reducer.specs.inner.Builds.{is_let}
 use Rattle.kera_reducer.proofs.Widths.{fits_all, number_there}
 use Rattle.kera_reducer.proofs.Tying.{names_apart}
 use Rattle.kera_reducer.proofs.Outcomes.{strict_same, negated, not_layer, negated_is, field_row, tuple_then}
 use Rattle.kera_reducer.proofs.Lets.{let_scope, val_let, read_named, both_of, first_of, second_of}
-use Rattle.kera_reducer.proofs.Frame.{node_means, KeepsNode, KeepsEach, ker_vals, operands_kept, plain_row}
+use Rattle.kera_reducer.proofs.Frame.{KeepsNode, KeepsEach, operands_kept, plain_row}
 
 -- ---- literals
 

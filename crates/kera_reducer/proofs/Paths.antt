@@ -1,9 +1,8 @@
 -- Updates along a path: an update at the first index whose new value is an update at the rest of the path.
-use Rattle.std.proofs.Common.{◌≡◌, Bool, true, false, true≢false, List, [], ◌∷◌, map, refl, sym, ◌∙◌, ap, ap₂, subst, Option, Some, None, if◌then◌else◌}
-use Rattle.std.specs.declared.cmp.Ordering.TheVariants.{Less, Equal}
+use Rattle.std.proofs.Common.{◌≡◌, Bool, true, false, List, [], ◌∷◌, refl, sym, ◌∙◌, ap, subst, Option, Some, None, if◌then◌else◌}
 use Rattle.std.specs.Ordering.{is_eq}
 use Rattle.tla_values.specs.Order.{Layer, value_cmp, same_value}
-use Rattle.tla_values.specs.Sets.{Normal, apply, override_at, arguments, increasing}
+use Rattle.tla_values.specs.Sets.{Normal, apply, override_at, arguments}
 use Rattle.tla_values.specs.declared.value.Value.{Value, out-Value, roll-Value, roll-out-Value}
 use Rattle.tla_values.specs.declared.value.Value.TheVariants as value
 use Rattle.tla_values.specs.declared.value.Value.TheOpen as layer
@@ -14,8 +13,7 @@ use Rattle.tla_meaning.specs.declared.place.Place.{Place}
 use Rattle.tla_meaning.specs.declared.outcome.Outcome.{Outcome}
 use Rattle.tla_meaning.specs.declared.outcome.Outcome.TheVariants.{Val, Wrong, Big}
 use Rattle.tla_meaning.specs.Outcomes.{with_value}
-use Rattle.tla_meaning.specs.Meaning.{Reached, At, Outside, NoFunction, at_path, set_path, updated, step_into, go_on, reached_at, put_at, Update}
-use Rattle.tla_meaning.proofs.NormalShapes.{NormalLayer, layer_normal}
+use Rattle.tla_meaning.specs.Meaning.{Reached, At, Outside, NoFunction, at_path, set_path, updated, step_into, go_on, reached_at, put_at}
 use Rattle.kera_reducer.proofs.Tying.{some_same}
 
 -- ---- the value that stands at an argument, put there again

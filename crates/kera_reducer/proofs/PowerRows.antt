@@ -1,7 +1,7 @@
 -- Powers by products of a number that is named: the smaller ones fit where the power does.
-use Rattle.std.proofs.Common.{◌≡◌, ℕ, zero, suc, ◌+◌, ◌-◌, ◌*◌, ◌^◌, ◌≤◌, ◌<◌, arith, Bool, true, false, true≢false, List, [], ◌∷◌, map, refl, sym, ◌∙◌, ap, ap₂, subst, Some, None, ℤ, pos, negsuc, ◌*ℤ◌, int_lt, if◌then◌else◌}
+use Rattle.std.proofs.Common.{◌≡◌, ℕ, zero, suc, ◌+◌, ◌-◌, ◌*◌, ◌^◌, ◌≤◌, arith, Bool, true, false, true≢false, List, [], ◌∷◌, refl, sym, ◌∙◌, ap, subst, Some, None, ℤ, pos, negsuc, ◌*ℤ◌, int_lt, if◌then◌else◌}
 use Rattle.std.specs.Prelude.{nat_le}
-use Rattle.std.proofs.lemmas.Bool.{le-ltb, lt-ltb, ltb-false, ltb-true, leb-true, leb-false}
+use Rattle.std.proofs.lemmas.Bool.{le-ltb, lt-ltb, ltb-false, leb-true, leb-false}
 use Rattle.std.proofs.lemmas.Int.{unsigned_abs-mul}
 use Rattle.std.proofs.Math.IntN.{*ℤ_comm, *ℤ-one, one}
 use Rattle.std.proofs.Math.Nat.{one-le-pow}
@@ -17,26 +17,23 @@ use Rattle.tla_meaning.specs.declared.job.State.{State}
 use Rattle.tla_meaning.specs.declared.outcome.Outcome.{Outcome}
 use Rattle.tla_meaning.specs.declared.outcome.Outcome.TheVariants.{Val, Wrong, Big}
 use Rattle.tla_meaning.specs.Outcomes.{strict, with_value}
-use Rattle.tla_meaning.specs.Shapes.{truth}
 use Rattle.tla_meaning.specs.Operators.{table, yes_no, on_numbers}
 use Rattle.tla_meaning.specs.Numbers.{Width, number, in_width, power, power_of}
-use Rattle.tla_meaning.specs.Scopes.{Scope, find_last, value_found}
-use Rattle.tla_meaning.specs.Meaning.{by_truth, choose, outcomes, outer}
-use Rattle.tla_meaning.specs.Actions.{meaning}
+use Rattle.tla_meaning.specs.Scopes.{Scope, value_found}
+use Rattle.tla_meaning.specs.Meaning.{by_truth, choose}
 use Rattle.snowcat_rows.specs.declared.types.Ty.{Ty}
 use Rattle.kernel_trees.specs.declared.kernel.Ker.{Ker}
 use Rattle.kernel_trees.specs.declared.kernel.KerOp.TheVariants as ker
-use Rattle.kernel_trees.specs.Trees.{ker_val, number_name}
+use Rattle.kernel_trees.specs.Trees.{ker_val}
 use Rattle.kernel_trees.proofs.Operators.{val_bound, val_less, val_times, val_if}
-use Rattle.kera_reducer.specs.Reduction.{Numbering, Matched, is_wide}
+use Rattle.kera_reducer.specs.Reduction.{Numbering, is_wide}
 use Rattle.kera_reducer.specs.inner.Rows.{Let, node, number as number_at, op_at, place_of, type_of, named_one, named_first, product, tested, power_body, small_power, large_power}
 use Rattle.kera_reducer.specs.inner.Builds.{is_let}
 use Rattle.kera_reducer.proofs.Widths.{fits_all, number_there}
-use Rattle.kera_reducer.proofs.Outcomes.{strict_same}
 use Rattle.kera_reducer.proofs.Lets.{let_scope, val_let, read_named, both_of}
 use Rattle.kera_reducer.proofs.Negations.{val_number}
 use Rattle.kera_reducer.proofs.Pairs.{literal_number, big≢value, few_fit, first_read, let_pair}
-use Rattle.kera_reducer.proofs.Frame.{node_means, KeepsNode, KeepsEach, ker_vals, operands_kept, plain_row}
+use Rattle.kera_reducer.proofs.Frame.{KeepsNode, KeepsEach, operands_kept, plain_row}
 
 times_one : (m : ℤ) → m *ℤ pos 1 ≡ m
 unfolding one

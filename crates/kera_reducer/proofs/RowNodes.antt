@@ -11,7 +11,7 @@ use Rattle.kernel_trees.specs.declared.kernel.KerOp.{KerOp}
 use Rattle.kernel_trees.specs.declared.kernel.KerOp.TheVariants as ker
 use Rattle.kernel_trees.specs.Paths.{is_end}
 use Rattle.kera_reducer.specs.Origins.{is_text_constant, is_text_value, kernel_has_node}
-use Rattle.kera_reducer.specs.inner.Rows.{tree, node, place_of, type_of, op_at, number, truth, bound, negation, item, pair, is_literal, Let, let_in, named_one, named_first, named_second, implication, equivalence, single, item_by_let, product, tested, power_body, small_power, large_power, Level, Change, changed_at, changed, all_levels, indexes, pairs, behind, is_nil, operand_at, index_at, read_levels, read_changes, except_by_let, nested_ifs, twice_negated, case_branches, split_case, may_assign, guard_of}
+use Rattle.kera_reducer.specs.inner.Rows.{tree, node, place_of, type_of, op_at, number, truth, bound, negation, item, pair, is_literal, Let, let_in, named_one, named_first, named_second, implication, equivalence, single, item_by_let, product, tested, power_body, small_power, large_power, Level, Change, changed_at, changed, all_levels, pairs, behind, is_nil, operand_at, index_at, read_levels, read_changes, except_by_let, nested_ifs, twice_negated, case_branches, split_case, may_assign, guard_of}
 
 or_left : (a b : Bool) → (a || b) ≡ false → a ≡ false
 or_left true b h = absurd (true≢false h)
@@ -80,8 +80,11 @@ module _ (P : Place → Bool) (T : List ℕ → Bool) where
 
   let_free : (p : Place) (l : Let) (d e : Ker) → P p ≡ false → Free d → Free e → Free (let_in p l d e)
   let_free p l d e h f g =
-      made p l.type ker.First _ [] h refl ((made p l.wholes ker.FoldLeft _ _ h refl
-      ((made p l.wholes ker.Push _ [] h refl ((bound_free p l.wholes l.unread h), (g, tt))), ((made p l.wholes ker.SeqOf [] [] h refl tt), ((made p l.items ker.SeqOf (d ∷ []) [] h refl (f, tt)), tt)))), tt)
+      made p l.type ker.First _ [] h refl (
+        (made p l.wholes ker.FoldLeft _ _ h refl
+            ((made p l.wholes ker.Push _ [] h refl ((bound_free p l.wholes l.unread h), (g, tt))), ((made p l.wholes ker.SeqOf [] [] h refl tt), ((made p l.items ker.SeqOf (d ∷ []) [] h refl (f, tt)), tt)))),
+        tt,
+      )
 
   -- what stands for an operand stands at its place
   first_free : (l : Let) (t : Ty) (k : Ker) → Free k → Free (named_first l t k)

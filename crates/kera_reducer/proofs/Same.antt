@@ -1,34 +1,27 @@
 -- Rows in which the operator stays, by the kernel's name for it.
-use Rattle.std.proofs.Common.{◌≡◌, ℕ, zero, suc, Bool, true, false, List, [], ◌∷◌, ◌++◌, map, take, drop, length, true≢false, refl, sym, ◌∙◌, ap, ap₂, subst, Option, Some, None, option_and_then}
-use Rattle.tla_values.specs.Order.{Layer}
-use Rattle.tla_values.specs.declared.value.Value.{Value, out-Value}
-use Rattle.tla_values.specs.declared.value.Value.TheVariants as value
-use Rattle.tla_values.specs.declared.value.Value.TheOpen as layer
+use Rattle.std.proofs.Common.{◌≡◌, ℕ, true, List, [], map, refl, sym, ◌∙◌, ap, ap₂}
 use Rattle.tla_meaning.specs.declared.expr.Expr.{Expr}
 use Rattle.tla_meaning.specs.declared.forms.SetForm.TheVariants as form
-use Rattle.tla_meaning.specs.declared.op.Op.{Op}
-use Rattle.tla_meaning.specs.declared.op.Op.TheVariants as op
 use Rattle.tla_meaning.specs.declared.place.Place.{Place}
 use Rattle.tla_meaning.specs.declared.job.State.{State}
 use Rattle.tla_meaning.specs.declared.outcome.Outcome.{Outcome}
-use Rattle.tla_meaning.specs.declared.outcome.Outcome.TheVariants.{Val, Wrong, Big}
-use Rattle.tla_meaning.specs.Forms.{Formed, belongs}
+use Rattle.tla_meaning.specs.Forms.{belongs}
 use Rattle.tla_meaning.specs.Outcomes.{strict}
 use Rattle.tla_meaning.specs.Numbers.{Width}
 use Rattle.tla_meaning.specs.Operators.{table, yes_no}
-use Rattle.tla_meaning.specs.Scopes.{Scope, Denotation}
-use Rattle.tla_meaning.specs.Meaning.{Meaning, outcomes, forms, outer, plain, conjoined, disjoined, if_chosen, in_form, all_in, form_of_one, form_of_all, function_form}
+use Rattle.tla_meaning.specs.Scopes.{Scope}
+use Rattle.tla_meaning.specs.Meaning.{outcomes, forms, outer, plain, conjoined, disjoined, if_chosen, in_form, all_in, form_of_one, form_of_all, function_form}
 use Rattle.tla_meaning.specs.Actions.{meaning}
 use Rattle.tla_meaning.proofs.Views.{false≢true}
 use Rattle.snowcat_rows.specs.declared.types.Ty.{Ty}
 use Rattle.kernel_trees.specs.declared.kernel.Ker.{Ker}
 use Rattle.kernel_trees.specs.declared.kernel.KerOp.{KerOp}
 use Rattle.kernel_trees.specs.declared.kernel.KerOp.TheVariants as ker
-use Rattle.kernel_trees.specs.Trees.{op_of, ker_val, ker_form}
+use Rattle.kernel_trees.specs.Trees.{op_of}
 use Rattle.kernel_trees.proofs.Nodes.{all_meanings, sense_at, outcomes_here}
 use Rattle.kernel_trees.proofs.Operators.{by_node, form_by_node, forms_here}
 use Rattle.kera_reducer.specs.Reduction.{Numbering, Matched}
-use Rattle.kera_reducer.specs.inner.Rows.{tree, node}
+use Rattle.kera_reducer.specs.inner.Rows.{node}
 use Rattle.kera_reducer.specs.inner.Builds.{is_same}
 use Rattle.kera_reducer.proofs.Frame.{node_means, KeepsNode, KeepsEach, operands_kept, operand_forms_kept}
 

@@ -1,6 +1,6 @@
 -- Scopes that are tied by numbers stay so where more names are bound with new numbers, and where the kernel binds numbers
 -- that no name has.
-use Rattle.std.proofs.Common.{◌≡◌, ℕ, Bool, true, false, not, ◌&&◌, IsTrue, List, [], ◌∷◌, ◌++◌, refl, sym, ◌∙◌, ap, subst, Option, Some, None, option_and_then, if◌then◌else◌}
+use Rattle.std.proofs.Common.{◌≡◌, ℕ, Bool, true, false, not, ◌&&◌, List, [], ◌∷◌, ◌++◌, refl, sym, ◌∙◌, ap, subst, Option, Some, None, option_and_then, if◌then◌else◌}
 use Rattle.std.specs.Prelude.{nat_eq}
 use Rattle.std.proofs.lemmas.Map.Text.{is_eq-slice_cmp}
 use Rattle.tla_values.specs.declared.value.Value.{Value}
@@ -10,7 +10,7 @@ use Rattle.tla_meaning.proofs.Laws.{find-append, none≢some}
 use Rattle.tla_meaning.proofs.Views.{and_left, and_right, false≢true}
 use Rattle.kernel_trees.specs.Trees.{number_name, names_of}
 use Rattle.kernel_trees.proofs.Steps.{same_text_same}
-use Rattle.kera_reducer.specs.Reduction.{Numbering, Tied, fresh, are_fresh, numbered, all_fresh}
+use Rattle.kera_reducer.specs.Reduction.{Numbering, Tied, fresh, numbered, all_fresh}
 
 pub some_same : {X : Type 0} {x y : X} → Some x ≡ Some y → x ≡ y
 some_same q = cc

@@ -2,6 +2,7 @@
 pub mod Reduction
 pub mod JobPaths
 pub mod PathLaws
+pub mod Laws
 pub mod Origins
 pub mod BuiltJobs
 pub mod inner
