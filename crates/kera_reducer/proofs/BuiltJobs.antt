@@ -1,6 +1,5 @@
 -- What a job's kernel keeps of the job, part by part.
-use Rattle.std.proofs.Common.{◌≡◌, ℕ, Bool, true, false, not, ◌&&◌, ◌||◌, IsTrue, List, [], ◌∷◌, map, length, true≢false, refl, sym, ◌∙◌, ap, ap₂, subst, Option, Some, None}
-use Rattle.std.specs.Prelude.{nat_lt}
+use Rattle.std.proofs.Common.{◌≡◌, ℕ, Bool, true, false, not, ◌&&◌, ◌||◌, IsTrue, List, [], ◌∷◌, map, length, refl, sym, ◌∙◌, ap, ap₂, Option, Some, None}
 use Rattle.std.specs.List.{AllByRecursion, list_all, list_any}
 use Rattle.tla_values.specs.Sets.{Normal}
 use Rattle.tla_meaning.specs.declared.actions.Assignable.{Assignable}
@@ -22,10 +21,10 @@ use Rattle.tla_meaning.proofs.Views.{and_left, and_right, false≢true}
 use Rattle.kernel_trees.specs.declared.kernel.Ker.{Ker}
 use Rattle.kernel_trees.specs.declared.system.KerJob.{KerJob}
 use Rattle.kernel_trees.specs.Trees.{ker_val}
-use Rattle.snowcat_types.specs.Answers.{is_typable, is_typable_op, is_typable_tree, typable_layer}
+use Rattle.snowcat_types.specs.Answers.{is_typable_op, is_typable_tree, typable_layer}
 use Rattle.snowcat_types.specs.Systems.{parts_of}
-use Rattle.kera_reducer.specs.BuiltJobs.{IsBuilt, KeepsJobPaths, KeepsJobPlaces, KeepsJobTexts, KeepsOutcomes, SamePathsOf, kernel_parts_of}
-use Rattle.kera_reducer.specs.JobPaths.{has_name, has_name_at, outside, tree_names_below}
+use Rattle.kera_reducer.specs.BuiltJobs.{IsBuilt, KeepsJobPaths, KeepsJobPlaces, KeepsJobTexts, KeepsJobOutcomes, SamePathsOf, kernel_parts_of}
+use Rattle.kera_reducer.specs.JobPaths.{has_name, has_name_at, outside}
 use Rattle.kera_reducer.specs.Origins.{has_text, kernel_has_text, kernel_stands_at, stands_at}
 use Rattle.kera_reducer.specs.Reduction.{Matched, is_wide}
 use Rattle.kera_reducer.specs.inner.Builds.{Builds, BuildsEach, none_left, one_more}
@@ -46,7 +45,7 @@ each_val w s t h r (none_left i ρ) = refl
 each_val w s t h r (one_more i ρ e k es ks b g) =
     ap₂ (λ (o : Outcome) (os : List Outcome). o ∷ os) ((keeps w h None [] e k b tt).value no_scope no_scope s t r) (each_val w s t h r g)
 
-pub keeps_outcomes : (job : Job) (k : KerJob) (w : Width) (s t : State) → KeepsOutcomes job k w s t
+pub keeps_outcomes : (job : Job) (k : KerJob) (w : Width) (s t : State) → KeepsJobOutcomes job k w s t
 keeps_outcomes job k w s t b h f g = record {
   cinit = keeps_actions w (in_cinit job) [] job.cinit k.cinit h b.cinit no_scope no_scope s t (matched s t f g);
   assume = (keeps w h None [] job.assume k.assume b.assume tt).value no_scope no_scope s t (matched s t f g);

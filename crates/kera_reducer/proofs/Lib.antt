@@ -15,6 +15,7 @@ pub mod Excepting
 pub mod ExceptReads
 pub mod ExceptRows
 pub mod Keeping
+pub mod Basics
 pub mod JobTrees
 pub mod JobPathExamples
 pub mod WayPairs

@@ -50,8 +50,8 @@ pub record SameOutcomes (w : Width) (job : Job) (k : KerJob) (s t : State) : Typ
   pub invs : map (λ e. val w e no_scope s t) (invariants_of job) ≡ map (λ k. ker_val w k no_scope s t) k.invs
 
 -- where their values are normal, without a width and under each from 4 on
-abbrev pub KeepsOutcomes : Job → KerJob → Width → State → State → Type 0
-KeepsOutcomes job k w s t =
+abbrev pub KeepsJobOutcomes : Job → KerJob → Width → State → State → Type 0
+KeepsJobOutcomes job k w s t =
     IsBuilt job k → IsTrue (is_wide w) → AllByRecursion Normal s.vals → AllByRecursion Normal t.vals → SameOutcomes w job k s t
 
 -- ---- paths

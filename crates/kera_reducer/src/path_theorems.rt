@@ -9,7 +9,7 @@ ghost use Rattle.tla_meaning.specs.declared.place.Place.{Place};
 ghost use Rattle.kernel_trees.specs.Paths.{Marks};
 ghost use Rattle.kernel_trees.specs.declared.kernel.Ker.{Ker};
 ghost use Rattle.kernel_trees.specs.declared.system.KerJob.{KerJob};
-ghost use Rattle.kera_reducer.specs.BuiltJobs.{KeepsJobPaths, KeepsJobPlaces, KeepsJobTexts, KeepsOutcomes};
+ghost use Rattle.kera_reducer.specs.BuiltJobs.{KeepsJobPaths, KeepsJobPlaces, KeepsJobTexts, KeepsJobOutcomes};
 ghost use Rattle.kera_reducer.specs.JobPaths.{TypedTree};
 ghost use Rattle.kera_reducer.specs.PathLaws.{KeepsActions, KeepsPaths, KeepsPathsBelow, KeepsReads, KeepsSteps};
 ghost use Rattle.kera_reducer.specs.Origins.{KeepsPlaces, KeepsTexts};
@@ -41,7 +41,7 @@ pub fn built_trees_keep_places_and_names()
 /// values, under no width and under each from 4 on; the paths of CInit, Init and Next of a job that may be typed; and no
 /// place and no text that the job does not have.
 pub fn built_jobs_keep_outcomes_and_paths()
-    ensures outcomes { (job : Job) (k : KerJob) (w : Width) (s t : State) → KeepsOutcomes job k w s t }
+    ensures outcomes { (job : Job) (k : KerJob) (w : Width) (s t : State) → KeepsJobOutcomes job k w s t }
     ensures paths { (job : Job) (k : KerJob) → KeepsJobPaths job k }
     ensures places { (job : Job) (k : KerJob) (p : Place) → KeepsJobPlaces job k p }
     ensures texts { (job : Job) (k : KerJob) (x : List ℕ) → KeepsJobTexts job k x }
