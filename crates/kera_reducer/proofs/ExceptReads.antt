@@ -1,5 +1,6 @@
 -- The operands of an EXCEPT as pairs that are named, and what is read from these.
 use Rattle.std.proofs.Common.{◌≡◌, Bool, true, false, not, ◌&&◌, true≢false, List, [], ◌∷◌, ◌++◌, map, pos, refl, sym, ◌∙◌, ap, ap₂, subst, Some, if◌then◌else◌}
+use Rattle.std.proofs.lemmas.List.{append-nil, append_assoc}
 use Rattle.tla_values.specs.Order.{Layer}
 use Rattle.tla_values.specs.declared.value.Value.{Value}
 use Rattle.tla_values.specs.declared.value.Value.TheVariants as value
@@ -26,10 +27,10 @@ use Rattle.kernel_trees.proofs.Operators.{val_bound, val_item, val_tuple}
 use Rattle.kera_reducer.specs.Reduction.{is_wide}
 use Rattle.kera_reducer.specs.inner.Rows.{Let, item, bound, pairs, behind, operand_at, index_at, is_literal, is_literal_op, is_nil, op_at, place_of, type_of, Level, Change, read_levels, read_changes}
 use Rattle.kera_reducer.proofs.Widths.{fits_all, number_there}
-use Rattle.kera_reducer.proofs.Outcomes.{strict_same}
+use Rattle.kera_reducer.proofs.Outcomes.{strict_same, cons≢none, other_values}
 use Rattle.kera_reducer.proofs.Lets.{both_of, first_of, second_of}
 use Rattle.kera_reducer.proofs.Pairs.{literal_val}
-use Rattle.kera_reducer.proofs.Excepting.{rest_of, cons≢none, HasLevels, Closed, HasRight, NormalNew, HasChanges, last_number}
+use Rattle.kera_reducer.proofs.Excepting.{HasLevels, Closed, HasRight, NormalNew, HasChanges, last_number}
 
 -- ---- values in pairs
 
@@ -99,7 +100,7 @@ module _ (w : Width) (s t : State) where
     where
       by : (vs : List Value) → ker_val w k b s t ∷ ker_val w l.index b s t ∷ index_vals ls b ≡ map Val vs → paired vs ≡ Val (nested vs)
       by [] e = absurd (cons≢none e)
-      by (v ∷ []) e = absurd (cons≢none (rest_of e))
+      by (v ∷ []) e = absurd (cons≢none (other_values e))
       by (v ∷ u ∷ vs) e = refl
 
 -- ---- reading
@@ -180,10 +181,6 @@ module _ (w : Width) (wide : is_wide w ≡ true) (s t : State) (c : Scope) where
       by true h = left ∙ ap Val (none_behind vs h)
       by false h = first_item (place_of k) (type_of k) _ v (nested vs) (left ∙ ap Val (nested_more v vs h))
 
-append_none : {X : Type 0} (xs : List X) → xs ++ [] ≡ xs
-append_none [] = refl
-append_none (x ∷ xs) = ap (λ l. x ∷ l) (append_none xs)
-
 -- a literal is the same everywhere
 pub literal_same : (w : Width) (s t : State) (k : Ker) (b c : Scope) → is_literal k ≡ true → ker_val w k c s t ≡ ker_val w k b s t
 literal_same w s t k b c h = by (op_at k) refl h
@@ -220,14 +217,6 @@ module _ (w : Width) (wide : is_wide w ≡ true) (s t : State) (b : Scope) where
       by true g = literal_same w s t k b c g ∙ e
       by false g = operand_val w wide s t c l ty rs last k us v vs q m h
 
-  append_once : {X : Type 0} (xs : List X) (y : X) (ys : List X) → (xs ++ y ∷ []) ++ ys ≡ xs ++ y ∷ ys
-  append_once [] y ys = refl
-  append_once (x ∷ xs) y ys = ap (λ l. x ∷ l) (append_once xs y ys)
-
-  append_assoc : {X : Type 0} (xs ys zs : List X) → (xs ++ ys) ++ zs ≡ xs ++ (ys ++ zs)
-  append_assoc [] ys zs = refl
-  append_assoc (x ∷ xs) ys zs = ap (λ l. x ∷ l) (append_assoc xs ys zs)
-
   abbrev pub all_values : List Update → List Value
   all_values [] = []
   all_values (y ∷ ys) = y.0 ++ all_values ys
@@ -258,7 +247,7 @@ module _ (w : Width) (wide : is_wide w ≡ true) (s t : State) (b : Scope) where
         λ c q. index_val l ty (rs ++ x.rest ∷ []) (is_nil xs && not more) x.index us v (vs ++ later) c h.0 (names c q ∙ ap Some e)
             (matches_more rs us x.rest o) (both_nil vs later ∙ ap₂ (λ m n. m && n) (nil_same xs vs h.1) g),
         levels_read (rs ++ x.rest ∷ []) (us ++ v ∷ []) more xs vs later (more_more rs us x.rest v o) h.1
-            (e ∙ ap nested (sym (append_once us v (vs ++ later)))) g,
+            (e ∙ ap nested (sym (append_assoc us (v ∷ []) (vs ++ later)))) g,
       )
 
       last_read : (rs : List Ty) (more : Bool) (ls : List Level) → last_number (read_levels l ty rs more ls) ≡ last_number ls
@@ -275,12 +264,12 @@ module _ (w : Width) (wide : is_wide w ≡ true) (s t : State) (b : Scope) where
       some_read rs more (x ∷ xs) h = refl
 
       more_all : (rs : List Ty) (us : List Value) (ls : List Level) (vs : List Value) → OneMore rs us → HaveValues ls vs → OneMore (rs ++ map (λ x. x.rest) ls) (us ++ vs)
-      more_all rs us [] [] o h = subst (λ z. OneMore z (us ++ [])) (sym (append_none rs)) (subst (OneMore rs) (sym (append_none us)) o)
+      more_all rs us [] [] o h = subst (λ z. OneMore z (us ++ [])) (sym (append-nil rs)) (subst (OneMore rs) (sym (append-nil us)) o)
       more_all rs us [] (v ∷ vs) o h = absurd h
       more_all rs us (x ∷ xs) [] o h = absurd h
       more_all rs us (x ∷ xs) (v ∷ vs) o h =
-          subst (λ z. OneMore z (us ++ v ∷ vs)) (append_once rs x.rest (map (λ x. x.rest) xs))
-          (subst (OneMore ((rs ++ x.rest ∷ []) ++ map (λ x. x.rest) xs)) (append_once us v vs)
+          subst (λ z. OneMore z (us ++ v ∷ vs)) (append_assoc rs (x.rest ∷ []) (map (λ x. x.rest) xs))
+          (subst (OneMore ((rs ++ x.rest ∷ []) ++ map (λ x. x.rest) xs)) (append_assoc us (v ∷ []) vs)
           (more_all (rs ++ x.rest ∷ []) (us ++ v ∷ []) xs vs (more_more rs us x.rest v o) h.1))
 
       values_nil : (us : List Change) (ys : List Update) → AllGiven us ys → is_nil (all_values ys) ≡ is_nil us

@@ -1,7 +1,8 @@
 -- The rows of EXCEPT: what the language makes of its operands, and what the kernel's updates do.
-use Rattle.std.proofs.Common.{◌≡◌, ℕ, zero, suc, Bool, true, false, not, ◌&&◌, ◌||◌, true≢false, List, [], ◌∷◌, ◌++◌, map, take, drop, replicate, refl, sym, ◌∙◌, ap, subst, Some, None, if◌then◌else◌}
+use Rattle.std.proofs.Common.{◌≡◌, ℕ, suc, Bool, true, false, not, ◌&&◌, ◌||◌, true≢false, List, [], ◌∷◌, ◌++◌, map, take, drop, replicate, refl, sym, ◌∙◌, ap, subst, Some, None, if◌then◌else◌}
 use Rattle.std.specs.Prelude.{nat_eq}
 use Rattle.std.specs.List.{list_all, list_any}
+use Rattle.std.proofs.lemmas.List.{map-append, take-append-drop}
 use Rattle.tla_values.specs.Order.{Layer}
 use Rattle.tla_values.specs.Sets.{Normal}
 use Rattle.tla_values.specs.declared.value.Value.{Value, out-Value}
@@ -35,11 +36,11 @@ use Rattle.kera_reducer.specs.inner.Builds.{is_let, is_except_let}
 use Rattle.kera_reducer.proofs.Widths.{fits_all, number_there}
 use Rattle.kera_reducer.proofs.Tying.{names_apart, not_true, tied_unread, tied_two}
 use Rattle.kera_reducer.proofs.Normals.{outcome_normal, bind_normal, matched_bind}
-use Rattle.kera_reducer.proofs.Outcomes.{strict_same}
+use Rattle.kera_reducer.proofs.Outcomes.{strict_same, one_value, other_values, cons≢none}
 use Rattle.kera_reducer.proofs.Frame.{node_means, KeepsNode, plain_row}
 use Rattle.kera_reducer.proofs.Lets.{empty, let_scope, val_let, read_named}
 use Rattle.kera_reducer.proofs.Pairs.{literal_val}
-use Rattle.kera_reducer.proofs.Excepting.{one_value, rest_of, cons≢none, last_number, HasLevels, Closed, HasChanges, many_val}
+use Rattle.kera_reducer.proofs.Excepting.{last_number, HasLevels, Closed, HasChanges, many_val}
 use Rattle.kera_reducer.proofs.ExceptReads.{nested, index_vals, pairs_val, operand_val, HaveValues, AllGiven, all_values, changes_read}
 
 -- ---- what the parts keep
@@ -55,15 +56,6 @@ pub data KeepsChanges (w : Width) : Numbering → List ℕ → List ℕ → List
   change_kept : (ρ : Numbering) (x : List ℕ) (n : ℕ) (ns : List ℕ) (es : List Expr) (u : Change) (us : List Change) →
       KeepsPath w ρ x n (take (suc n) es) u.levels u.right → KeepsChanges w ρ x ns (drop (suc n) es) us →
       KeepsChanges w ρ x (n ∷ ns) es (u ∷ us)
-
-take_drop : {X : Type 0} (n : ℕ) (xs : List X) → take n xs ++ drop n xs ≡ xs
-take_drop zero xs = refl
-take_drop (suc n) [] = refl
-take_drop (suc n) (x ∷ xs) = ap (λ l. x ∷ l) (take_drop n xs)
-
-map_append : {X Y : Type 0} (f : X → Y) (xs ys : List X) → map f (xs ++ ys) ≡ map f xs ++ map f ys
-map_append f [] ys = refl
-map_append f (x ∷ xs) ys = ap (λ zs. f x ∷ zs) (map_append f xs ys)
 
 -- ---- a path
 
@@ -105,12 +97,12 @@ module _ (w : Width) (ρ : Numbering) (x : List ℕ) (p : Place) where
         outcomes (all_indexes ns (outer p (except_marks ns) (map (meaning w) es) a)) s t ≡ index_vals w s t (all_levels us) b
     changes_outcomes ns es us (none_kept _ _) a b r = refl
     changes_outcomes ns es us (change_kept _ _ n ms _ u vs h g) a b r =
-        ap (λ z. outcomes (all_indexes (n ∷ ms) (outer p (replicate n false ++ true ∷ except_marks ms) (map (meaning w) z) a)) s t) (sym (take_drop (suc n) es))
+        ap (λ z. outcomes (all_indexes (n ∷ ms) (outer p (replicate n false ++ true ∷ except_marks ms) (map (meaning w) z) a)) s t) (sym (take-append-drop (suc n) es))
         ∙ ap (λ z. outcomes (take n (outer p (replicate n false ++ true ∷ except_marks ms) (map (meaning w) (take (suc n) es ++ drop (suc n) es)) a) ++ all_indexes ms z) s t)
         (path_drop_outer n (take (suc n) es) u.levels u.right h (except_marks ms) (drop (suc n) es) a)
-        ∙ map_append (λ (d : Denotation). d.value s t) (take n (outer p (replicate n false ++ true ∷ except_marks ms) (map (meaning w) (take (suc n) es ++ drop (suc n) es)) a)) _
+        ∙ map-append (λ (d : Denotation). d.value s t) (take n (outer p (replicate n false ++ true ∷ except_marks ms) (map (meaning w) (take (suc n) es ++ drop (suc n) es)) a)) _
         ∙ (λ i. path_outcomes n (take (suc n) es) u.levels u.right h (except_marks ms) (drop (suc n) es) a b r i ++ changes_outcomes ms (drop (suc n) es) vs g a b r i)
-        ∙ sym (map_append (λ (l : Level). ker_val w l.index b s t) u.levels (all_levels vs))
+        ∙ sym (map-append (λ (l : Level). ker_val w l.index b s t) u.levels (all_levels vs))
 
 -- ---- outcomes that are values
 
@@ -158,9 +150,9 @@ module _ (w : Width) (wide : is_wide w ≡ true) (s t : State) (b : Scope) where
   given_vals p P [] (y ∷ ys) h = absurd h
   given_vals p P (u ∷ us) [] h = absurd h
   given_vals p P (u ∷ us) (y ∷ ys) h =
-      map_append (λ (l : Level). ker_val w l.index b s t) u.levels (all_levels us)
+      map-append (λ (l : Level). ker_val w l.index b s t) u.levels (all_levels us)
       ∙ (λ i. vals_of u.levels y.0 h.0.indexes i ++ given_vals p P us ys h.1 i)
-      ∙ sym (map_append Val y.0 (all_values w wide s t b ys))
+      ∙ sym (map-append Val y.0 (all_values w wide s t b ys))
 
 -- ---- updates, where all indexes have values
 
@@ -195,13 +187,13 @@ module _ (w : Width) (wide : is_wide w ≡ true) (ρ : Numbering) (x : List ℕ)
           let fs : List Expr = take (suc n) es in
           let rest : List Expr = drop (suc n) es in
           let numbers : list_all ok (map (λ l. l.number) u.levels ++ level_numbers vs) ≡ true =
-          subst (λ z. list_all ok z ≡ true) (map_append (λ (l : Level). l.number) u.levels (all_levels vs)) h in
+          subst (λ z. list_all ok z ≡ true) (map-append (λ (l : Level). l.number) u.levels (all_levels vs)) h in
           let here : list_all ok (map (λ l. l.number) u.levels) ≡ true = oks_left (map (λ l. l.number) u.levels) (level_numbers vs) numbers in
           let there : AreVals (index_vals w s t u.levels b ++ index_vals w s t (all_levels vs) b) =
-          subst AreVals (map_append (λ (l : Level). ker_val w l.index b s t) u.levels (all_levels vs)) g in
+          subst AreVals (map-append (λ (l : Level). ker_val w l.index b s t) u.levels (all_levels vs)) g in
           let some : is_nil u.levels ≡ false = path_some w ρ x p n fs u.levels u.right k in
           let free_last : fresh (last_number u.levels) ρ ≡ true = last_free u.levels some here in
-          subst (λ z. AllGiven w wide s t b p P (u ∷ vs) (job_updates (n ∷ ms) z)) (take_drop (suc n) es) (
+          subst (λ z. AllGiven w wide s t b p P (u ∷ vs) (job_updates (n ∷ ms) z)) (take-append-drop (suc n) es) (
             record {
               indexes = subst (λ z. HaveValues w wide s t b u.levels (values z)) (sym (path_outcomes w ρ x p s t n fs u.levels u.right k (except_marks ms) rest a b r))
                   (have_vals w wide s t b u.levels (vals_left (index_vals w s t u.levels b) (index_vals w s t (all_levels vs) b) there));
@@ -321,7 +313,7 @@ module _ (w : Width) (wide : is_wide w ≡ true) (ρ : Numbering) (x : List ℕ)
               here = (read_named l whole b, record { tied = tied_two l.unread l.named empty whole ρ a b unread_free named_free r.tied; normal = r.normal })
 
               indexes_are : index_vals w s t (all_levels us) b ≡ map Val vs
-              indexes_are = rest_of q
+              indexes_are = other_values q
 
               given : AllGiven w wide s t b p P us (the_updates a s t)
               given =
@@ -445,7 +437,7 @@ module _ (w : Width) (wide : is_wide w ≡ true) (s t : State) (c : Scope) where
   fault_val p a k [] h g = refl
   fault_val p a k (u ∷ us) h g =
       let there : AreVals (index_vals w s t u.levels c ++ index_vals w s t (all_levels us) c) =
-      subst AreVals (map_append (λ (l : Level). ker_val w l.index c s t) u.levels (all_levels us)) g in
+      subst AreVals (map-append (λ (l : Level). ker_val w l.index c s t) u.levels (all_levels us)) g in
       let e = one u.levels (vals_left (index_vals w s t u.levels c) (index_vals w s t (all_levels us) c) there) in
       fault_val p a (changed_at p a k u.levels u.right) us (ap is_val e ∙ h) (vals_right (index_vals w s t u.levels c) (index_vals w s t (all_levels us) c) there) ∙ e
     where
@@ -524,7 +516,7 @@ module _ (w : Width) (wide : is_wide w ≡ true) (ρ : Numbering) (x : List ℕ)
               ∙ sym (fault_val w wide s t b p c (changed_at p c f u.levels u.right) us
               (ap is_val there ∙ fault_stays (ker_val w f b s t) (ker_val w l.index b s t) (λ vs. Wrong p) y)
               (vals_right (index_vals w s t ls b) (index_vals w s t (all_levels us) b)
-              (subst AreVals (map_append (λ (l : Level). ker_val w l.index b s t) ls (all_levels us)) rest_vals))
+              (subst AreVals (map-append (λ (l : Level). ker_val w l.index b s t) ls (all_levels us)) rest_vals))
               ∙ there)
             where
               rest_vals : AreVals (index_vals w s t (ls ++ all_levels us) b)

@@ -24,7 +24,7 @@ use Rattle.kernel_trees.proofs.Operators.{val_bound}
 use Rattle.kernel_trees.proofs.Binders.{val_update, updated_one, updated_by, one_update}
 use Rattle.kernel_trees.proofs.Steps.{same_text_same}
 use Rattle.kera_reducer.specs.inner.Rows.{bound, Level, Change, changed_at, changed, is_nil}
-use Rattle.kera_reducer.proofs.Outcomes.{strict_same, with_same}
+use Rattle.kera_reducer.proofs.Outcomes.{strict_same, with_same, one_value, other_values, cons≢none, none≢cons}
 use Rattle.kera_reducer.proofs.Paths.{path_step, one_step}
 
 -- ---- one update behind the other
@@ -116,18 +116,6 @@ read_new n v c =
     find-append (number_name n) c.bound ((number_name n, v) ∷ [])
     ∙ ap (λ b. or_else (or_else None (if b then Some v else None)) (find_last (number_name n) c.bound)) (same_text_same (number_name n))
 
-pub one_value : {a : Outcome} {u : Outcome} {as' us : List Outcome} → a ∷ as' ≡ u ∷ us → a ≡ u
-one_value e = cc
-
-pub cons≢none : {x : Outcome} {xs : List Outcome} → x ∷ xs ≡ [] → ⊥
-cons≢none e = cc
-
-pub rest_of : {a : Outcome} {u : Outcome} {as' us : List Outcome} → a ∷ as' ≡ u ∷ us → as' ≡ us
-rest_of e = cc
-
-pub none≢cons : {x : Outcome} {xs : List Outcome} → [] ≡ x ∷ xs → ⊥
-none≢cons e = cc
-
 abbrev pub last_number : List Level → ℕ
 last_number [] = 0
 last_number (l ∷ []) = l.number
@@ -160,11 +148,11 @@ module _ (w : Width) (s t : State) (p : Place) (P : Scope → Type 0) where
       by : (us : List Value) → ker_val w f c s t ∷ ker_val w l.index c s t ∷ [] ≡ map Val us →
           updated_by w s t p (λ old. ker_val w e (bind (number_name l.number ∷ []) (old ∷ []) c) s t) us ≡ updated_first w s t p new [] us
       by [] e = absurd (cons≢none e)
-      by (u ∷ []) e = absurd (cons≢none (rest_of e))
+      by (u ∷ []) e = absurd (cons≢none (other_values e))
       by (u ∷ i ∷ []) e =
           one_same w s t p _ new (λ old m. r c q old m) i u (out-Value u) (layer_normal u (subst IsNormalOutcome (one_value e) n))
           ∙ sym (one_update w s t p new i u (out-Value u))
-      by (u ∷ i ∷ x ∷ us) e = absurd (none≢cons (rest_of (rest_of e)))
+      by (u ∷ i ∷ x ∷ us) e = absurd (none≢cons (other_values (other_values e)))
   path_val a f e new l [] (v ∷ vs) c h k r q n = absurd h
   path_val a f e new l (m ∷ ls) [] c h k r q n = absurd h
   path_val a f e new l (m ∷ ls) (v ∷ vs) c h k r q n =
@@ -183,13 +171,13 @@ module _ (w : Width) (s t : State) (p : Place) (P : Scope → Type 0) where
           updated_by w s t p (λ old. ker_val w (changed_at p l.inner (bound p l.inner l.number) (m ∷ ls) e) (bind (number_name l.number ∷ []) (old ∷ []) c) s t) us
           ≡ updated_first w s t p new (v ∷ vs) us
       by g [] e = absurd (cons≢none e)
-      by g (u ∷ []) e = absurd (cons≢none (rest_of e))
+      by g (u ∷ []) e = absurd (cons≢none (other_values e))
       by g (u ∷ i ∷ []) e =
           let o : Normal u = subst IsNormalOutcome (one_value e) n in
           one_same w s t p _ (λ old. updated p ((v ∷ vs, new) ∷ []) old) g i u (out-Value u) (layer_normal u o)
           ∙ one_is_step w s t p new i (v ∷ vs) u (out-Value u)
           ∙ path_step p new i (v ∷ vs) u o
-      by g (u ∷ i ∷ x ∷ us) e = absurd (none≢cons (rest_of (rest_of e)))
+      by g (u ∷ i ∷ x ∷ us) e = absurd (none≢cons (other_values (other_values e)))
 
   -- ---- several updates
 

@@ -39,3 +39,5 @@ pub mod Kept
 pub mod RowNodes
 pub mod NodesKept
 pub mod BuiltJobs
+pub mod Building
+pub mod BuildExamples

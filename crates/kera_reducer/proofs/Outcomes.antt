@@ -62,6 +62,20 @@ strict_same os f g h = by (joined os) refl
     by (IsWrong p) e = refl
     by (IsBig p) e = refl
 
+-- ---- lists of outcomes
+
+pub one_value : {a : Outcome} {u : Outcome} {as' us : List Outcome} → a ∷ as' ≡ u ∷ us → a ≡ u
+one_value e = cc
+
+pub other_values : {a : Outcome} {u : Outcome} {as' us : List Outcome} → a ∷ as' ≡ u ∷ us → as' ≡ us
+other_values e = cc
+
+pub cons≢none : {x : Outcome} {xs : List Outcome} → x ∷ xs ≡ [] → ⊥
+cons≢none e = cc
+
+pub none≢cons : {x : Outcome} {xs : List Outcome} → [] ≡ x ∷ xs → ⊥
+none≢cons e = cc
+
 -- ---- negations
 
 abbrev pub negated : Width → Place → Outcome → Outcome

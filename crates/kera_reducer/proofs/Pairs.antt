@@ -37,7 +37,7 @@ use Rattle.kera_reducer.specs.inner.Rows.{Let, let_in, tree, node, bound, pair, 
 use Rattle.kera_reducer.specs.inner.Builds.{is_let}
 use Rattle.kera_reducer.proofs.Widths.{fits_all, number_there}
 use Rattle.kera_reducer.proofs.Tying.{names_apart}
-use Rattle.kera_reducer.proofs.Outcomes.{strict_same, negated, not_layer, negated_is, field_row, tuple_then}
+use Rattle.kera_reducer.proofs.Outcomes.{strict_same, negated, not_layer, negated_is, field_row, tuple_then, one_value, other_values, cons≢none, none≢cons}
 use Rattle.kera_reducer.proofs.Lets.{let_scope, val_let, read_named, both_of, first_of, second_of}
 use Rattle.kera_reducer.proofs.Frame.{KeepsNode, KeepsEach, operands_kept, plain_row}
 
@@ -94,18 +94,6 @@ module _ (w : Width) (wide : is_wide w ≡ true) (s t : State) (l : Let) (p : Pl
         item_read (place_of k) (type_of k) 2 refl
         ∙ ap (λ (x : Layer Value). applied (place_of k) x (value.Int (pos 2))) (value.outs-Fun _)
         ∙ ap (or_wrong (place_of k)) (second_of u v)
-
-one_value : {a : Outcome} {u : Outcome} {as' us : List Outcome} → a ∷ as' ≡ u ∷ us → a ≡ u
-one_value e = cc
-
-other_values : {a : Outcome} {u : Outcome} {as' us : List Outcome} → a ∷ as' ≡ u ∷ us → as' ≡ us
-other_values e = cc
-
-cons≢none : {x : Outcome} {xs : List Outcome} → x ∷ xs ≡ [] → ⊥
-cons≢none e = cc
-
-none≢cons : {x : Outcome} {xs : List Outcome} → [] ≡ x ∷ xs → ⊥
-none≢cons e = cc
 
 -- what follows a pair that is named has both values
 pub let_pair : (w : Width) (s t : State) (p : Place) (l : Let) (ty : Ty) (k m e : Ker) (b : Scope) (f : List Value → Outcome) → is_let l ≡ true →

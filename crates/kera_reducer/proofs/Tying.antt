@@ -2,6 +2,7 @@
 -- that no name has.
 use Rattle.std.proofs.Common.{◌≡◌, ℕ, Bool, true, false, not, ◌&&◌, List, [], ◌∷◌, ◌++◌, refl, sym, ◌∙◌, ap, subst, Option, Some, None, option_and_then, if◌then◌else◌}
 use Rattle.std.specs.Prelude.{nat_eq}
+use Rattle.std.proofs.lemmas.List.{append-nil, append_assoc}
 use Rattle.std.proofs.lemmas.Map.Text.{is_eq-slice_cmp}
 use Rattle.tla_values.specs.declared.value.Value.{Value}
 use Rattle.tla_values.specs.declared.value.Value.TheVariants as value
@@ -65,18 +66,10 @@ module _ (ρ : Numbering) (a b : Scope) (r : Tied ρ a b) (n : ℕ) (h : fresh n
   pub tied_unread : Tied ρ a (bind (number_name n ∷ []) (v ∷ []) b)
   tied_unread z = r z ∙ old_names z (find_last z ρ) refl
 
-append_once : {X : Type 0} (xs : List X) (y : X) (ys : List X) → (xs ++ y ∷ []) ++ ys ≡ xs ++ y ∷ ys
-append_once [] y ys = refl
-append_once (x ∷ xs) y ys = ap (λ l. x ∷ l) (append_once xs y ys)
-
 -- one more name in front
 pub bind_front : (x : List ℕ) (v : Value) (es : List (List ℕ × Value)) (a : Scope) →
     (let c : Scope = bind (x ∷ []) (v ∷ []) a in record c { bound = c.bound ++ es }) ≡ record a { bound = a.bound ++ (x, v) ∷ es }
-bind_front x v es a = ap (λ l. record a { bound = l }) (append_once a.bound (x, v) es)
-
-nothing : {X : Type 0} (xs : List X) → xs ++ [] ≡ xs
-nothing [] = refl
-nothing (x ∷ xs) = ap (λ l. x ∷ l) (nothing xs)
+bind_front x v es a = ap (λ l. record a { bound = l }) (append_assoc a.bound ((x, v) ∷ []) es)
 
 -- under the names of a binder
 pub tied_bind : (xs : List (List ℕ)) (ns : List ℕ) (vs : List Value) (ρ : Numbering) (a b : Scope) → all_fresh xs ns ρ ≡ true → Tied ρ a b →
@@ -84,7 +77,7 @@ pub tied_bind : (xs : List (List ℕ)) (ns : List ℕ) (vs : List Value) (ρ : N
 tied_bind [] [] vs ρ a b h r = λ x. more x r
   where
     more : (x : List ℕ) → Tied ρ a b → find_last x (a.bound ++ []) ≡ option_and_then (λ n. find_last (number_name n) (b.bound ++ [])) (find_last x ρ)
-    more x r = ap (find_last x) (nothing a.bound) ∙ r x ∙ (λ i. option_and_then (λ n. find_last (number_name n) (sym (nothing b.bound) i)) (find_last x ρ))
+    more x r = ap (find_last x) (append-nil a.bound) ∙ r x ∙ (λ i. option_and_then (λ n. find_last (number_name n) (sym (append-nil b.bound) i)) (find_last x ρ))
 tied_bind [] (n ∷ ns) vs ρ a b h r = absurd (false≢true h)
 tied_bind (x ∷ xs) [] vs ρ a b h r = absurd (false≢true h)
 tied_bind (x ∷ xs) (n ∷ ns) [] ρ a b h r =
