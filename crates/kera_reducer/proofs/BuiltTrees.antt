@@ -15,9 +15,8 @@ use Rattle.kernel_trees.specs.Trees.{op_of}
 use Rattle.kera_reducer.specs.Reduction.{Numbering, any_mentioned, mentioned, mentioned_at}
 use Rattle.kera_reducer.specs.inner.Rows.{Change, Level}
 use Rattle.kera_reducer.specs.inner.Builds.{Builds, BuildsEach, BuildsArms, BuildsPath, BuildsChanges, BuildsNode, at_node, none_left, one_more, no_arms, other_arm, one_arm, last_level, one_level, no_changes, one_change, boolean, integer, text, declared, bound_name, same, range, binder, fold, noted, assign, implies, unequal, no_member, greater, at_most, at_least, negative, finite, truth_values, equivalent, one_pair, power, high_power, field, low_item, high_item, except, except_let, cases, as_value, conjunction, disjunction, choice, branches, split_cases, is_same, is_binder}
+use Rattle.kera_reducer.proofs.Basics.{or_left, or_right, map_append, in_parts}
 use Rattle.kera_reducer.proofs.Mentioned.{is_readable, mentioned-roll, readable-roll, readable_at}
-use Rattle.kera_reducer.proofs.NamesKept.{in_parts}
-use Rattle.kera_reducer.proofs.RowNames.{map_append}
 
 -- ---- expanded
 
@@ -114,14 +113,6 @@ mutual
 
 -- ---- without a name that may be assigned
 
-or_first : (a b : Bool) → (a || b) ≡ false → a ≡ false
-or_first true b h = absurd (true≢false h)
-or_first false b h = refl
-
-or_second : (a b : Bool) → (a || b) ≡ false → b ≡ false
-or_second true b h = absurd (true≢false h)
-or_second false b h = h
-
 any_is : (m : Assignable) (es : List Expr) → list_any (λ b. b) (map (mentioned m) es) ≡ any_mentioned m es
 any_is m [] = refl
 any_is m (e ∷ es) = ap (λ b. mentioned m e || b) (any_is m es)
@@ -146,7 +137,7 @@ module _ (m : Assignable) where
     each_value : {ρ : Numbering} {es : List Expr} {ks : List Ker} → BuildsEach (Some m) ρ es ks → any_mentioned m es ≡ false → BuildsEach None ρ es ks
     each_value (none_left i ρ) q = none_left None ρ
     each_value (one_more i ρ e k es ks h g) q =
-        one_more None ρ e k es ks (built_value h (or_first (mentioned m e) (any_mentioned m es) q)) (each_value g (or_second (mentioned m e) (any_mentioned m es) q))
+        one_more None ρ e k es ks (built_value h (or_left (mentioned m e) (any_mentioned m es) q)) (each_value g (or_right (mentioned m e) (any_mentioned m es) q))
 
     pub node_value : {ρ : Numbering} {p : Place} {o : Op} {es : List Expr} {xs : List (List ℕ)} {k : Ker} → BuildsNode (Some m) ρ p o es xs k →
         mentioned_at m o (map (mentioned m) es) ≡ false → BuildsNode None ρ p o es xs k
@@ -156,6 +147,6 @@ module _ (m : Assignable) where
     node_value (disjunction n ρ p es xs a ks g) q = same ρ p op.Or ker.Or es xs a ks refl refl (each_value g (sym (any_is m es) ∙ q))
     node_value (choice n ρ p es xs a ks bs ns f g r) q =
         binder ρ p op.Exists ker.Some es xs a ks bs ns refl refl f g
-        (each_value r (or_second (any_mentioned m (take (length xs) es)) (any_mentioned m (drop (length xs) es)) (sym (any_parts m (length xs) es) ∙ sym (any_is m es) ∙ q)))
+        (each_value r (or_right (any_mentioned m (take (length xs) es)) (any_mentioned m (drop (length xs) es)) (sym (any_parts m (length xs) es) ∙ sym (any_is m es) ∙ q)))
     node_value (branches n ρ p c es xs a b g k l z h r) q = absurd (true≢false (sym z ∙ sym (any_is m (c ∷ es)) ∙ q))
     node_value (split_cases n ρ p other es xs a ys o z g) q = absurd (true≢false (sym z ∙ sym (any_is m es) ∙ q))

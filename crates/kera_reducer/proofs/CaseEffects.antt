@@ -28,6 +28,7 @@ use Rattle.kernel_trees.proofs.Nodes.{any_here, effects_here, sense_at}
 use Rattle.kernel_trees.proofs.Operators.{val_not}
 use Rattle.kernel_trees.proofs.Trees.{ker-roll}
 use Rattle.kera_reducer.specs.inner.Rows.{case_branches, guard_of, may_assign, negation, node, op_at, place_of, split_case, twice_negated}
+use Rattle.kera_reducer.proofs.Basics.{map_append}
 use Rattle.kera_reducer.proofs.Outcomes.{negated, negated_is, not_layer, not_truth}
 use Rattle.kera_reducer.proofs.RowNames.{case_children}
 
@@ -101,10 +102,6 @@ behind_last (x ∷ xs) y e = ap (and_then x) (behind_last xs y e)
 behind_or : (xs : List Effect) (e f : Effect) → or_also (behind xs e) (behind xs f) ≡ behind xs (or_also e f)
 behind_or [] e f = refl
 behind_or (x ∷ xs) e f = or_and x (behind xs e) (behind xs f) ∙ ap (and_then x) (behind_or xs e f)
-
-map_append : {X Y : Type 0} (f : X → Y) (xs ys : List X) → map f (xs ++ ys) ≡ map f xs ++ map f ys
-map_append f [] ys = refl
-map_append f (x ∷ xs) ys = ap (λ zs. f x ∷ zs) (map_append f xs ys)
 
 module _ (w : Width) (m : Assignable) (s t : State) (sc : Scope) where
   abbrev act : Ker → Effect

@@ -10,22 +10,11 @@ use Rattle.kernel_trees.specs.Paths.{Marks, Step, Holds, ends_at, is_end, ways}
 use Rattle.kernel_trees.specs.Ways.{Way, all_of, alone, branch, has_ended, one_after}
 use Rattle.kernel_trees.proofs.LawOfPaths.{ways-roll}
 use Rattle.kera_reducer.specs.inner.Rows.{negation, node, twice_negated}
+use Rattle.kera_reducer.proofs.Basics.{append_none, map_append, map_map}
 
 or_none : {X : Type 0} (o : Option X) → or_else o None ≡ o
 or_none None = refl
 or_none (Some x) = refl
-
-append_none : {X : Type 0} (xs : List X) → xs ++ [] ≡ xs
-append_none [] = refl
-append_none (x ∷ xs) = ap (λ l. x ∷ l) (append_none xs)
-
-map_append : {X Y : Type 0} (f : X → Y) (xs ys : List X) → map f (xs ++ ys) ≡ map f xs ++ map f ys
-map_append f [] ys = refl
-map_append f (x ∷ xs) ys = ap (λ zs. f x ∷ zs) (map_append f xs ys)
-
-map_map : {X Y Z : Type 0} (f : Y → Z) (g : X → Y) (xs : List X) → map f (map g xs) ≡ map (λ x. f (g x)) xs
-map_map f g [] = refl
-map_map f g (x ∷ xs) = ap (λ zs. f (g x) ∷ zs) (map_map f g xs)
 
 after_empty : (a : Way Step) (b : Bool) → (if b then a ∷ [] else map (one_after a) (record { taken = None; steps = [] } ∷ [])) ≡ a ∷ []
 after_empty a true = refl

@@ -75,9 +75,22 @@ implies = tree 1 op.And (tree 3 op.In (next 2 0 ∷ set 4 ∷ []) ∷ tree 6 op.
 implied : shown implies ≡ one 1 false (0 ∷ []) ∷ []
 implied = simp (job_ways-roll, nodes-roll, below-roll, out-roll-Expr)
 
--- x' <=> TRUE assigns nothing
+-- x' = 1 /\ (x' = 1 => y' = 1) has one path, whose second step reads y' there, which the path does not assign
+abbrev implies_next : Expr
+implies_next = tree 5 op.Implies (is_one 4 0 ∷ is_one 6 1 ∷ [])
+
+then_read : steps (tree 2 op.And (is_one 1 0 ∷ implies_next ∷ [])) ≡ (Sets 0 (typed (number 1 1)) ∷ Asks (typed implies_next) ∷ []) ∷ []
+then_read = simp (job_ways-roll, nodes-roll, below-roll, out-roll-Expr)
+
+reads_there : tree_reads primed implies_next 1 (at 6) ≡ true
+reads_there = simp (has_name-roll)
+
+-- x' <=> TRUE assigns nothing, and reads x'
+equivalence_reads : tree_reads primed (tree 2 op.Iff (next 1 0 ∷ truth 3 true ∷ [])) 0 (at 1) ≡ true
+equivalence_reads = simp (has_name-roll)
+
 equivalence : shown (tree 2 op.Iff (next 1 0 ∷ truth 3 true ∷ [])) ≡ one 2 false [] ∷ []
-equivalence = simp (job_ways-roll, nodes-roll, below-roll, out-roll-Expr)
+equivalence = simp (job_ways-roll, below-roll, out-roll-Expr)
 
 -- x' := 1 does
 assign : shown (tree 2 op.Assign (next 1 0 ∷ number 3 1 ∷ [])) ≡ one 2 false (0 ∷ []) ∷ []
@@ -111,6 +124,10 @@ false_first = tree 3 op.Or (tree 2 op.Eq (next 1 0 ∷ set 3 ∷ []) ∷ tree 5 
 second_ends : shown false_first ≡ one 2 false (0 ∷ []) ∷ one 5 true [] ∷ []
 second_ends = simp (job_ways-roll, has_name-roll, nodes-roll, below-roll, out-roll-Expr)
 
+-- FALSE /\ x' \in Int has one, which ends at FALSE: the membership is on no path
+never_reached : shown (tree 1 op.And (truth 2 false ∷ tree 4 op.In (next 3 0 ∷ tree 5 op.IntSet [] ∷ []) ∷ [])) ≡ one 1 true [] ∷ []
+never_reached = simp (job_ways-roll, nodes-roll, below-roll, out-roll-Expr)
+
 -- ---- annotations
 
 -- FALSE below an annotation ends a path, and what follows is on none
@@ -118,7 +135,7 @@ abbrev noted : ℕ → Expr → Expr
 noted n e = tree n (op.Noted []) (e ∷ [])
 
 noted_false : steps (tree 1 op.And (noted 2 (truth 3 false) ∷ is_one 5 0 ∷ [])) ≡ (Asks (typed (truth 3 false)) ∷ []) ∷ []
-noted_false = simp (job_ways-roll, nodes-roll, below-roll, out-roll-Expr)
+noted_false = simp (job_ways-roll, nodes-roll, out-roll-Expr)
 
 noted_end : shown (tree 1 op.And (noted 2 (truth 3 false) ∷ is_one 5 0 ∷ [])) ≡ one 1 true [] ∷ []
 noted_end = simp (job_ways-roll, nodes-roll, below-roll, out-roll-Expr)

@@ -15,6 +15,7 @@ pub mod Excepting
 pub mod ExceptReads
 pub mod ExceptRows
 pub mod Keeping
+pub mod Basics
 pub mod JobTrees
 pub mod JobPathExamples
 pub mod WayPairs
@@ -37,5 +38,6 @@ pub mod PathLaws
 pub mod Kept
 pub mod RowNodes
 pub mod NodesKept
+pub mod BuiltJobs
 pub mod Building
 pub mod BuildExamples

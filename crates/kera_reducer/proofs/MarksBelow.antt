@@ -17,17 +17,10 @@ use Rattle.kernel_trees.proofs.Marking.{SameMarks}
 use Rattle.kernel_trees.proofs.Trees.{mentions-roll}
 use Rattle.kernel_trees.proofs.Trees as kernel
 use Rattle.kera_reducer.specs.JobPaths.{JobParted, TypedTree, any_holds, has_name, has_name_at, job_ways, job_ways_of, nodes, outside, tree_mentions, typed_trees}
+use Rattle.kera_reducer.proofs.Basics.{or_left, or_right}
 use Rattle.kera_reducer.proofs.JobTrees.{Each, by_nodes, has_name-roll, job_ways-roll, with_job_ways}
 use Rattle.kera_reducer.proofs.KernelNames.{ker_has, ker_has_at, has-roll}
 use Rattle.kera_reducer.proofs.Operands.{beside}
-
-or_first : (a b : Bool) → (a || b) ≡ false → a ≡ false
-or_first true b h = absurd (true≢false h)
-or_first false b h = refl
-
-or_second : (a b : Bool) → (a || b) ≡ false → b ≡ false
-or_second true b h = absurd (true≢false h)
-or_second false b h = h
 
 is_below : (b : Bool) → not b ≡ false → b ≡ true
 is_below true h = refl
@@ -48,15 +41,15 @@ module _ (n : ℕ) (m m' : Marks) (same : SameMarks n m m') where
   all_mentions [] h q = refl
   all_mentions (e ∷ es) h q =
       let rest : Bool = list_any (λ b. b) (map (has_name (outside n)) es) in
-      ap₂ (λ (b : Bool) (bs : List Bool). b ∷ bs) (h.0 (or_first (has_name (outside n) e) rest q)).0 (all_mentions es h.1 (or_second (has_name (outside n) e) rest q))
+      ap₂ (λ (b : Bool) (bs : List Bool). b ∷ bs) (h.0 (or_left (has_name (outside n) e) rest q)).0 (all_mentions es h.1 (or_right (has_name (outside n) e) rest q))
 
   all_ways : (es : List Expr) (ks : List Kind) → Each Fine es → Within (map (has_name (outside n)) es) → with_job_ways m (typed_trees es ks) ≡ with_job_ways m' (typed_trees es ks)
   all_ways [] ks h q = refl
   all_ways (e ∷ es) ks h q =
       let rest : Bool = list_any (λ b. b) (map (has_name (outside n)) es) in
       ap₂ (λ (x : JobParted) (xs : List JobParted). x ∷ xs)
-      (ap (λ ys. (record { tree = e; kinds = take (nodes e) ks }, ys)) ((h.0 (or_first (has_name (outside n) e) rest q)).1 _))
-      (all_ways es _ h.1 (or_second (has_name (outside n) e) rest q))
+      (ap (λ ys. (record { tree = e; kinds = take (nodes e) ks }, ys)) ((h.0 (or_left (has_name (outside n) e) rest q)).1 _))
+      (all_ways es _ h.1 (or_right (has_name (outside n) e) rest q))
 
   any_is : (m l : Marks) (es : List Expr) (ks : List Kind) → any_holds m (with_job_ways l (typed_trees es ks)) ≡ list_any (λ b. b) (map (tree_mentions m) es)
   any_is m l [] ks = refl
@@ -108,23 +101,23 @@ module _ (n : ℕ) (m m' : Marks) (same : SameMarks n m m') where
   kernel_mentions [] h q = refl
   kernel_mentions (k ∷ ks) h q =
       let rest : Bool = list_any (λ b. b) (map (ker_has (outside n)) ks) in
-      ap₂ (λ (b : Bool) (bs : List Bool). b ∷ bs) (h.0 (or_first (ker_has (outside n) k) rest q)).0 (kernel_mentions ks h.1 (or_second (ker_has (outside n) k) rest q))
+      ap₂ (λ (b : Bool) (bs : List Bool). b ∷ bs) (h.0 (or_left (ker_has (outside n) k) rest q)).0 (kernel_mentions ks h.1 (or_right (ker_has (outside n) k) rest q))
 
   kernel_ways : (ks : List Ker) → AllFine ks → Within (map (ker_has (outside n)) ks) → map (beside m) ks ≡ map (beside m') ks
   kernel_ways [] h q = refl
   kernel_ways (k ∷ ks) h q =
       let rest : Bool = list_any (λ b. b) (map (ker_has (outside n)) ks) in
       ap₂ (λ (x : Parted) (xs : List Parted). x ∷ xs)
-      (ap (λ ys. (k, ys)) (h.0 (or_first (ker_has (outside n) k) rest q)).1) (kernel_ways ks h.1 (or_second (ker_has (outside n) k) rest q))
+      (ap (λ ys. (k, ys)) (h.0 (or_left (ker_has (outside n) k) rest q)).1) (kernel_ways ks h.1 (or_right (ker_has (outside n) k) rest q))
 
   -- the first two of them, as a range has
   two_mentions : (ks : List Ker) → AllFine ks → Within (take 2 (map (ker_has (outside n)) ks)) → take 2 (map (mentions m) ks) ≡ take 2 (map (mentions m') ks)
   two_mentions [] h q = refl
-  two_mentions (k ∷ []) h q = ap (λ b. b ∷ []) (h.0 (or_first (ker_has (outside n) k) false q)).0
+  two_mentions (k ∷ []) h q = ap (λ b. b ∷ []) (h.0 (or_left (ker_has (outside n) k) false q)).0
   two_mentions (k ∷ l ∷ ks) h q =
       let z : Bool = ker_has (outside n) l || false in
-      ap₂ (λ (b c : Bool). b ∷ c ∷ []) (h.0 (or_first (ker_has (outside n) k) z q)).0
-      (h.1.0 (or_first (ker_has (outside n) l) false (or_second (ker_has (outside n) k) z q))).0
+      ap₂ (λ (b c : Bool). b ∷ c ∷ []) (h.0 (or_left (ker_has (outside n) k) z q)).0
+      (h.1.0 (or_left (ker_has (outside n) l) false (or_right (ker_has (outside n) k) z q))).0
 
   kernel_any : (m l : Marks) (ks : List Ker) → any_mentions m (map (beside l) ks) ≡ list_any (λ b. b) (map (mentions m) ks)
   kernel_any m l [] = refl

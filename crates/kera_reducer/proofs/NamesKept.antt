@@ -1,5 +1,5 @@
 -- What is built holds the names of its expression, at the same places.
-use Rattle.std.proofs.Common.{◌≡◌, ℕ, zero, suc, Bool, true, false, ◌||◌, List, [], ◌∷◌, ◌++◌, map, take, drop, length, refl, sym, ◌∙◌, ap, ap₂, Option}
+use Rattle.std.proofs.Common.{◌≡◌, ℕ, suc, Bool, true, false, ◌||◌, List, [], ◌∷◌, ◌++◌, map, take, drop, length, refl, sym, ◌∙◌, ap, ap₂, Option}
 use Rattle.std.specs.List.{list_any}
 use Rattle.tla_meaning.specs.declared.actions.Assignable.{Assignable}
 use Rattle.tla_meaning.specs.declared.expr.Expr.{Expr, out-Expr, roll-out-Expr}
@@ -14,28 +14,12 @@ use Rattle.kera_reducer.specs.JobPaths.{has_name, has_name_at}
 use Rattle.kera_reducer.specs.Reduction.{Numbering}
 use Rattle.kera_reducer.specs.inner.Rows.{Level, Change, is_nil, op_at}
 use Rattle.kera_reducer.specs.inner.Builds.{Builds, BuildsEach, BuildsArms, BuildsPath, BuildsChanges, BuildsNode, at_node, none_left, one_more, no_arms, other_arm, one_arm, last_level, one_level, no_changes, one_change, boolean, integer, text, declared, bound_name, same, range, binder, fold, noted, assign, implies, unequal, no_member, greater, at_most, at_least, negative, finite, truth_values, equivalent, one_pair, power, high_power, field, low_item, high_item, except, except_let, cases, as_value, conjunction, disjunction, choice, branches, split_cases, is_same, is_binder}
+use Rattle.kera_reducer.proofs.Basics.{or_none, any_append, map_append, in_parts}
 use Rattle.kera_reducer.proofs.JobTrees.{has_name-roll}
 use Rattle.kera_reducer.proofs.KernelNames.{ker_has, ker_has_at, has-roll, no_names_in_constant}
-use Rattle.kera_reducer.proofs.RowNames.{any_has, case_children, change_has, Indexed, changed_has, equivalence_has, except_let_has, guard_has, implication_has, item_has, large_power_has, map_append, negation_has, nested_has, single_has, small_power_has, split_has, swapped_has}
+use Rattle.kera_reducer.proofs.RowNames.{any_has, case_children, change_has, Indexed, changed_has, equivalence_has, except_let_has, guard_has, implication_has, item_has, large_power_has, negation_has, nested_has, single_has, small_power_has, split_has, swapped_has}
 
 -- ---- lists in two parts
-
-pub in_parts : {X : Type 0} (n : ℕ) (xs : List X) → take n xs ++ drop n xs ≡ xs
-in_parts zero xs = refl
-in_parts (suc n) [] = refl
-in_parts (suc n) (x ∷ xs) = ap (λ l. x ∷ l) (in_parts n xs)
-
-or_none : (a : Bool) → (a || false) ≡ a
-or_none true = refl
-or_none false = refl
-
-or_assoc : (a b c : Bool) → ((a || b) || c) ≡ (a || (b || c))
-or_assoc true b c = refl
-or_assoc false b c = refl
-
-any_append : (bs cs : List Bool) → list_any (λ b. b) (bs ++ cs) ≡ (list_any (λ b. b) bs || list_any (λ b. b) cs)
-any_append [] cs = refl
-any_append (b ∷ bs) cs = ap (λ c. b || c) (any_append bs cs) ∙ sym (or_assoc b (list_any (λ b. b) bs) (list_any (λ b. b) cs))
 
 module _ (test : ℕ → Bool → Place → Bool) where
   abbrev any_name : List Expr → Bool

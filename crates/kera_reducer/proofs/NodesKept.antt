@@ -19,15 +19,8 @@ use Rattle.kera_reducer.specs.Origins.{KeepsPlaces, KeepsTexts, has_node, is_tex
 use Rattle.kera_reducer.specs.Reduction.{Numbering}
 use Rattle.kera_reducer.specs.inner.Rows.{Change, Level}
 use Rattle.kera_reducer.specs.inner.Builds.{Builds, BuildsEach, BuildsArms, BuildsPath, BuildsChanges, BuildsNode, at_node, none_left, one_more, no_arms, other_arm, one_arm, last_level, one_level, no_changes, one_change, boolean, integer, text, declared, bound_name, same, range, binder, fold, noted, assign, implies, unequal, no_member, greater, at_most, at_least, negative, finite, truth_values, equivalent, one_pair, power, high_power, field, low_item, high_item, except, except_let, cases, as_value, conjunction, disjunction, choice, branches, split_cases, is_same, is_binder}
+use Rattle.kera_reducer.proofs.Basics.{or_left, or_right}
 use Rattle.kera_reducer.proofs.RowNodes.{AllArms, AllChanges, AllFree, AllLevels, Free, FreeOther, append_free, changed_free, equivalence_free, except_let_free, guard_free, implication_free, item_let_free, large_power_free, made, negation_free, nested_free, number_free, single_free, small_power_free, split_free, truth_free}
-
-or_left : (a b : Bool) → (a || b) ≡ false → a ≡ false
-or_left true b h = absurd (true≢false h)
-or_left false b h = refl
-
-or_right : (a b : Bool) → (a || b) ≡ false → b ≡ false
-or_right true b h = absurd (true≢false h)
-or_right false b h = h
 
 module _ (P : Place → Bool) (T : List ℕ → Bool) where
   node-roll : (x : Expr-F Expr) → has_node P T (roll-Expr x) ≡ ((P x.place || is_text_op T x.op) || list_any (λ b. b) (map (has_node P T) x.args))

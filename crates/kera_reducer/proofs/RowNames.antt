@@ -9,17 +9,10 @@ use Rattle.kernel_trees.specs.declared.kernel.KerOp.{KerOp}
 use Rattle.kernel_trees.specs.declared.kernel.KerOp.TheVariants as ker
 use Rattle.kernel_trees.specs.Paths.{is_end}
 use Rattle.kera_reducer.specs.inner.Rows.{node, place_of, op_at, number, bound, negation, item, pair, is_literal, is_literal_op, Let, let_in, named_one, named_first, implication, equivalence, single, item_by_let, product, tested, power_body, small_power, large_power, Level, Change, changed_at, changed, all_levels, pairs, behind, is_nil, operand_at, index_at, read_levels, read_changes, except_by_let, nested_ifs, twice_negated, case_branches, split_case, may_assign, guard_of}
+use Rattle.kera_reducer.proofs.Basics.{or_none, or_assoc, any_append, map_append}
 use Rattle.kera_reducer.proofs.KernelNames.{ker_has, has-roll, no_names_in_constant}
 
 -- ---- truth values
-
-or_none : (a : Bool) → (a || false) ≡ a
-or_none true = refl
-or_none false = refl
-
-or_assoc : (a b c : Bool) → ((a || b) || c) ≡ (a || (b || c))
-or_assoc true b c = refl
-or_assoc false b c = refl
 
 or_front : (a b c : Bool) → (a || (b || c)) ≡ (b || (a || c))
 or_front true true c = refl
@@ -52,14 +45,6 @@ swapped_bools true true = refl
 swapped_bools true false = refl
 swapped_bools false true = refl
 swapped_bools false false = refl
-
-pub map_append : {X Y : Type 0} (f : X → Y) (xs ys : List X) → map f (xs ++ ys) ≡ map f xs ++ map f ys
-map_append f [] ys = refl
-map_append f (x ∷ xs) ys = ap (λ zs. f x ∷ zs) (map_append f xs ys)
-
-any_append : (bs cs : List Bool) → list_any (λ b. b) (bs ++ cs) ≡ (list_any (λ b. b) bs || list_any (λ b. b) cs)
-any_append [] cs = refl
-any_append (b ∷ bs) cs = ap (λ c. b || c) (any_append bs cs) ∙ sym (or_assoc b (list_any (λ b. b) bs) (list_any (λ b. b) cs))
 
 -- ---- the rows
 

@@ -1,5 +1,5 @@
 -- The trees of the rows have no place and no text but those of the operator and of the operands.
-use Rattle.std.proofs.Common.{◌≡◌, ℕ, zero, suc, Bool, true, false, not, ◌&&◌, ◌||◌, List, [], ◌∷◌, ◌++◌, map, true≢false, refl, sym, ◌∙◌, ap, ap₂, pos, Option, Some, None, if◌then◌else◌}
+use Rattle.std.proofs.Common.{◌≡◌, ℕ, zero, suc, Bool, true, false, not, ◌&&◌, ◌||◌, List, [], ◌∷◌, ◌++◌, map, refl, sym, ◌∙◌, ap, ap₂, pos, Option, Some, None, if◌then◌else◌}
 use Rattle.std.specs.List.{list_any}
 use Rattle.tla_values.specs.declared.value.Value.TheVariants as value
 use Rattle.tla_meaning.specs.declared.place.Place.{Place}
@@ -12,14 +12,7 @@ use Rattle.kernel_trees.specs.declared.kernel.KerOp.TheVariants as ker
 use Rattle.kernel_trees.specs.Paths.{is_end}
 use Rattle.kera_reducer.specs.Origins.{is_text_constant, is_text_value, kernel_has_node}
 use Rattle.kera_reducer.specs.inner.Rows.{tree, node, place_of, type_of, op_at, number, truth, bound, negation, item, pair, is_literal, Let, let_in, named_one, named_first, named_second, implication, equivalence, single, item_by_let, product, tested, power_body, small_power, large_power, Level, Change, changed_at, changed, all_levels, pairs, behind, is_nil, operand_at, index_at, read_levels, read_changes, except_by_let, nested_ifs, twice_negated, case_branches, split_case, may_assign, guard_of}
-
-or_left : (a b : Bool) → (a || b) ≡ false → a ≡ false
-or_left true b h = absurd (true≢false h)
-or_left false b h = refl
-
-or_right : (a b : Bool) → (a || b) ≡ false → b ≡ false
-or_right true b h = absurd (true≢false h)
-or_right false b h = h
+use Rattle.kera_reducer.proofs.Basics.{or_left}
 
 or_both : {a b : Bool} → a ≡ false → b ≡ false → (a || b) ≡ false
 or_both h g = ap₂ (λ (a b : Bool). a || b) h g

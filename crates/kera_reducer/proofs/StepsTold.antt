@@ -24,6 +24,7 @@ use Rattle.kera_reducer.specs.Reduction.{Numbering}
 use Rattle.kera_reducer.specs.inner.Builds.{Builds, BuildsEach, BuildsNode, at_node, none_left, one_more, same, binder, noted, assign, as_value, is_same, is_binder}
 use Rattle.kera_reducer.specs.inner.Rows.{guard_of, may_assign, negation, node, op_at, tree, twice_negated}
 use Rattle.kera_reducer.specs.inner.Steps.{SameStep, guard_is_false, guard_is_true, is_note, same_choice, same_end, same_guard, same_operand, trees}
+use Rattle.kera_reducer.proofs.Basics.{or_left, or_right}
 use Rattle.kera_reducer.proofs.KernelNames.{has-roll, is_read, ker_has, reads_has}
 use Rattle.kera_reducer.proofs.NamesKept.{names_kept}
 use Rattle.kera_reducer.proofs.RowNames.{guard_has, negation_has, twice_has}
@@ -203,14 +204,6 @@ module _ (m : Marks) where
 
   negation_plain : (p : Place) (a : Ty) (k : Ker) → IsPlain (negation p a k)
   negation_plain p a k = (ap (λ (x : Ker-F Ker). may_assign x.op) (out-roll-Ker _), ap (λ (x : Ker-F Ker). is_end x.op) (out-roll-Ker _))
-
-  or_left : (a b : Bool) → (a || b) ≡ false → a ≡ false
-  or_left true b h = absurd (true≢false h)
-  or_left false b h = refl
-
-  or_right : (a b : Bool) → (a || b) ≡ false → b ≡ false
-  or_right true b h = absurd (true≢false h)
-  or_right false b h = h
 
   guard_plain : (p : Place) (a : Ty) (k : Ker) → IsPlain (guard_of p a k)
   guard_plain p a k = by (may_assign (op_at k) || is_end (op_at k)) refl

@@ -24,6 +24,7 @@ use Rattle.kera_reducer.specs.inner.Builds.{Builds, BuildsEach, BuildsArms, Buil
 use Rattle.kera_reducer.specs.inner.Rows.{case_branches, guard_of, negation, node, tree, twice_negated}
 use Rattle.kera_reducer.specs.inner.SameWays.{Pairs, SameWay, SameWays}
 use Rattle.kera_reducer.specs.inner.Steps.{SameStep, guard_is_false, guard_is_true, is_note, same_choice, same_end, same_guard, same_operand, trees}
+use Rattle.kera_reducer.proofs.Basics.{append_none}
 use Rattle.kera_reducer.proofs.CaseWays.{arm_branch, guard_steps, last_branch, more_guards}
 use Rattle.kera_reducer.proofs.JobTrees.{job_ways-roll, with_job_ways}
 use Rattle.kera_reducer.proofs.Mentioned.{mentioned_is}
@@ -108,10 +109,6 @@ get_beside : {X Y : Type 0} (f : X → Y) (n : ℕ) (xs : List X) → slice_get 
 get_beside f n [] = refl
 get_beside f zero (x ∷ xs) = refl
 get_beside f (suc n) (x ∷ xs) = get_beside f n xs
-
-map_map : {X Y Z : Type 0} (f : Y → Z) (g : X → Y) (xs : List X) → map f (map g xs) ≡ map (λ x. f (g x)) xs
-map_map f g [] = refl
-map_map f g (x ∷ xs) = ap (λ zs. f (g x) ∷ zs) (map_map f g xs)
 
 module _ (m : Assignable) where
   abbrev M : Marks
@@ -261,10 +258,6 @@ module _ (m : Assignable) where
 
   node_place : (q : Place) (a : Ty) (ks : List Ker) → (out-Ker (node q a ker.And ks)).place ≡ q
   node_place q a ks = ap (λ (x : Ker-F Ker). x.place) (out-roll-Ker _)
-
-  append_none : {X : Type 0} (xs : List X) → xs ++ [] ≡ xs
-  append_none [] = refl
-  append_none (x ∷ xs) = ap (λ l. x ∷ l) (append_none xs)
 
   -- the last branch: that of OTHER, or none
   other_ways : (p : Place) (a : Ty) (front : List JobStep) (gs : List Ker) (t : TypedTree) (k : Ker) → Pairs SameStep front (guard_steps M p a gs) → Kept t k →

@@ -4,4 +4,5 @@ pub mod JobPaths
 pub mod PathLaws
 pub mod Laws
 pub mod Origins
+pub mod BuiltJobs
 pub mod inner

@@ -1,11 +1,15 @@
-// Laws of what the reduction keeps of an action and of places, each as the contract of a function that does nothing.
+// Laws of what the reduction keeps: of an action, of places, and of a job, each as the contract of a function that does nothing.
 ghost use Rattle.std.specs.Prelude.{List, Option, ℕ};
 ghost use Rattle.tla_meaning.specs.Numbers.{Width};
 ghost use Rattle.tla_meaning.specs.declared.actions.Assignable.{Assignable};
 ghost use Rattle.tla_meaning.specs.declared.expr.Expr.{Expr};
+ghost use Rattle.tla_meaning.specs.declared.job.Job.{Job};
+ghost use Rattle.tla_meaning.specs.declared.job.State.{State};
 ghost use Rattle.tla_meaning.specs.declared.place.Place.{Place};
 ghost use Rattle.kernel_trees.specs.Paths.{Marks};
 ghost use Rattle.kernel_trees.specs.declared.kernel.Ker.{Ker};
+ghost use Rattle.kernel_trees.specs.declared.system.KerJob.{KerJob};
+ghost use Rattle.kera_reducer.specs.BuiltJobs.{KeepsJobPaths, KeepsJobPlaces, KeepsJobTexts, KeepsJobOutcomes};
 ghost use Rattle.kera_reducer.specs.JobPaths.{TypedTree};
 ghost use Rattle.kera_reducer.specs.PathLaws.{KeepsActions, KeepsPaths, KeepsPathsBelow, KeepsReads, KeepsSteps};
 ghost use Rattle.kera_reducer.specs.Origins.{KeepsPlaces, KeepsTexts};
@@ -31,4 +35,14 @@ pub fn built_trees_keep_places_and_names()
     ensures places { (i : Option Assignable) (ρ : Numbering) (e : Expr) (k : Ker) (p : Place) → KeepsPlaces i ρ e k p }
     ensures texts { (i : Option Assignable) (ρ : Numbering) (e : Expr) (k : Ker) (x : List ℕ) → KeepsTexts i ρ e k x }
     ensures reads { (m : Marks) (i : Option Assignable) (ρ : Numbering) (e : Expr) (k : Ker) (n : ℕ) (p : Place) → KeepsReads m i ρ e k n p }
+{}
+
+/// A job's kernel, each part of which is built in its position, has the outcomes of the job's parts at states of normal
+/// values, under no width and under each from 4 on; the paths of CInit, Init and Next of a job that may be typed; and no
+/// place and no text that the job does not have.
+pub fn built_jobs_keep_outcomes_and_paths()
+    ensures outcomes { (job : Job) (k : KerJob) (w : Width) (s t : State) → KeepsJobOutcomes job k w s t }
+    ensures paths { (job : Job) (k : KerJob) → KeepsJobPaths job k }
+    ensures places { (job : Job) (k : KerJob) (p : Place) → KeepsJobPlaces job k p }
+    ensures texts { (job : Job) (k : KerJob) (x : List ℕ) → KeepsJobTexts job k x }
 {}
