@@ -1,11 +1,10 @@
-// Laws of what the reduction keeps, each as the contract of a function that does nothing.
+// What the reduction keeps of values, as the contract of a function that does nothing.
 ghost use Rattle.std.specs.Prelude.{Option};
 ghost use Rattle.tla_meaning.specs.Numbers.{Width};
 ghost use Rattle.tla_meaning.specs.declared.actions.Assignable.{Assignable};
 ghost use Rattle.tla_meaning.specs.declared.expr.Expr.{Expr};
-ghost use Rattle.tla_meaning.specs.declared.job.State.{State};
 ghost use Rattle.kernel_trees.specs.declared.kernel.Ker.{Ker};
-ghost use Rattle.kera_reducer.specs.Laws.{HasEffectOf, HasFormOf, HasValueOf, KeepsOutcomes};
+ghost use Rattle.kera_reducer.specs.Laws.{KeepsOutcomes};
 ghost use Rattle.kera_reducer.specs.Reduction.{Numbering};
 
 /// What is built of an expression has its outcome, faults with their places among it, and is the same form as the right
@@ -13,12 +12,4 @@ ghost use Rattle.kera_reducer.specs.Reduction.{Numbering};
 /// values of their numbers.
 pub fn what_is_built_keeps_its_outcomes()
     ensures { (w : Width) (i : Option Assignable) (ρ : Numbering) (e : Expr) (k : Ker) → KeepsOutcomes w i ρ e k }
-{}
-
-/// So what is built of a part of a job, in which no name is bound, has its value, its form and its effect at all normal
-/// states.
-pub fn what_is_built_of_a_part_keeps_its_outcomes()
-    ensures value { (w : Width) (e : Expr) (k : Ker) (s t : State) → HasValueOf w e k s t }
-    ensures form { (w : Width) (e : Expr) (k : Ker) (s t : State) → HasFormOf w e k s t }
-    ensures effect { (w : Width) (m : Assignable) (e : Expr) (k : Ker) (s t : State) → HasEffectOf w m e k s t }
 {}
