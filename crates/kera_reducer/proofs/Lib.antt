@@ -41,3 +41,4 @@ pub mod NodesKept
 pub mod BuiltJobs
 pub mod Building
 pub mod BuildExamples
+pub mod SoundMade
