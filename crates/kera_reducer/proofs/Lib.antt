@@ -42,3 +42,4 @@ pub mod BuiltJobs
 pub mod Building
 pub mod BuildExamples
 pub mod SoundMade
+pub mod SoundChanges

@@ -138,7 +138,7 @@ module _ (names : List Kind) where
       plain_is c p t ker.If (Truth ∷ a ∷ a ∷ []) (g ∷ k ∷ l ∷ []) [] a (λ ps. refl) (λ n. refl) refl q
       (and_both (same a a) (same a a) (same_self a) (same_self a)) (h, (i, (j, tt)))
 
-  kind_so : (c : Context) (a : Kind) (k : Ker) → Is c a k → is_kind a (kind_at k) ≡ true
+  pub kind_so : (c : Context) (a : Kind) (k : Ker) → Is c a k → is_kind a (kind_at k) ≡ true
   kind_so c a k h = ap (is_kind a) h.0 ∙ same_self a
 
   pub fold_is : (c : Context) (p : Place) (t : Ty) (e f q : Ker) (m n : ℕ) (a b : Kind) → kind_of t ≡ Some a → Is (c ++ (m, a) ∷ (n, b) ∷ []) a e → Is c a f →
