@@ -43,3 +43,4 @@ pub mod Building
 pub mod BuildExamples
 pub mod SoundMade
 pub mod SoundChanges
+pub mod SoundExcepts
