@@ -26,6 +26,7 @@ pub mod KernelNames
 pub mod RowNames
 pub mod NamesKept
 pub mod Roots
+pub mod InfiniteKept
 pub mod StepsTold
 pub mod BuiltTrees
 pub mod Operands

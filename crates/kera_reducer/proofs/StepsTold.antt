@@ -25,6 +25,7 @@ use Rattle.kera_reducer.specs.inner.Builds.{Builds, BuildsEach, BuildsNode, at_n
 use Rattle.kera_reducer.specs.inner.Rows.{guard_of, may_assign, negation, node, op_at, tree, twice_negated}
 use Rattle.kera_reducer.specs.inner.Steps.{SameStep, guard_is_false, guard_is_true, is_note, same_choice, same_end, same_guard, same_operand, trees}
 use Rattle.kera_reducer.proofs.Basics.{or_left, or_right}
+use Rattle.kera_reducer.proofs.InfiniteKept.{infinite_kept}
 use Rattle.kera_reducer.proofs.KernelNames.{has-roll, is_read, ker_has, reads_has}
 use Rattle.kera_reducer.proofs.NamesKept.{names_kept}
 use Rattle.kera_reducer.proofs.RowNames.{guard_has, negation_has, twice_has}
@@ -66,7 +67,7 @@ kernel_mark o = option_map (λ a. (a.0, told_kernel_step a.1)) o
 
 -- an operand, by what it assigns and what it reads where it assigns nothing
 abbrev by_mark : (Marks → ℕ → Place → Bool) → List ℕ → Option (ℕ × ToldStep) → ToldStep × List ℕ
-by_mark r before None = (record { assigns = None; reads = r }, before)
+by_mark r before None = (record { assigns = None; among = None; reads = r }, before)
 by_mark r before (Some a) = (a.1, a.0 ∷ before)
 
 job_by : (t : TypedTree) (before : List ℕ) (o : Option (ℕ × JobAssigned)) →
@@ -104,7 +105,7 @@ module _ (m : Marks) (before : List ℕ) where
   equal_marks (one_more i ρ e k es ks h (none_left _ _)) kk = refl
   equal_marks (one_more i ρ e k es ks h (one_more _ _ f l fs ls g (none_left _ _))) kk =
       two_marked _ _ (λ i. Sets i (record { tree = f; kinds = take (nodes f) (drop (nodes e) kk) })) (λ i. mark.Equals i l) (left_kept (take (nodes e) kk) h)
-      (λ i. ap (λ r. record { assigns = Some i; reads = r }) (right_kept (take (nodes f) (drop (nodes e) kk)) g))
+      (λ i. ap (λ r. record { assigns = Some i; among = None; reads = r }) (right_kept (take (nodes f) (drop (nodes e) kk)) g))
   equal_marks (one_more i ρ e k es ks h (one_more _ _ f l fs ls g (one_more _ _ _ _ _ _ _ _))) kk = refl
 
   assign_marks : {i : Option Assignable} {ρ : Numbering} {es : List Expr} {ks : List Ker} → BuildsEach i ρ es ks → (kk : List Kind) →
@@ -113,7 +114,7 @@ module _ (m : Marks) (before : List ℕ) where
   assign_marks (one_more i ρ e k es ks h (none_left _ _)) kk = refl
   assign_marks (one_more i ρ e k es ks h (one_more _ _ f l fs ls g (none_left _ _))) kk =
       two_marked _ _ (λ i. Sets i (record { tree = f; kinds = take (nodes f) (drop (nodes e) kk) })) (λ i. mark.Equals i l) (left_kept (take (nodes e) kk) h)
-      (λ i. ap (λ r. record { assigns = Some i; reads = r }) (right_kept (take (nodes f) (drop (nodes e) kk)) g))
+      (λ i. ap (λ r. record { assigns = Some i; among = None; reads = r }) (right_kept (take (nodes f) (drop (nodes e) kk)) g))
   assign_marks (one_more i ρ e k es ks h (one_more _ _ f l fs ls g (one_more _ _ _ _ _ _ _ _))) kk = refl
 
   member_marks : {i : Option Assignable} {ρ : Numbering} {es : List Expr} {ks : List Ker} → BuildsEach i ρ es ks → (kk : List Kind) →
@@ -122,7 +123,7 @@ module _ (m : Marks) (before : List ℕ) where
   member_marks (one_more i ρ e k es ks h (none_left _ _)) kk = refl
   member_marks (one_more i ρ e k es ks h (one_more _ _ f l fs ls g (none_left _ _))) kk =
       two_marked _ _ (λ i. SetsFrom i (record { tree = f; kinds = take (nodes f) (drop (nodes e) kk) })) (λ i. mark.Among i l) (left_kept (take (nodes e) kk) h)
-      (λ i. ap (λ r. record { assigns = Some i; reads = r }) (right_kept (take (nodes f) (drop (nodes e) kk)) g))
+      (λ i. ap₂ (λ r ps. record { assigns = Some i; among = Some ps; reads = r }) (right_kept (take (nodes f) (drop (nodes e) kk)) g) (infinite_kept g))
   member_marks (one_more i ρ e k es ks h (one_more _ _ f l fs ls g (one_more _ _ _ _ _ _ _ _))) kk = refl
 
   same_marks : {i : Option Assignable} {ρ : Numbering} {es : List Expr} {ks : List Ker} (ko : KerOp) → is_same ko ≡ true → BuildsEach i ρ es ks → (kk : List Kind) →
@@ -200,7 +201,7 @@ module _ (m : Marks) where
   guard_reads : (before : List ℕ) (t : TypedTree) (k : Ker) → SameNames t.tree k → may_assign (op_at k) ≡ false →
       job_tells m before (Guarded (out-Ker k).place t true) ≡ kernel_by m before k (assignment m before k)
   guard_reads before t k h q =
-      ap (λ r. (record { assigns = None; reads = r }, before)) (same_reads t k h) ∙ ap (kernel_by m before k) (sym (no_assignment before k q))
+      ap (λ r. (record { assigns = None; among = None; reads = r }, before)) (same_reads t k h) ∙ ap (kernel_by m before k) (sym (no_assignment before k q))
 
   negation_plain : (p : Place) (a : Ty) (k : Ker) → IsPlain (negation p a k)
   negation_plain p a k = (ap (λ (x : Ker-F Ker). may_assign x.op) (out-roll-Ker _), ap (λ (x : Ker-F Ker). is_end x.op) (out-roll-Ker _))
@@ -219,7 +220,7 @@ module _ (m : Marks) where
   branch_told : (p : Place) (b : Bool) (t : TypedTree) (k : Ker) → SameNames t.tree k → IsPlain k → SameTold m (Guarded p t b) (Branch p k b)
   branch_told p true t k h q = record { told = λ before. guard_reads before t k h q.0; ends = refl; ended = sym q.1 }
   branch_told p false t k h q = record {
-    told = λ before. ap (λ r. (record { assigns = None; reads = r }, before)) (same_reads t k h);
+    told = λ before. ap (λ r. (record { assigns = None; among = None; reads = r }, before)) (same_reads t k h);
     ends = refl;
     ended = refl;
   }
@@ -230,7 +231,7 @@ module _ (m : Marks) where
   end_told : (p : Place) (a : Ty) → SameTold m (Unmatched p) (Holds (node p a ker.NoCase []))
   end_told p a = record {
     told = λ before.
-        ap (λ r. (record { assigns = None; reads = r }, before)) (no_case_reads p a)
+        ap (λ r. (record { assigns = None; among = None; reads = r }, before)) (no_case_reads p a)
         ∙ ap (kernel_by m before (node p a ker.NoCase [])) (sym (at_tree m before p a ker.NoCase [] []));
     ends = sym (ap (λ (x : Ker-F Ker). is_end x.op) (out-roll-Ker _));
     ended = sym (ap (λ (x : Ker-F Ker). is_end x.op) (out-roll-Ker _));
@@ -245,7 +246,7 @@ module _ (m : Marks) where
   step_told (guard_is_false ρ p t a k h) =
       held_told p false t (negation p a k) (λ test. names_kept test h ∙ sym (negation_has test p a k)) (negation_plain p a k)
   step_told (same_choice ρ p xs zs h) = record {
-    told = λ before. ap (λ r. (record { assigns = None; reads = r }, before)) (all_reads (job_sets xs) (sets zs) h);
+    told = λ before. ap (λ r. (record { assigns = None; among = None; reads = r }, before)) (all_reads (job_sets xs) (sets zs) h);
     ends = refl;
     ended = refl;
   }

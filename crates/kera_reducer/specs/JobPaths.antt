@@ -20,6 +20,7 @@ use Rattle.kernel_trees.specs.declared.path.AssignedStep.TheVariants as mark
 use Rattle.kernel_trees.specs.TypeKinds.{Kind}
 use Rattle.kernel_trees.specs.Ways.{Way, has_ended, all_of, branch, any_of, alone}
 use Rattle.kernel_trees.specs.Paths.{Marks, place_or, paths}
+use Rattle.kernel_trees.specs.Sound.{infinite_places}
 use Rattle.kernel_trees.specs.Assignments.{is_in, marked, path_ended, read_by, reads_at}
 use Rattle.kernel_shapes.specs.Trees.{recur}
 
@@ -48,6 +49,24 @@ outside n i primed p = not (nat_lt i n)
 -- whether each name of a tree is one of the first n
 abbrev pub tree_names_below : ℕ → Expr → Bool
 tree_names_below n e = not (has_name (outside n) e)
+
+-- ---- infinite sets
+
+-- where a form is an infinite set or has one as a part; a function set's domain is no part
+abbrev pub infinite_form_at : Op → Place → List (List Place) → List Place
+infinite_form_at op.IntSet p ks = p ∷ []
+infinite_form_at op.NatSet p ks = p ∷ []
+infinite_form_at op.StringSet p ks = p ∷ []
+infinite_form_at op.SeqSet p ks = p ∷ flat_map (λ k. k) ks
+infinite_form_at op.Powerset p ks = flat_map (λ k. k) ks
+infinite_form_at op.FunSet p ks = flat_map (λ k. k) (drop 1 ks)
+infinite_form_at (op.RecSet names) p ks = flat_map (λ k. k) ks
+infinite_form_at op.Product p ks = flat_map (λ k. k) ks
+infinite_form_at (op.Noted x) p ks = flat_map (λ k. k) ks
+infinite_form_at o p ks = []
+
+unfoldable pub infinite_form : Expr → List Place
+infinite_form = fold-Expr (List Place) (λ x. infinite_form_at x.op x.place x.args)
 
 -- ---- annotations
 
@@ -228,10 +247,12 @@ job_marked m before (Unmatched p ∷ ys) = Stops ∷ job_marked m before ys
 
 -- ---- what is told of a path
 
--- the name that a step assigns, and whether it reads the name of this number there, for any names that count; the name
--- that it assigns is not read at its left side
+-- the name that a step assigns; where it takes a member of a form, at which places that is an infinite set or has one
+-- as a part; and whether the step reads the name of this number there, for any names that count: the name that it
+-- assigns is not read at its left side
 pub record ToldStep : Type 0 where
   pub assigns : Option ℕ
+  pub among : Option (List Place)
   pub reads : Marks → ℕ → Place → Bool
 
 pub record Told : Type 0 where
@@ -255,11 +276,15 @@ abbrev pub job_sets : List (List ℕ × TypedTree) → List TypedTree
 job_sets ps = map (λ x. x.1) ps
 
 abbrev pub told_step : JobAssigned → ToldStep
-told_step (Asks t) = record { assigns = None; reads = job_reads (t ∷ []) }
-told_step (Picks ps) = record { assigns = None; reads = job_reads (job_sets ps) }
-told_step (Sets i t) = record { assigns = Some i; reads = job_reads (t ∷ []) }
-told_step (SetsFrom i t) = record { assigns = Some i; reads = job_reads (t ∷ []) }
-told_step Stops = record { assigns = None; reads = job_reads [] }
+told_step (Asks t) = record { assigns = None; among = None; reads = job_reads (t ∷ []) }
+told_step (Picks ps) = record { assigns = None; among = None; reads = job_reads (job_sets ps) }
+told_step (Sets i t) = record { assigns = Some i; among = None; reads = job_reads (t ∷ []) }
+told_step (SetsFrom i t) = record {
+  assigns = Some i;
+  among = Some (infinite_form t.tree);
+  reads = job_reads (t ∷ []);
+}
+told_step Stops = record { assigns = None; among = None; reads = job_reads [] }
 
 abbrev pub told_path : Marks → JobPath → Told
 told_path m x = record {
@@ -278,8 +303,18 @@ assigned_by_step (mark.Pick ps) = None
 assigned_by_step (mark.Equals i e) = Some i
 assigned_by_step (mark.Among i e) = Some i
 
+abbrev pub taken_by_step : AssignedStep → Option (List Place)
+taken_by_step (mark.Guard k b) = None
+taken_by_step (mark.Pick ps) = None
+taken_by_step (mark.Equals i e) = None
+taken_by_step (mark.Among i e) = Some (infinite_places e)
+
 abbrev pub told_kernel_step : AssignedStep → ToldStep
-told_kernel_step z = record { assigns = assigned_by_step z; reads = kernel_reads (read_by z) }
+told_kernel_step z = record {
+  assigns = assigned_by_step z;
+  among = taken_by_step z;
+  reads = kernel_reads (read_by z);
+}
 
 abbrev pub told_kernel_path : Marks → KerPath → Told
 told_kernel_path m x = record {
@@ -288,7 +323,7 @@ told_kernel_path m x = record {
   steps = map told_kernel_step (marked m [] x.steps);
 }
 
--- as many paths, in the same order, each of which has the same place, ends or does not, and assigns and reads the same
--- names step by step, at the same places
+-- as many paths, in the same order, each of which has the same place, ends or does not, and step by step assigns the same
+-- name, by a value or from a form with infinite parts at the same places, and reads the same names at the same places
 abbrev pub SamePaths : Marks → TypedTree → Ker → Type 0
 SamePaths m t k = map (told_path m) (job_paths m t) ≡ map (told_kernel_path m) (paths m k)
