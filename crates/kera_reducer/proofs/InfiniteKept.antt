@@ -22,7 +22,7 @@ use Rattle.kera_reducer.specs.inner.Builds.{Builds, BuildsEach, BuildsNode, at_n
 use Rattle.kera_reducer.specs.inner.Rows.{nested_ifs, tree}
 use Rattle.kera_reducer.proofs.Roots.{first_changed}
 
-form-roll : (x : Expr-F Expr) → infinite_form (roll-Expr x) ≡ infinite_form_at x.op x.place (map infinite_form x.args)
+pub form-roll : (x : Expr-F Expr) → infinite_form (roll-Expr x) ≡ infinite_form_at x.op x.place (map infinite_form x.args)
 unfolding infinite_form
 form-roll x = fold-roll-Expr (List Place) (λ x. infinite_form_at x.op x.place x.args) x
 

@@ -1,11 +1,12 @@
 -- What is told of the paths of small actions, by computing.
-use Rattle.std.proofs.Common.{◌≡◌, ℕ, Bool, true, false, List, [], ◌∷◌, map, pos}
+use Rattle.std.proofs.Common.{◌≡◌, ℕ, Bool, true, false, List, [], ◌∷◌, map, pos, Option, Some, None}
 use Rattle.tla_meaning.specs.declared.expr.Expr.{Expr, roll-Expr, out-roll-Expr}
 use Rattle.tla_meaning.specs.declared.op.Op.{Op}
 use Rattle.tla_meaning.specs.declared.op.Op.TheVariants as op
 use Rattle.tla_meaning.specs.declared.place.Place.{Place}
 use Rattle.kernel_trees.specs.Paths.{Marks}
 use Rattle.kera_reducer.specs.JobPaths.{JobPath, JobAssigned, Asks, Picks, Sets, SetsFrom, Stops, Told, TypedTree, assigned_names, job_marked, job_paths, told_path, tree_reads}
+use Rattle.kera_reducer.proofs.InfiniteKept.{form-roll}
 use Rattle.kera_reducer.proofs.JobTrees.{has_name-roll, below-roll, nodes-roll, job_ways-roll}
 
 abbrev at : ℕ → Place
@@ -217,3 +218,18 @@ choices = simp (job_ways-roll, nodes-roll, below-roll, out-roll-Expr)
 choice_steps : steps two_choices
     ≡ (Picks ((105 ∷ [], typed (set 3)) ∷ []) ∷ Sets 0 (typed (number 4 1)) ∷ Picks ((105 ∷ [], typed (set 7)) ∷ []) ∷ SetsFrom 1 (typed (set 10)) ∷ []) ∷ []
 choice_steps = simp (job_ways-roll, nodes-roll, below-roll, out-roll-Expr)
+
+-- ---- sets of which a name takes a member
+
+abbrev taken : Expr → List (List (Option (List Place)))
+taken e = map (λ x. map (λ y. y.among) (told_path primed x).steps) (paths_of e)
+
+-- x' \in [Int -> Nat] is infinite at Nat alone, and x' = 1 takes no member
+abbrev from_functions : Expr
+from_functions = tree 3 op.In (next 1 0 ∷ tree 6 op.FunSet (tree 5 op.IntSet [] ∷ tree 7 op.NatSet [] ∷ []) ∷ [])
+
+taken_from_functions : taken from_functions ≡ (Some (at 7 ∷ []) ∷ []) ∷ []
+taken_from_functions = simp (job_ways-roll, nodes-roll, below-roll, form-roll, out-roll-Expr)
+
+taken_by_value : taken (is_one 1 0) ≡ (None ∷ []) ∷ []
+taken_by_value = simp (job_ways-roll, nodes-roll, below-roll, form-roll, out-roll-Expr)
