@@ -20,18 +20,20 @@ use Rattle.tla_meaning.specs.Numbers.{Width}
 use Rattle.tla_meaning.proofs.Views.{and_left, and_right, false≢true}
 use Rattle.kernel_trees.specs.declared.kernel.Ker.{Ker}
 use Rattle.kernel_trees.specs.declared.system.KerJob.{KerJob}
+use Rattle.kernel_trees.specs.Assignments.{reads_at}
+use Rattle.kernel_trees.specs.Paths.{Marks}
 use Rattle.kernel_trees.specs.Trees.{ker_val}
 use Rattle.snowcat_types.specs.Answers.{is_typable_op, is_typable_tree, typable_layer}
 use Rattle.snowcat_types.specs.Systems.{parts_of}
-use Rattle.kera_reducer.specs.BuiltJobs.{IsBuilt, KeepsJobPaths, KeepsJobPlaces, KeepsJobTexts, KeepsJobOutcomes, SamePathsOf, kernel_parts_of}
-use Rattle.kera_reducer.specs.JobPaths.{has_name, has_name_at, outside}
+use Rattle.kera_reducer.specs.BuiltJobs.{IsBuilt, KeepsJobPaths, KeepsJobPlaces, KeepsJobTexts, KeepsJobOutcomes, KeepsJobReads, SamePathsOf, kernel_parts_of}
+use Rattle.kera_reducer.specs.JobPaths.{has_name, has_name_at, outside, tree_reads}
 use Rattle.kera_reducer.specs.Origins.{has_text, kernel_has_text, kernel_stands_at, stands_at}
 use Rattle.kera_reducer.specs.Reduction.{Matched, is_wide}
 use Rattle.kera_reducer.specs.inner.Builds.{Builds, BuildsEach, none_left, one_more}
 use Rattle.kera_reducer.proofs.JobTrees.{Each, by_nodes, has_name-roll}
 use Rattle.kera_reducer.proofs.Keeping.{keeps}
 use Rattle.kera_reducer.proofs.NodesKept.{keeps_places, keeps_texts}
-use Rattle.kera_reducer.proofs.PathLaws.{keeps_actions, keeps_paths_below}
+use Rattle.kera_reducer.proofs.PathLaws.{keeps_actions, keeps_paths_below, keeps_reads}
 
 -- ---- values and effects
 
@@ -138,3 +140,13 @@ keeps_job_places job k p = any_part (λ k. kernel_stands_at k p) (λ e. stands_a
 
 pub keeps_job_texts : (job : Job) (k : KerJob) (x : List ℕ) → KeepsJobTexts job k x
 keeps_job_texts job k x = any_part (λ k. kernel_has_text k x) (λ e. has_text e x) (λ i e k b. keeps_texts i [] e k x b) job k
+
+-- ---- names
+
+each_reads : (m : Marks) (n : ℕ) (p : Place) {es : List Expr} {ks : List Ker} → BuildsEach None [] es ks →
+    map (λ e. tree_reads m e n p) es ≡ map (λ k. reads_at m k n p) ks
+each_reads m n p (none_left i ρ) = refl
+each_reads m n p (one_more i ρ e k es ks b r) = ap₂ (λ (x : Bool) (xs : List Bool). x ∷ xs) (keeps_reads m i ρ e k n p b) (each_reads m n p r)
+
+pub keeps_job_reads : (m : Marks) (job : Job) (k : KerJob) (n : ℕ) (p : Place) → KeepsJobReads m job k n p
+keeps_job_reads m job k n p b = record { assume = keeps_reads m None [] job.assume k.assume n p b.assume; invs = each_reads m n p b.invs }

@@ -1,5 +1,5 @@
 -- The laws of what the reduction keeps of an action.
-use Rattle.std.proofs.Common.{◌≡◌, ℕ, Bool, true, false, not, ◌&&◌, IsTrue, true≢false, List, [], ◌∷◌, refl, sym, ◌∙◌, ap, subst, Option, None}
+use Rattle.std.proofs.Common.{◌≡◌, ℕ, Bool, true, false, not, ◌&&◌, IsTrue, true≢false, List, [], ◌∷◌, refl, sym, ◌∙◌, ap, subst, Option, Some, None}
 use Rattle.tla_meaning.specs.declared.actions.Assignable.{Assignable}
 use Rattle.tla_meaning.specs.declared.expr.Expr.{Expr}
 use Rattle.tla_meaning.specs.declared.place.Place.{Place}
@@ -10,8 +10,9 @@ use Rattle.kernel_trees.specs.Paths.{Marks, Step, marks_below, only_below, ways}
 use Rattle.kernel_trees.specs.Ways.{Way}
 use Rattle.kernel_trees.proofs.Marking.{SameMarks}
 use Rattle.kera_reducer.specs.JobPaths.{JobStep, TypedTree, has_name, job_ways, outside}
-use Rattle.kera_reducer.specs.PathLaws.{KeepsActions, KeepsPaths, KeepsPathsBelow, KeepsReads, KeepsSteps}
+use Rattle.kera_reducer.specs.PathLaws.{KeepsActions, KeepsPaths, KeepsPathsBelow, KeepsReads}
 use Rattle.kera_reducer.specs.Reduction.{Numbering}
+use Rattle.kera_reducer.specs.inner.Builds.{Builds}
 use Rattle.kera_reducer.specs.inner.SameWays.{Pairs, SameWays}
 use Rattle.kera_reducer.specs.inner.Steps.{SameStep}
 use Rattle.kera_reducer.proofs.ActsKept.{tree_acts}
@@ -30,7 +31,8 @@ keeps_actions w m ρ e k wide h = tree_acts w m (λ ρ e k b. keeps w wide None 
 pub keeps_reads : (m : Marks) (i : Option Assignable) (ρ : Numbering) (e : Expr) (k : Ker) (n : ℕ) (p : Place) → KeepsReads m i ρ e k n p
 keeps_reads m i ρ e k n p h = names_kept (is_read m n p) h ∙ sym (reads_has m k n p)
 
-pub keeps_steps : (m : Assignable) (ρ : Numbering) (t : TypedTree) (k : Ker) → KeepsSteps m ρ t k
+-- the paths of its expression, step by step
+keeps_steps : (m : Assignable) (ρ : Numbering) (t : TypedTree) (k : Ker) → Builds (Some m) ρ t.tree k → SameWays SameStep (job_ways (counts m) t) (ways (counts m) k)
 keeps_steps m ρ t k h = tree_ways m h t.kinds
 
 -- steps that are built tell the same

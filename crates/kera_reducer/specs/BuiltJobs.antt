@@ -12,12 +12,13 @@ use Rattle.tla_meaning.specs.Executions.{in_cinit, in_init, in_next, no_scope}
 use Rattle.tla_meaning.specs.Numbers.{Width}
 use Rattle.kernel_trees.specs.declared.kernel.Ker.{Ker}
 use Rattle.kernel_trees.specs.declared.system.KerJob.{KerJob}
-use Rattle.kernel_trees.specs.Paths.{marks_below}
+use Rattle.kernel_trees.specs.Paths.{Marks, marks_below}
 use Rattle.kernel_trees.specs.Trees.{ker_effect, ker_val}
 use Rattle.kernel_trees.specs.TypeKinds.{Kind}
 use Rattle.snowcat_types.specs.Answers.{is_typable}
 use Rattle.snowcat_types.specs.Systems.{parts_of}
-use Rattle.kera_reducer.specs.JobPaths.{SamePaths}
+use Rattle.kernel_trees.specs.Assignments.{reads_at}
+use Rattle.kera_reducer.specs.JobPaths.{SamePaths, tree_reads}
 use Rattle.kera_reducer.specs.Origins.{has_text, kernel_has_text, kernel_stands_at, stands_at}
 use Rattle.kera_reducer.specs.Reduction.{is_wide}
 use Rattle.kera_reducer.specs.inner.Builds.{Builds, BuildsEach}
@@ -79,3 +80,17 @@ abbrev pub KeepsJobTexts : Job → KerJob → List ℕ → Type 0
 KeepsJobTexts job k x =
     IsBuilt job k → IsTrue (list_any (λ k. kernel_has_text k x) (kernel_parts_of k)) →
     IsTrue (list_any (λ e. has_text e x) (parts_of job))
+
+-- ---- names
+
+-- a tree's names
+abbrev pub SameReads : Marks → ℕ → Place → Expr → Ker → Type 0
+SameReads m n p e k = tree_reads m e n p ≡ reads_at m k n p
+
+-- the assumption and the invariants read the names that the job's read, at the same places
+pub record SameJobReads (m : Marks) (n : ℕ) (p : Place) (job : Job) (k : KerJob) : Type 0 where
+  pub assume : SameReads m n p job.assume k.assume
+  pub invs : map (λ e. tree_reads m e n p) (invariants_of job) ≡ map (λ k. reads_at m k n p) k.invs
+
+abbrev pub KeepsJobReads : Marks → Job → KerJob → ℕ → Place → Type 0
+KeepsJobReads m job k n p = IsBuilt job k → SameJobReads m n p job k

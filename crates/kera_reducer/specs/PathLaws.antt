@@ -8,12 +8,10 @@ use Rattle.tla_meaning.specs.Actions.{counts}
 use Rattle.tla_meaning.specs.Numbers.{Width}
 use Rattle.kernel_trees.specs.declared.kernel.Ker.{Ker}
 use Rattle.kernel_trees.specs.Assignments.{reads_at}
-use Rattle.kernel_trees.specs.Paths.{Marks, marks_below, ways}
-use Rattle.kera_reducer.specs.JobPaths.{SamePaths, TypedTree, job_ways, tree_names_below, tree_reads}
+use Rattle.kernel_trees.specs.Paths.{Marks, marks_below}
+use Rattle.kera_reducer.specs.JobPaths.{SamePaths, TypedTree, tree_names_below, tree_reads}
 use Rattle.kera_reducer.specs.Reduction.{KeepsAction, Numbering, is_wide}
 use Rattle.kera_reducer.specs.inner.Builds.{Builds}
-use Rattle.kera_reducer.specs.inner.SameWays.{SameWays}
-use Rattle.kera_reducer.specs.inner.Steps.{SameStep}
 
 -- what is built in an action position has the effect of its expression there
 abbrev pub KeepsActions : Width → Assignable → Numbering → Expr → Ker → Type 0
@@ -23,11 +21,7 @@ KeepsActions w m ρ e k = IsTrue (is_wide w) → Builds (Some m) ρ e k → Keep
 abbrev pub KeepsReads : Marks → Option Assignable → Numbering → Expr → Ker → ℕ → Place → Type 0
 KeepsReads m i ρ e k n p = Builds i ρ e k → tree_reads m e n p ≡ reads_at m k n p
 
--- it has the paths of its expression, step by step
-abbrev pub KeepsSteps : Assignable → Numbering → TypedTree → Ker → Type 0
-KeepsSteps m ρ t k = Builds (Some m) ρ t.tree k → SameWays SameStep (job_ways (counts m) t) (ways (counts m) k)
-
--- so the same is told of them: by all names that may be assigned, and by those of the first n, if it reads no others
+-- the same is told of its paths: by all names that may be assigned, and by those of the first n, if it reads no others
 abbrev pub KeepsPaths : Assignable → Numbering → TypedTree → Ker → Type 0
 KeepsPaths m ρ t k = Builds (Some m) ρ t.tree k → SamePaths (counts m) t k
 

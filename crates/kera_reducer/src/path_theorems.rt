@@ -9,9 +9,9 @@ ghost use Rattle.tla_meaning.specs.declared.place.Place.{Place};
 ghost use Rattle.kernel_trees.specs.Paths.{Marks};
 ghost use Rattle.kernel_trees.specs.declared.kernel.Ker.{Ker};
 ghost use Rattle.kernel_trees.specs.declared.system.KerJob.{KerJob};
-ghost use Rattle.kera_reducer.specs.BuiltJobs.{KeepsJobPaths, KeepsJobPlaces, KeepsJobTexts, KeepsJobOutcomes};
+ghost use Rattle.kera_reducer.specs.BuiltJobs.{KeepsJobOutcomes, KeepsJobPaths, KeepsJobPlaces, KeepsJobReads, KeepsJobTexts};
 ghost use Rattle.kera_reducer.specs.JobPaths.{TypedTree};
-ghost use Rattle.kera_reducer.specs.PathLaws.{KeepsActions, KeepsPaths, KeepsPathsBelow, KeepsReads, KeepsSteps};
+ghost use Rattle.kera_reducer.specs.PathLaws.{KeepsActions, KeepsPaths, KeepsPathsBelow, KeepsReads};
 ghost use Rattle.kera_reducer.specs.Origins.{KeepsPlaces, KeepsTexts};
 ghost use Rattle.kera_reducer.specs.Reduction.{Numbering};
 
@@ -22,10 +22,10 @@ pub fn built_actions_keep_their_effect()
 {}
 
 /// What is built in an action position has the paths of its expression: as many, in the same order, each with the same
-/// place, and step by step with trees that are built of one another. So each ends or does not, and assigns and reads the
-/// same names at the same places, by all names that may be assigned, and by those of the first n where it holds no others.
+/// place; each ends or does not, and step by step assigns the same name, by a value or from a form with infinite parts at
+/// the same places, and reads the same names at the same places. So it is by all names that may be assigned, and by those
+/// of the first n where it holds no others.
 pub fn built_actions_keep_their_paths()
-    ensures steps { (m : Assignable) (ρ : Numbering) (t : TypedTree) (k : Ker) → KeepsSteps m ρ t k }
     ensures paths { (m : Assignable) (ρ : Numbering) (t : TypedTree) (k : Ker) → KeepsPaths m ρ t k }
     ensures below { (n : ℕ) (m : Assignable) (ρ : Numbering) (t : TypedTree) (k : Ker) → KeepsPathsBelow n m ρ t k }
 {}
@@ -38,11 +38,16 @@ pub fn built_trees_keep_places_and_names()
 {}
 
 /// A job's kernel, each part of which is built in its position, has the outcomes of the job's parts at states of normal
-/// values, under no width and under each from 4 on; the paths of CInit, Init and Next of a job that may be typed; and no
-/// place and no text that the job does not have.
+/// values, under no width and under each from 4 on; the paths of CInit, Init and Next of a job that may be typed; and its
+/// assumption and its invariants read the names that the job's read.
 pub fn built_jobs_keep_outcomes_and_paths()
     ensures outcomes { (job : Job) (k : KerJob) (w : Width) (s t : State) → KeepsJobOutcomes job k w s t }
     ensures paths { (job : Job) (k : KerJob) → KeepsJobPaths job k }
+    ensures reads { (m : Marks) (job : Job) (k : KerJob) (n : ℕ) (p : Place) → KeepsJobReads m job k n p }
+{}
+
+/// It has no place and no text that the job does not have.
+pub fn built_jobs_keep_places_and_texts()
     ensures places { (job : Job) (k : KerJob) (p : Place) → KeepsJobPlaces job k p }
     ensures texts { (job : Job) (k : KerJob) (x : List ℕ) → KeepsJobTexts job k x }
 {}

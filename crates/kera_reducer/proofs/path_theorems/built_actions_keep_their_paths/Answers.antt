@@ -1,8 +1,5 @@
-use Rattle.kera_reducer.proofs.PathLaws.{keeps_paths, keeps_paths_below, keeps_steps}
+use Rattle.kera_reducer.proofs.PathLaws.{keeps_paths, keeps_paths_below}
 use Rattle.kera_reducer.proofs.path_theorems.built_actions_keep_their_paths.Goals as goal
-
-pub returns-clause-steps : goal.returns-clause-steps
-returns-clause-steps c = keeps_steps
 
 pub returns-clause-paths : goal.returns-clause-paths
 returns-clause-paths c = keeps_paths
