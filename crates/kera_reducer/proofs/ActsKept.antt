@@ -31,8 +31,8 @@ use Rattle.kernel_trees.proofs.Nodes.{all_meanings, any_here, body_here, body_se
 use Rattle.kernel_trees.proofs.Trees.{ker-roll, mentions-roll}
 use Rattle.kernel_shapes.specs.Laws.{IsNormal}
 use Rattle.kera_reducer.specs.Reduction.{Keeps, KeepsAction, Matched, Numbering, all_fresh, any_mentioned, mentioned, numbered}
-use Rattle.kera_reducer.specs.inner.Builds.{Builds, BuildsEach, BuildsArms, BuildsNode, at_node, none_left, one_more, no_arms, other_arm, one_arm, noted, as_value, conjunction, disjunction, choice, branches, split_cases, passes_on}
-use Rattle.kera_reducer.specs.inner.Rows.{case_branches, guard_of, node, split_case, tree}
+use Rattle.kera_reducer.specs.Builds.{Builds, BuildsEach, BuildsArms, BuildsNode, at_node, none_left, one_more, no_arms, other_arm, one_arm, noted, as_value, conjunction, disjunction, choice, branches, split_cases, passes_on}
+use Rattle.kera_reducer.specs.Rows.{case_branches, guard_of, node, split_case, tree}
 use Rattle.kera_reducer.proofs.BuiltTrees.{all_readable, node_readable, node_value}
 use Rattle.kera_reducer.proofs.CaseEffects.{act_conjunction, guard_kept, split_act}
 use Rattle.kera_reducer.proofs.JobEffects.{act_and, act_case, act_exists, act_if, act_noted, act_operand, act_or, job_act, job_body, job_node, job_val}

@@ -22,8 +22,8 @@ use Rattle.kernel_trees.specs.Trees.{op_of, ker_val, names_of, number_name}
 use Rattle.kernel_trees.proofs.Nodes.{all_meanings, sense_at, outcomes_here}
 use Rattle.kernel_trees.proofs.Operators.{is_form, by_node, val_const, val_name, val_bound, val_range, constant_value}
 use Rattle.kera_reducer.specs.Reduction.{Numbering, Matched, numbered, all_fresh, fresh}
-use Rattle.kera_reducer.specs.inner.Rows.{tree, node, bound}
-use Rattle.kera_reducer.specs.inner.Builds.{is_binder}
+use Rattle.kera_reducer.specs.Rows.{tree, node, bound}
+use Rattle.kera_reducer.specs.Builds.{is_binder}
 use Rattle.tla_meaning.proofs.NormalNodes.{NormalOutcomes}
 use Rattle.kernel_shapes.specs.Laws.{IsNormal}
 use Rattle.kera_reducer.proofs.Normals.{of_sets, over_same, fold_same, outcome_normal, bind_normal, matched_bind}

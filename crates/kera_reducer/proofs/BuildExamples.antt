@@ -13,9 +13,9 @@ use Rattle.kernel_trees.specs.declared.kernel.Ker.TheOpen.{Ker-F}
 use Rattle.kernel_trees.specs.declared.kernel.KerOp.{KerOp}
 use Rattle.kernel_trees.specs.declared.kernel.KerOp.TheVariants as ker
 use Rattle.kera_reducer.specs.Reduction.{Numbering}
-use Rattle.kera_reducer.specs.inner.Rows.{op_at, Let, Level, Change, indexes, all_plain, is_literal_op, is_plain_op, is_plain_value}
-use Rattle.kera_reducer.specs.inner.Builds as rows
-use Rattle.kera_reducer.specs.inner.Builds.{Builds, BuildsEach}
+use Rattle.kera_reducer.specs.Rows.{op_at, Let, Level, Change, indexes, all_plain, is_literal_op, is_plain_op, is_plain_value}
+use Rattle.kera_reducer.specs.Builds as rows
+use Rattle.kera_reducer.specs.Builds.{Builds, BuildsEach}
 use Rattle.kera_reducer.proofs.Building.{built}
 
 abbrev at : ℕ → Place

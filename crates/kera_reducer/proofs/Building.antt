@@ -7,7 +7,7 @@ use Rattle.tla_meaning.specs.declared.op.Op.{Op}
 use Rattle.tla_meaning.specs.declared.place.Place.{Place}
 use Rattle.kernel_trees.specs.declared.kernel.Ker.{Ker}
 use Rattle.kera_reducer.specs.Reduction.{Numbering}
-use Rattle.kera_reducer.specs.inner.Builds.{Builds, BuildsNode, at_node}
+use Rattle.kera_reducer.specs.Builds.{Builds, BuildsNode, at_node}
 
 pub built : (i : Option Assignable) (ρ : Numbering) (p : Place) (o : Op) (es : List Expr) (xs : List (List ℕ))
     (k : Ker) →

@@ -29,7 +29,7 @@ use Rattle.kera_reducer.specs.BuiltJobs.{IsBuilt, KeepsJobPaths, KeepsJobPlaces,
 use Rattle.kera_reducer.specs.JobPaths.{has_name, has_name_at, outside, tree_reads}
 use Rattle.kera_reducer.specs.Origins.{has_text, kernel_has_text, kernel_stands_at, stands_at}
 use Rattle.kera_reducer.specs.Reduction.{Matched, is_wide}
-use Rattle.kera_reducer.specs.inner.Builds.{Builds, BuildsEach, none_left, one_more}
+use Rattle.kera_reducer.specs.Builds.{Builds, BuildsEach, none_left, one_more}
 use Rattle.kera_reducer.proofs.JobTrees.{Each, by_nodes, has_name-roll}
 use Rattle.kera_reducer.proofs.Keeping.{keeps}
 use Rattle.kera_reducer.proofs.NodesKept.{keeps_places, keeps_texts}

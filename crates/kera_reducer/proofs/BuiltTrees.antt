@@ -13,8 +13,8 @@ use Rattle.kernel_trees.specs.declared.kernel.KerOp.{KerOp}
 use Rattle.kernel_trees.specs.declared.kernel.KerOp.TheVariants as ker
 use Rattle.kernel_trees.specs.Trees.{op_of}
 use Rattle.kera_reducer.specs.Reduction.{Numbering, any_mentioned, mentioned, mentioned_at}
-use Rattle.kera_reducer.specs.inner.Rows.{Change, Level}
-use Rattle.kera_reducer.specs.inner.Builds.{Builds, BuildsEach, BuildsArms, BuildsPath, BuildsChanges, BuildsNode, at_node, none_left, one_more, no_arms, other_arm, one_arm, last_level, one_level, no_changes, one_change, boolean, integer, text, declared, bound_name, same, range, binder, fold, noted, assign, implies, unequal, no_member, greater, at_most, at_least, negative, finite, truth_values, equivalent, one_pair, power, high_power, field, low_item, high_item, except, except_let, cases, as_value, conjunction, disjunction, choice, branches, split_cases, is_same, is_binder}
+use Rattle.kera_reducer.specs.Rows.{Change, Level}
+use Rattle.kera_reducer.specs.Builds.{Builds, BuildsEach, BuildsArms, BuildsPath, BuildsChanges, BuildsNode, at_node, none_left, one_more, no_arms, other_arm, one_arm, last_level, one_level, no_changes, one_change, boolean, integer, text, declared, bound_name, same, range, binder, fold, noted, assign, implies, unequal, no_member, greater, at_most, at_least, negative, finite, truth_values, equivalent, one_pair, power, high_power, field, low_item, high_item, except, except_let, cases, as_value, conjunction, disjunction, choice, branches, split_cases, is_same, is_binder}
 use Rattle.kera_reducer.proofs.Basics.{or_left, or_right, map_append, in_parts}
 use Rattle.kera_reducer.proofs.Mentioned.{is_readable, mentioned-roll, readable-roll, readable_at}
 

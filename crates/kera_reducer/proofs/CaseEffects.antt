@@ -27,7 +27,7 @@ use Rattle.kernel_trees.proofs.Effects.{and_done, effect, or_also, or_and, or_no
 use Rattle.kernel_trees.proofs.Nodes.{any_here, effects_here, sense_at}
 use Rattle.kernel_trees.proofs.Operators.{val_not}
 use Rattle.kernel_trees.proofs.Trees.{ker-roll}
-use Rattle.kera_reducer.specs.inner.Rows.{case_branches, guard_of, may_assign, negation, node, op_at, place_of, split_case, twice_negated}
+use Rattle.kera_reducer.specs.Rows.{case_branches, guard_of, may_assign, negation, node, op_at, place_of, split_case, twice_negated}
 use Rattle.kera_reducer.proofs.Basics.{map_append}
 use Rattle.kera_reducer.proofs.Outcomes.{negated, negated_is, not_layer, not_truth}
 use Rattle.kera_reducer.proofs.RowNames.{case_children}

@@ -9,7 +9,7 @@ use Rattle.kernel_trees.specs.declared.kernel.KerOp.TheVariants as ker
 use Rattle.kernel_trees.specs.Paths.{Marks, Step, Holds, ends_at, is_end, ways}
 use Rattle.kernel_trees.specs.Ways.{Way, all_of, alone, branch, has_ended, one_after}
 use Rattle.kernel_trees.proofs.LawOfPaths.{ways-roll}
-use Rattle.kera_reducer.specs.inner.Rows.{negation, node, twice_negated}
+use Rattle.kera_reducer.specs.Rows.{negation, node, twice_negated}
 use Rattle.kera_reducer.proofs.Basics.{append_none, map_append, map_map}
 
 or_none : {X : Type 0} (o : Option X) → or_else o None ≡ o

@@ -25,7 +25,7 @@ use Rattle.kernel_trees.specs.declared.kernel.KerOp.TheVariants as ker
 use Rattle.kernel_trees.specs.Trees.{ker_val, number_name}
 use Rattle.kernel_trees.proofs.Operators.{val_bound, val_item, val_tuple}
 use Rattle.kera_reducer.specs.Reduction.{is_wide}
-use Rattle.kera_reducer.specs.inner.Rows.{Let, item, bound, pairs, behind, operand_at, index_at, is_literal, is_literal_op, is_nil, op_at, place_of, type_of, Level, Change, read_levels, read_changes}
+use Rattle.kera_reducer.specs.Rows.{Let, item, bound, pairs, behind, operand_at, index_at, is_literal, is_literal_op, is_nil, op_at, place_of, type_of, Level, Change, read_levels, read_changes}
 use Rattle.kera_reducer.proofs.Widths.{fits_all, number_there}
 use Rattle.kera_reducer.proofs.Outcomes.{strict_same, cons≢none, other_values}
 use Rattle.kera_reducer.proofs.Lets.{both_of, first_of, second_of}

@@ -31,8 +31,8 @@ use Rattle.kernel_trees.proofs.Operators.{form_plain, constant_value}
 use Rattle.kernel_trees.proofs.Binders.{val_update, updated_by}
 use Rattle.kernel_shapes.specs.Laws.{IsNormal}
 use Rattle.kera_reducer.specs.Reduction.{Numbering, Matched, Keeps, fresh, are_fresh, numbered, is_wide}
-use Rattle.kera_reducer.specs.inner.Rows.{Let, bound, pairs, operand_at, Level, Change, changed_at, changed, all_levels, indexes, level_numbers, all_plain, is_plain, is_plain_op, is_plain_value, op_at, place_of, is_nil, read_changes, except_by_let}
-use Rattle.kera_reducer.specs.inner.Builds.{is_let, is_except_let}
+use Rattle.kera_reducer.specs.Rows.{Let, bound, pairs, operand_at, Level, Change, changed_at, changed, all_levels, indexes, level_numbers, all_plain, is_plain, is_plain_op, is_plain_value, op_at, place_of, is_nil, read_changes, except_by_let}
+use Rattle.kera_reducer.specs.Builds.{is_let, is_except_let}
 use Rattle.kera_reducer.proofs.Widths.{fits_all, number_there}
 use Rattle.kera_reducer.proofs.Tying.{names_apart, not_true, tied_unread, tied_two}
 use Rattle.kera_reducer.proofs.Normals.{outcome_normal, bind_normal, matched_bind}

@@ -23,7 +23,7 @@ use Rattle.kernel_trees.specs.Trees.{ker_val, number_name}
 use Rattle.kernel_trees.proofs.Operators.{val_bound}
 use Rattle.kernel_trees.proofs.Binders.{val_update, updated_one, updated_by, one_update}
 use Rattle.kernel_trees.proofs.Steps.{same_text_same}
-use Rattle.kera_reducer.specs.inner.Rows.{bound, Level, Change, changed_at, changed, is_nil}
+use Rattle.kera_reducer.specs.Rows.{bound, Level, Change, changed_at, changed, is_nil}
 use Rattle.kera_reducer.proofs.Outcomes.{strict_same, with_same, one_value, other_values, cons≢none, none≢cons}
 use Rattle.kera_reducer.proofs.Paths.{path_step, one_step}
 

@@ -17,7 +17,7 @@ use Rattle.kernel_trees.specs.declared.kernel.KerOp.{KerOp}
 use Rattle.kernel_trees.specs.Trees.{ker_val, ker_form}
 use Rattle.kernel_trees.proofs.Operators.{is_form, form_plain}
 use Rattle.kera_reducer.specs.Reduction.{Numbering, Matched, Keeps}
-use Rattle.kera_reducer.specs.inner.Rows.{tree}
+use Rattle.kera_reducer.specs.Rows.{tree}
 
 -- what a node means, by its parts
 abbrev pub node_means : Width → Place → Op → List Expr → List (List ℕ) → Scope → Denotation

@@ -18,8 +18,8 @@ use Rattle.kernel_trees.specs.Trees.{op_of}
 use Rattle.kernel_trees.proofs.SoundNodes.{infinite-roll}
 use Rattle.kera_reducer.specs.JobPaths.{infinite_form, infinite_form_at}
 use Rattle.kera_reducer.specs.Reduction.{Numbering}
-use Rattle.kera_reducer.specs.inner.Builds.{Builds, BuildsEach, BuildsNode, at_node, none_left, one_more, same, binder, noted, except, except_let, cases, as_value, has_arm, is_same, is_binder, bound_name}
-use Rattle.kera_reducer.specs.inner.Rows.{nested_ifs, tree}
+use Rattle.kera_reducer.specs.Builds.{Builds, BuildsEach, BuildsNode, at_node, none_left, one_more, same, binder, noted, except, except_let, cases, as_value, has_arm, is_same, is_binder, bound_name}
+use Rattle.kera_reducer.specs.Rows.{nested_ifs, tree}
 use Rattle.kera_reducer.proofs.Roots.{first_changed}
 
 pub form-roll : (x : Expr-F Expr) → infinite_form (roll-Expr x) ≡ infinite_form_at x.op x.place (map infinite_form x.args)

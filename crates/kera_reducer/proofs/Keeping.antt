@@ -12,9 +12,9 @@ use Rattle.tla_meaning.proofs.Views.{false≢true}
 use Rattle.kernel_trees.specs.declared.kernel.Ker.{Ker}
 use Rattle.kernel_trees.specs.declared.kernel.KerOp.TheVariants as ker
 use Rattle.kera_reducer.specs.Reduction.{Numbering, Keeps, is_wide, mentioned, mentioned_at, any_mentioned}
-use Rattle.kera_reducer.specs.inner.Rows.{node, tree, Level, Change}
-use Rattle.kera_reducer.specs.inner.Builds as rows
-use Rattle.kera_reducer.specs.inner.Builds.{Builds, BuildsEach, BuildsNode, BuildsPath, BuildsChanges}
+use Rattle.kera_reducer.specs.Rows.{node, tree, Level, Change}
+use Rattle.kera_reducer.specs.Builds as rows
+use Rattle.kera_reducer.specs.Builds.{Builds, BuildsEach, BuildsNode, BuildsPath, BuildsChanges}
 use Rattle.kera_reducer.proofs.Frame.{KeepsNode, KeepsEach, keeps_opened}
 use Rattle.kera_reducer.proofs.Same.{keeps_same}
 use Rattle.kera_reducer.proofs.Binding.{keeps_boolean, keeps_integer, keeps_text, keeps_declared, keeps_bound, keeps_range, keeps_binder, keeps_fold}

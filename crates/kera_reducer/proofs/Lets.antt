@@ -26,8 +26,8 @@ use Rattle.kernel_trees.specs.Trees.{number_name, ker_val}
 use Rattle.kernel_trees.proofs.Operators.{by_node, val_bound}
 use Rattle.kernel_trees.proofs.Binders.{val_fold}
 use Rattle.kernel_trees.proofs.Steps.{same_text_same}
-use Rattle.kera_reducer.specs.inner.Rows.{Let, let_in, node, bound}
-use Rattle.kera_reducer.specs.inner.Builds.{is_let}
+use Rattle.kera_reducer.specs.Rows.{Let, let_in, node, bound}
+use Rattle.kera_reducer.specs.Builds.{is_let}
 use Rattle.kera_reducer.proofs.Tying.{names_apart, not_true}
 
 abbrev pub empty : Value

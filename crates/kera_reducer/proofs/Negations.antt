@@ -29,8 +29,8 @@ use Rattle.kernel_trees.specs.Trees.{ker_val, names_of}
 use Rattle.kernel_trees.proofs.Operators.{val_const, val_not, val_and, val_equal, val_less, val_minus, val_set, val_member, val_if, val_nocase, constant_value}
 use Rattle.kernel_trees.proofs.Binders.{val_every}
 use Rattle.kera_reducer.specs.Reduction.{Numbering, Matched, is_wide}
-use Rattle.kera_reducer.specs.inner.Rows.{tree, node, negation, number as number_at, truth as truth_at, implication, nested_ifs}
-use Rattle.kera_reducer.specs.inner.Builds.{has_arm}
+use Rattle.kera_reducer.specs.Rows.{tree, node, negation, number as number_at, truth as truth_at, implication, nested_ifs}
+use Rattle.kera_reducer.specs.Builds.{has_arm}
 use Rattle.kera_reducer.proofs.Widths.{fits_all, number_there}
 use Rattle.kera_reducer.proofs.Outcomes.{strict_by, negated, negated_strict, implies_row, unequal_at, not_in_row, strict_swapped, greater_at, at_most_at, not_less_at, negative_at, all_true}
 use Rattle.kera_reducer.proofs.Frame.{KeepsNode, KeepsEach, ker_vals, ker_forms, operands_kept, operand_forms_kept, plain_row}

@@ -17,8 +17,8 @@ use Rattle.kernel_trees.specs.declared.kernel.KerOp.{KerOp}
 use Rattle.kernel_trees.specs.declared.kernel.KerOp.TheVariants as ker
 use Rattle.kera_reducer.specs.Origins.{KeepsPlaces, KeepsTexts, has_node, is_text_constant, is_text_op, is_text_value}
 use Rattle.kera_reducer.specs.Reduction.{Numbering}
-use Rattle.kera_reducer.specs.inner.Rows.{Change, Level}
-use Rattle.kera_reducer.specs.inner.Builds.{Builds, BuildsEach, BuildsArms, BuildsPath, BuildsChanges, BuildsNode, at_node, none_left, one_more, no_arms, other_arm, one_arm, last_level, one_level, no_changes, one_change, boolean, integer, text, declared, bound_name, same, range, binder, fold, noted, assign, implies, unequal, no_member, greater, at_most, at_least, negative, finite, truth_values, equivalent, one_pair, power, high_power, field, low_item, high_item, except, except_let, cases, as_value, conjunction, disjunction, choice, branches, split_cases, is_same, is_binder}
+use Rattle.kera_reducer.specs.Rows.{Change, Level}
+use Rattle.kera_reducer.specs.Builds.{Builds, BuildsEach, BuildsArms, BuildsPath, BuildsChanges, BuildsNode, at_node, none_left, one_more, no_arms, other_arm, one_arm, last_level, one_level, no_changes, one_change, boolean, integer, text, declared, bound_name, same, range, binder, fold, noted, assign, implies, unequal, no_member, greater, at_most, at_least, negative, finite, truth_values, equivalent, one_pair, power, high_power, field, low_item, high_item, except, except_let, cases, as_value, conjunction, disjunction, choice, branches, split_cases, is_same, is_binder}
 use Rattle.kera_reducer.proofs.Basics.{or_left, or_right}
 use Rattle.kera_reducer.proofs.RowNodes.{AllArms, AllChanges, AllFree, AllLevels, Free, FreeOther, append_free, changed_free, equivalence_free, except_let_free, guard_free, implication_free, item_let_free, large_power_free, made, negation_free, nested_free, number_free, single_free, small_power_free, split_free, truth_free}
 

@@ -21,8 +21,8 @@ use Rattle.kernel_trees.proofs.Nodes.{is_leaf}
 use Rattle.kernel_trees.proofs.Trees.{mentions-roll}
 use Rattle.kera_reducer.specs.JobPaths.{has_name, has_name_at}
 use Rattle.kera_reducer.specs.Reduction.{Numbering, any_mentioned}
-use Rattle.kera_reducer.specs.inner.Builds.{BuildsEach, BuildsNode, none_left, one_more, same, binder, noted, except, cases, has_arm, is_same, is_binder, passes_on}
-use Rattle.kera_reducer.specs.inner.Rows.{nested_ifs, node, op_at, tree}
+use Rattle.kera_reducer.specs.Builds.{BuildsEach, BuildsNode, none_left, one_more, same, binder, noted, except, cases, has_arm, is_same, is_binder, passes_on}
+use Rattle.kera_reducer.specs.Rows.{nested_ifs, node, op_at, tree}
 use Rattle.kera_reducer.proofs.KernelNames.{mentions_has}
 use Rattle.kera_reducer.proofs.Mentioned.{mentioned_is}
 use Rattle.kera_reducer.proofs.NamesKept.{node_names}

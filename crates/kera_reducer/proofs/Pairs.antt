@@ -33,8 +33,8 @@ use Rattle.kernel_trees.specs.Trees.{ker_val, names_of, number_name}
 use Rattle.kernel_trees.proofs.Operators.{val_const, val_bound, val_item, val_tuple, val_equal, val_not, val_set, val_field, constant_value}
 use Rattle.kernel_trees.proofs.Binders.{val_function}
 use Rattle.kera_reducer.specs.Reduction.{Numbering, Matched, is_wide}
-use Rattle.kera_reducer.specs.inner.Rows.{Let, let_in, tree, node, bound, pair, item, place_of, type_of, op_at, named_first, named_second, equivalence, single, item_by_let}
-use Rattle.kera_reducer.specs.inner.Builds.{is_let}
+use Rattle.kera_reducer.specs.Rows.{Let, let_in, tree, node, bound, pair, item, place_of, type_of, op_at, named_first, named_second, equivalence, single, item_by_let}
+use Rattle.kera_reducer.specs.Builds.{is_let}
 use Rattle.kera_reducer.proofs.Widths.{fits_all, number_there}
 use Rattle.kera_reducer.proofs.Tying.{names_apart}
 use Rattle.kera_reducer.proofs.Outcomes.{strict_same, negated, not_layer, negated_is, field_row, tuple_then, one_value, other_values, cons≢none, none≢cons}

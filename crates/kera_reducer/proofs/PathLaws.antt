@@ -12,7 +12,7 @@ use Rattle.kernel_trees.proofs.Marking.{SameMarks}
 use Rattle.kera_reducer.specs.JobPaths.{JobStep, TypedTree, has_name, job_ways, outside}
 use Rattle.kera_reducer.specs.PathLaws.{KeepsActions, KeepsPaths, KeepsPathsBelow, KeepsReads}
 use Rattle.kera_reducer.specs.Reduction.{Numbering}
-use Rattle.kera_reducer.specs.inner.Builds.{Builds}
+use Rattle.kera_reducer.specs.Builds.{Builds}
 use Rattle.kera_reducer.specs.inner.SameWays.{Pairs, SameWays}
 use Rattle.kera_reducer.specs.inner.Steps.{SameStep}
 use Rattle.kera_reducer.proofs.ActsKept.{tree_acts}

@@ -27,8 +27,8 @@ use Rattle.kernel_trees.specs.declared.kernel.KerOp.TheVariants as ker
 use Rattle.kernel_trees.specs.Trees.{ker_val}
 use Rattle.kernel_trees.proofs.Operators.{val_bound, val_less, val_times, val_if}
 use Rattle.kera_reducer.specs.Reduction.{Numbering, is_wide}
-use Rattle.kera_reducer.specs.inner.Rows.{Let, node, number as number_at, op_at, place_of, type_of, named_one, named_first, product, tested, power_body, small_power, large_power}
-use Rattle.kera_reducer.specs.inner.Builds.{is_let}
+use Rattle.kera_reducer.specs.Rows.{Let, node, number as number_at, op_at, place_of, type_of, named_one, named_first, product, tested, power_body, small_power, large_power}
+use Rattle.kera_reducer.specs.Builds.{is_let}
 use Rattle.kera_reducer.proofs.Widths.{fits_all, number_there}
 use Rattle.kera_reducer.proofs.Lets.{let_scope, val_let, read_named, both_of}
 use Rattle.kera_reducer.proofs.Negations.{val_number}

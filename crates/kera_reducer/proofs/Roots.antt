@@ -20,8 +20,8 @@ use Rattle.kernel_trees.specs.Assignments.{target}
 use Rattle.kernel_trees.specs.Trees.{constant, op_of}
 use Rattle.kera_reducer.specs.JobPaths.{below_notes, below_of, is_false_op, job_target}
 use Rattle.kera_reducer.specs.Reduction.{Numbering}
-use Rattle.kera_reducer.specs.inner.Rows.{Change, Level, changed, changed_at, is_nil, may_assign, nested_ifs, tree}
-use Rattle.kera_reducer.specs.inner.Builds.{Builds, BuildsEach, BuildsChanges, BuildsNode, at_node, none_left, one_more, no_changes, one_change, boolean, integer, text, declared, same, binder, noted, assign, except, cases, as_value, has_arm, is_same, is_binder}
+use Rattle.kera_reducer.specs.Rows.{Change, Level, changed, changed_at, is_nil, may_assign, nested_ifs, tree}
+use Rattle.kera_reducer.specs.Builds.{Builds, BuildsEach, BuildsChanges, BuildsNode, at_node, none_left, one_more, no_changes, one_change, boolean, integer, text, declared, same, binder, noted, assign, except, cases, as_value, has_arm, is_same, is_binder}
 use Rattle.kera_reducer.specs.inner.Steps.{is_note}
 use Rattle.kera_reducer.proofs.JobTrees.{below-roll}
 use Rattle.kera_reducer.proofs.NamesKept.{path_names}

@@ -8,7 +8,7 @@ use Rattle.kernel_trees.specs.declared.kernel.Ker.{Ker}
 use Rattle.kernel_trees.specs.declared.kernel.KerOp.{KerOp}
 use Rattle.kernel_trees.specs.declared.kernel.KerOp.TheVariants as ker
 use Rattle.kernel_trees.specs.Paths.{is_end}
-use Rattle.kera_reducer.specs.inner.Rows.{node, place_of, op_at, number, bound, negation, item, pair, is_literal, is_literal_op, Let, let_in, named_one, named_first, implication, equivalence, single, item_by_let, product, tested, power_body, small_power, large_power, Level, Change, changed_at, changed, all_levels, pairs, behind, is_nil, operand_at, index_at, read_levels, read_changes, except_by_let, nested_ifs, twice_negated, case_branches, split_case, may_assign, guard_of}
+use Rattle.kera_reducer.specs.Rows.{node, place_of, op_at, number, bound, negation, item, pair, is_literal, is_literal_op, Let, let_in, named_one, named_first, implication, equivalence, single, item_by_let, product, tested, power_body, small_power, large_power, Level, Change, changed_at, changed, all_levels, pairs, behind, is_nil, operand_at, index_at, read_levels, read_changes, except_by_let, nested_ifs, twice_negated, case_branches, split_case, may_assign, guard_of}
 use Rattle.kera_reducer.proofs.Basics.{or_none, or_assoc, any_append, map_append}
 use Rattle.kera_reducer.proofs.KernelNames.{ker_has, has-roll, no_names_in_constant}
 

@@ -11,7 +11,7 @@ use Rattle.kernel_trees.specs.declared.kernel.KerOp.{KerOp}
 use Rattle.kernel_trees.specs.declared.kernel.KerOp.TheVariants as ker
 use Rattle.kernel_trees.specs.Paths.{is_end}
 use Rattle.kera_reducer.specs.Origins.{is_text_constant, is_text_value, kernel_has_node}
-use Rattle.kera_reducer.specs.inner.Rows.{tree, node, place_of, type_of, op_at, number, truth, bound, negation, item, pair, is_literal, Let, let_in, named_one, named_first, named_second, implication, equivalence, single, item_by_let, product, tested, power_body, small_power, large_power, Level, Change, changed_at, changed, all_levels, pairs, behind, is_nil, operand_at, index_at, read_levels, read_changes, except_by_let, nested_ifs, twice_negated, case_branches, split_case, may_assign, guard_of}
+use Rattle.kera_reducer.specs.Rows.{tree, node, place_of, type_of, op_at, number, truth, bound, negation, item, pair, is_literal, Let, let_in, named_one, named_first, named_second, implication, equivalence, single, item_by_let, product, tested, power_body, small_power, large_power, Level, Change, changed_at, changed, all_levels, pairs, behind, is_nil, operand_at, index_at, read_levels, read_changes, except_by_let, nested_ifs, twice_negated, case_branches, split_case, may_assign, guard_of}
 use Rattle.kera_reducer.proofs.Basics.{or_left}
 
 or_both : {a b : Bool} → a ≡ false → b ≡ false → (a || b) ≡ false

@@ -21,8 +21,8 @@ use Rattle.kernel_trees.specs.Trees.{op_of}
 use Rattle.kernel_trees.proofs.Nodes.{all_meanings, sense_at, outcomes_here}
 use Rattle.kernel_trees.proofs.Operators.{by_node, form_by_node, forms_here}
 use Rattle.kera_reducer.specs.Reduction.{Numbering, Matched}
-use Rattle.kera_reducer.specs.inner.Rows.{node}
-use Rattle.kera_reducer.specs.inner.Builds.{is_same}
+use Rattle.kera_reducer.specs.Rows.{node}
+use Rattle.kera_reducer.specs.Builds.{is_same}
 use Rattle.kera_reducer.proofs.Frame.{node_means, KeepsNode, KeepsEach, operands_kept, operand_forms_kept}
 
 module _ (w : Width) (ρ : Numbering) (p : Place) (es : List Expr) (xs : List (List ℕ)) (ks : List Ker)

@@ -9,7 +9,7 @@ use Rattle.kernel_trees.specs.declared.kernel.Ker.{Ker}
 use Rattle.kernel_trees.specs.declared.kernel.KerOp.TheVariants as ker
 use Rattle.kernel_trees.specs.TypeKinds.{Kind, Truth, Number, Tup, kinds, kind_of, is_kind, each_is}
 use Rattle.kernel_trees.specs.Sound.{Context, kind_at, kind_in, literal_of, passes, sound, updated_kind}
-use Rattle.kera_reducer.specs.inner.Rows.{tree, node, number, negation, bound, item, pairs, place_of, type_of, op_at, is_nil, Let, named_one, named_first, product, tested, power_body, small_power, large_power, Level, Change, changed_at, changed, behind, operand_at, nested_ifs, twice_negated, case_branches, split_case, guard_of, may_assign}
+use Rattle.kera_reducer.specs.Rows.{tree, node, number, negation, bound, item, pairs, place_of, type_of, op_at, is_nil, Let, named_one, named_first, product, tested, power_body, small_power, large_power, Level, Change, changed_at, changed, behind, operand_at, nested_ifs, twice_negated, case_branches, split_case, guard_of, may_assign}
 use Rattle.kernel_trees.specs.Paths.{is_end}
 use Rattle.kernel_trees.proofs.Reading.{nat_same}
 use Rattle.kernel_trees.proofs.SoundWider.{kind_append}

@@ -15,7 +15,7 @@ use Rattle.kernel_trees.specs.declared.kernel.KerOp.TheVariants as ker
 use Rattle.kernel_trees.specs.TypeKinds.{Kind, Seq, kind_of}
 use Rattle.kernel_trees.specs.Sound.{Context, kind_in, literal_of, updated_kind}
 use Rattle.kernel_trees.proofs.SoundWider.{Agree, agree_more, kind_append}
-use Rattle.kera_reducer.specs.inner.Rows.{tree, bound, item, pairs, place_of, type_of, op_at, is_literal, is_literal_op, is_nil, Let, Level, Change, changed, all_levels, behind, operand_at, index_at, read_levels, read_changes, except_by_let}
+use Rattle.kera_reducer.specs.Rows.{tree, bound, item, pairs, place_of, type_of, op_at, is_literal, is_literal_op, is_nil, Let, Level, Change, changed, all_levels, behind, operand_at, index_at, read_levels, read_changes, except_by_let}
 use Rattle.kera_reducer.proofs.SoundMade.{Is, widened, IsLetOf, let_context, let_is, named_there}
 use Rattle.kera_reducer.proofs.SoundChanges.{PathIs, ChangesAre, changed_is, nested_kind, IndexesAre, pairs_are, RestsAre, operand_is}
 

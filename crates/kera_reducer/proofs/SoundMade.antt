@@ -20,8 +20,8 @@ use Rattle.kernel_trees.proofs.Reading.{nat_same}
 use Rattle.kernel_trees.proofs.SoundNodes.{with_asked, sound-roll}
 use Rattle.kernel_trees.proofs.SoundTrees.{Child}
 use Rattle.kernel_trees.proofs.SoundWider.{Agree, kind_append, sound_wider}
-use Rattle.kera_reducer.specs.inner.Rows.{tree, node, number, truth, bound, negation, item, pair, place_of, type_of, Let, let_in, named_first, named_second, implication, equivalence, single, item_by_let}
-use Rattle.kera_reducer.specs.inner.Builds.{is_let}
+use Rattle.kera_reducer.specs.Rows.{tree, node, number, truth, bound, negation, item, pair, place_of, type_of, Let, let_in, named_first, named_second, implication, equivalence, single, item_by_let}
+use Rattle.kera_reducer.specs.Builds.{is_let}
 use Rattle.kera_reducer.proofs.Tying.{not_true}
 
 -- ---- equal kinds

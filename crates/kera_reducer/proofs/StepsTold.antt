@@ -21,8 +21,8 @@ use Rattle.kernel_trees.specs.Trees.{op_of}
 use Rattle.kernel_trees.specs.TypeKinds.{Kind}
 use Rattle.kera_reducer.specs.JobPaths.{JobAssigned, JobStep, Operand, Guarded, Unmatched, Sets, SetsFrom, ToldStep, TypedTree, and_before, assigned_or, has_name, job_assignment, job_assignment_of, job_reads, job_sets, kernel_reads, left_side, nodes, told_kernel_step, told_step, tree_reads, typed_trees}
 use Rattle.kera_reducer.specs.Reduction.{Numbering}
-use Rattle.kera_reducer.specs.inner.Builds.{Builds, BuildsEach, BuildsNode, at_node, none_left, one_more, same, binder, noted, assign, as_value, is_same, is_binder}
-use Rattle.kera_reducer.specs.inner.Rows.{guard_of, may_assign, negation, node, op_at, tree, twice_negated}
+use Rattle.kera_reducer.specs.Builds.{Builds, BuildsEach, BuildsNode, at_node, none_left, one_more, same, binder, noted, assign, as_value, is_same, is_binder}
+use Rattle.kera_reducer.specs.Rows.{guard_of, may_assign, negation, node, op_at, tree, twice_negated}
 use Rattle.kera_reducer.specs.inner.Steps.{SameStep, guard_is_false, guard_is_true, is_note, same_choice, same_end, same_guard, same_operand, trees}
 use Rattle.kera_reducer.proofs.Basics.{or_left, or_right}
 use Rattle.kera_reducer.proofs.InfiniteKept.{infinite_kept}

@@ -20,8 +20,8 @@ use Rattle.kernel_trees.proofs.LawOfPaths.{ways-roll}
 use Rattle.kernel_trees.proofs.Trees.{mentions-roll}
 use Rattle.kera_reducer.specs.JobPaths.{JobParted, JobStep, Operand, Guarded, Chosen, Unmatched, TypedTree, any_holds, ends_there, job_case_ways, job_choice_ways, job_if_ways, job_sets, job_ways, job_ways_of, root_place, typed_trees}
 use Rattle.kera_reducer.specs.Reduction.{Numbering, all_fresh, any_mentioned, fresh, numbered}
-use Rattle.kera_reducer.specs.inner.Builds.{Builds, BuildsEach, BuildsArms, BuildsNode, at_node, none_left, one_more, no_arms, other_arm, one_arm, noted, as_value, conjunction, disjunction, choice, branches, split_cases, passes_on}
-use Rattle.kera_reducer.specs.inner.Rows.{case_branches, guard_of, negation, node, tree, twice_negated}
+use Rattle.kera_reducer.specs.Builds.{Builds, BuildsEach, BuildsArms, BuildsNode, at_node, none_left, one_more, no_arms, other_arm, one_arm, noted, as_value, conjunction, disjunction, choice, branches, split_cases, passes_on}
+use Rattle.kera_reducer.specs.Rows.{case_branches, guard_of, negation, node, tree, twice_negated}
 use Rattle.kera_reducer.specs.inner.SameWays.{Pairs, SameWay, SameWays}
 use Rattle.kera_reducer.specs.inner.Steps.{SameStep, guard_is_false, guard_is_true, is_note, same_choice, same_end, same_guard, same_operand, trees}
 use Rattle.kera_reducer.proofs.Basics.{append_none}

@@ -21,7 +21,7 @@ use Rattle.kernel_trees.specs.Assignments.{reads_at}
 use Rattle.kera_reducer.specs.JobPaths.{SamePaths, tree_reads}
 use Rattle.kera_reducer.specs.Origins.{has_text, kernel_has_text, kernel_stands_at, stands_at}
 use Rattle.kera_reducer.specs.Reduction.{is_wide}
-use Rattle.kera_reducer.specs.inner.Builds.{Builds, BuildsEach}
+use Rattle.kera_reducer.specs.Builds.{Builds, BuildsEach}
 
 abbrev pub invariants_of : Job → List Expr
 invariants_of job = map (λ e. e.1) job.invs

@@ -6,7 +6,7 @@ use Rattle.tla_meaning.specs.declared.expr.Expr.{Expr}
 use Rattle.tla_meaning.specs.Numbers.{Width}
 use Rattle.kernel_trees.specs.declared.kernel.Ker.{Ker}
 use Rattle.kera_reducer.specs.Reduction.{Keeps, Numbering, is_wide, mentioned}
-use Rattle.kera_reducer.specs.inner.Builds.{Builds}
+use Rattle.kera_reducer.specs.Builds.{Builds}
 
 -- in an action position, no name that may be assigned
 abbrev pub IsSilent : Option Assignable → Expr → Type 0

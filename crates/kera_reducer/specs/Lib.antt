@@ -1,5 +1,7 @@
 -- The definitions of the crate.
 pub mod Reduction
+pub mod Rows
+pub mod Builds
 pub mod JobPaths
 pub mod PathLaws
 pub mod Laws

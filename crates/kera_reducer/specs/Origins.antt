@@ -19,7 +19,7 @@ use Rattle.kernel_trees.specs.declared.kernel.Ker.TheFolds.{fold-Ker}
 use Rattle.kernel_trees.specs.declared.kernel.KerOp.{KerOp}
 use Rattle.kernel_trees.specs.declared.kernel.KerOp.TheVariants as ker
 use Rattle.kera_reducer.specs.Reduction.{Numbering}
-use Rattle.kera_reducer.specs.inner.Builds.{Builds}
+use Rattle.kera_reducer.specs.Builds.{Builds}
 
 -- a literal text that passes
 abbrev pub is_text_op : (List ℕ → Bool) → Op → Bool

@@ -11,7 +11,7 @@ use Rattle.kernel_trees.specs.Assignments.{reads_at}
 use Rattle.kernel_trees.specs.Paths.{Marks, marks_below}
 use Rattle.kera_reducer.specs.JobPaths.{SamePaths, TypedTree, tree_names_below, tree_reads}
 use Rattle.kera_reducer.specs.Reduction.{KeepsAction, Numbering, is_wide}
-use Rattle.kera_reducer.specs.inner.Builds.{Builds}
+use Rattle.kera_reducer.specs.Builds.{Builds}
 
 -- what is built in an action position has the effect of its expression there
 abbrev pub KeepsActions : Width → Assignable → Numbering → Expr → Ker → Type 0

@@ -19,7 +19,7 @@ use Rattle.kernel_shapes.specs.Laws.{IsNormal}
 abbrev pub Numbering : Type 0
 Numbering = List (List ℕ × ℕ)
 
--- each name has the value of its number
+-- each name has the value of its number, and a name without a number is unbound
 abbrev pub Tied : Numbering → Scope → Scope → Type 0
 Tied ρ a b =
     (x : List ℕ) → find_last x a.bound ≡ option_and_then (λ n. find_last (number_name n) b.bound) (find_last x ρ)

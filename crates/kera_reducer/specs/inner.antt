@@ -1,4 +1,2 @@
-pub mod Rows
-pub mod Builds
 pub mod SameWays
 pub mod Steps

@@ -6,6 +6,7 @@ mod theorems;
 
 pub use path_theorems::{
     built_actions_keep_their_effect, built_actions_keep_their_paths,
-    built_jobs_keep_outcomes_and_paths, built_trees_keep_places_and_names,
+    built_jobs_keep_outcomes_and_paths, built_jobs_keep_places_and_texts,
+    built_trees_keep_places_and_names,
 };
 pub use theorems::what_is_built_keeps_its_outcomes;

@@ -1,4 +1,5 @@
-// Laws of what the reduction keeps: of an action, of places, and of a job, each as the contract of a function that does nothing.
+// Laws of what the reduction keeps: of an action, of places, and of a job, each as the contract of a function that does
+// nothing.
 ghost use Rattle.std.specs.Prelude.{List, Option, ℕ};
 ghost use Rattle.tla_meaning.specs.Numbers.{Width};
 ghost use Rattle.tla_meaning.specs.declared.actions.Assignable.{Assignable};

@@ -11,8 +11,8 @@ use Rattle.kernel_trees.specs.declared.kernel.KerOp.TheVariants as ker
 use Rattle.kernel_trees.specs.Paths.{Step, Holds, Branch, Choice, sets}
 use Rattle.kera_reducer.specs.JobPaths.{JobStep, Operand, Guarded, Chosen, Unmatched, TypedTree, job_sets}
 use Rattle.kera_reducer.specs.Reduction.{Numbering}
-use Rattle.kera_reducer.specs.inner.Rows.{node, negation, twice_negated, guard_of}
-use Rattle.kera_reducer.specs.inner.Builds.{Builds, BuildsEach}
+use Rattle.kera_reducer.specs.Rows.{node, negation, twice_negated, guard_of}
+use Rattle.kera_reducer.specs.Builds.{Builds, BuildsEach}
 
 abbrev pub is_note : Op → Bool
 is_note (op.Noted x) = true
@@ -21,7 +21,8 @@ is_note o = false
 abbrev pub trees : List TypedTree → List Expr
 trees ts = map (λ t. t.tree) ts
 
--- a guard of an IF may be negated twice; one of a CASE is, or once where it is to be FALSE
+-- a guard of an IF may be negated twice. A guard of a CASE is negated twice where it is to be TRUE, and once where it is
+-- to be FALSE.
 pub data SameStep : JobStep → Step → Type 0 where
   same_operand : (i : Option Assignable) (ρ : Numbering) (t : TypedTree) (k : Ker)
       → is_note (out-Expr t.tree).op ≡ false → Builds i ρ t.tree k

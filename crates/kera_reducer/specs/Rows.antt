@@ -1,5 +1,6 @@
--- The kernel trees for operators that the kernel lacks, each by those of the operands. A node that is made stands at
--- the place of the operator; one that only reads an operand that is evaluated already stands at the operand's.
+-- The kernel trees for operators that the kernel lacks, and for CASE and the guard of IF where they are split into paths:
+-- each by those of the operands. A node that is made stands at the place of the operator; one that only reads an operand
+-- that is evaluated already stands at the operand's, and so does a branch that is joined with its guards.
 use Rattle.std.specs.Prelude.{ℕ, zero, suc, Bool, true, false, not, ◌&&◌, ◌||◌, if◌then◌else◌, List, [], ◌∷◌, ◌++◌, map, flat_map, Option, Some, None, pos}
 use Rattle.std.specs.List.{list_all}
 use Rattle.tla_values.specs.Order.{Layer}
@@ -137,7 +138,8 @@ abbrev pub product : Place → Ty → Ker → ℕ → Ker
 product p a y zero = y
 product p a y (suc n) = node p a ker.Times (product p a y n ∷ y ∷ [])
 
--- y or, where both ways lead to one tree, only a test that y is a number; b is the type of truth values
+-- z, behind a comparison of x with y whose outcome does not count: it only asks that both are numbers inside the width;
+-- b is the type of truth values
 abbrev pub tested : Place → Ty → Ty → Ker → Ker → Ker → Ker
 tested p a b x y z = node p a ker.If (node p b ker.Less (x ∷ y ∷ []) ∷ z ∷ z ∷ [])
 

@@ -1,9 +1,10 @@
 -- The reduction, row by row: an expression, where its bound names have these numbers, is built as a kernel tree.
 -- Source: Konnov, Kukovec and Tran, "TLA+ Model Checking Made Symbolic", OOPSLA 2019, on the reduction to KerA+.
 --
--- The types of the nodes are left open. A node whose operator has a row of its own has the number of children that the
--- operator asks for, and an exponent is a literal: no row speaks of other nodes. Of the operators, `Use`, `Param`,
--- `Let`, `Prime`, `Unchanged`, `Boxed` and `Angled` are gone after expansion, and `Outside` is refused before.
+-- The types of the nodes are left open. The rows that take two children apart ask for two, a literal and a bound name
+-- have none, a CASE has an arm and an EXCEPT an update, and an exponent is a literal: no row speaks of other nodes. Of
+-- the operators, `Use`, `Param`, `Let`, `Prime`, `Unchanged`, `Boxed` and `Angled` are gone after expansion, and
+-- `Outside` is refused before.
 use Rattle.std.specs.Prelude.{◌≡◌, ℕ, suc, Bool, true, false, not, ◌&&◌, nat_eq, nat_le, List, [], ◌∷◌, ◌++◌, take, drop, length, Option, Some, None, ℤ, pos}
 use Rattle.std.specs.List.{list_any}
 use Rattle.tla_values.specs.declared.value.Value.TheVariants as value
@@ -19,7 +20,7 @@ use Rattle.kernel_trees.specs.declared.kernel.KerOp.{KerOp}
 use Rattle.kernel_trees.specs.declared.kernel.KerOp.TheVariants as ker
 use Rattle.kernel_trees.specs.Trees.{op_of}
 use Rattle.kera_reducer.specs.Reduction.{Numbering, are_fresh, numbered, all_fresh, any_mentioned}
-use Rattle.kera_reducer.specs.inner.Rows.{tree, node, op_at, truth, number, bound, negation, Let, implication, equivalence, single, item_by_let, small_power, large_power, Level, Change, changed, indexes, level_numbers, all_plain, except_by_let, nested_ifs, split_case, guard_of}
+use Rattle.kera_reducer.specs.Rows.{tree, node, op_at, truth, number, bound, negation, Let, implication, equivalence, single, item_by_let, small_power, large_power, Level, Change, changed, indexes, level_numbers, all_plain, except_by_let, nested_ifs, split_case, guard_of}
 
 -- an operator of the kernel that takes the children of the one for which it stands as they are
 abbrev pub is_same : KerOp → Bool
@@ -47,8 +48,8 @@ is_binder ker.Some = true
 is_binder ker.Every = true
 is_binder o = false
 
--- an operator whose children stand in an action position where its node does; IF and CASE only where one of their
--- children holds a name that may be assigned
+-- an operator some of whose children stand in an action position where its node does: all operands, the body of `\E`,
+-- the branches of IF and CASE; of IF and CASE only where a child holds a name that may be assigned
 abbrev pub passes_on : Assignable → Op → List Expr → Bool
 passes_on m op.And es = true
 passes_on m op.Or es = true
@@ -67,7 +68,7 @@ has_arm ks = false
 abbrev pub is_let : Let → Bool
 is_let l = not (nat_eq l.unread l.named)
 
--- and so does that of what is named from those of the paths of an EXCEPT, and no bound name has one of them
+-- the number of what is named differs also from those of the paths of an EXCEPT, and no bound name has any of these
 abbrev pub is_except_let : Let → List ℕ → Numbering → Bool
 is_except_let l ns ρ = (is_let l && are_fresh (l.unread ∷ l.named ∷ ns) ρ) && not (list_any (nat_eq l.named) ns)
 
