@@ -45,3 +45,7 @@ pub mod BuildExamples
 pub mod SoundMade
 pub mod SoundChanges
 pub mod SoundExcepts
+pub mod Listing
+pub mod Places
+pub mod Once
+pub mod ReducerExamples

@@ -1,4 +1,6 @@
 -- The definitions of the crate.
+pub mod Infinite
+pub mod Literals
 pub mod Reduction
 pub mod Rows
 pub mod Builds
