@@ -69,11 +69,11 @@ module _ (x y : List ℕ) (es : List (List ℕ)) where
   unfolding others
   added_others true e =
       ap (λ fs. y ∷ fs) (other_end (list_any (same_text x) es)
-        ∙ nothing_more (list_any (same_text x) es) (others y es) (others y (x ∷ [])) (left_out true (same_itself y x (sym (same_is x y e)))))
+      ∙ nothing_more (list_any (same_text x) es) (others y es) (others y (x ∷ [])) (left_out true (same_itself y x (sym (same_is x y e)))))
       ∙ ap (λ c. if c || list_any (same_text x) (others y es) then y ∷ others y es else (y ∷ others y es) ++ x ∷ []) (sym e)
   added_others false e =
       ap (λ fs. y ∷ fs) (other_end (list_any (same_text x) es)
-        ∙ ap (λ gs. if list_any (same_text x) es then others y es else others y es ++ gs) (left_out false (turned x y e)))
+      ∙ ap (λ gs. if list_any (same_text x) es then others y es else others y es ++ gs) (left_out false (turned x y e)))
       ∙ into (list_any (same_text x) es) (others y es)
       ∙ ap (λ b. if b then y ∷ others y es else (y ∷ others y es) ++ x ∷ []) (sym (among_others x y e es))
       ∙ ap (λ c. if c || list_any (same_text x) (others y es) then y ∷ others y es else (y ∷ others y es) ++ x ∷ []) (sym e)
@@ -151,7 +151,7 @@ module _ {R S : Type 0} (f : R → List ℕ) (g : S → List ℕ) where
         by : (b : Bool) → list_any test ks ≡ b → not b ≡ true → (map f ks' ≡ once ++ g s ∷ []) × (once ++ g s ∷ [] ≡ each_once (map g (take (i + 1) ss)))
         by false a n = (
           ap (map f) (keys ∙ ap (λ b. if b then ks else ks ++ k ∷ []) a) ∙ keys_end ks k ∙ ap (λ xs. xs ++ f k ∷ []) is
-            ∙ ap (λ x. once ++ x ∷ []) read,
+              ∙ ap (λ x. once ++ x ∷ []) read,
           whole false a,
         )
         by true a n = absurd (true≢false (sym n))

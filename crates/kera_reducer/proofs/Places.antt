@@ -96,7 +96,7 @@ so_far_end e b es a =
     let here = infinite_here o (out-Expr e).place b in
     ap (λ ks. here ++ infinite_below o 0 b ks) (map_end es a)
     ∙ ap (λ qs. here ++ qs) (below_end o b 0 (map infinite_in es) (infinite_in a)
-      ∙ ap (λ i. infinite_below o 0 b (map infinite_in es) ++ infinite_in a (form_child o i b)) (let l = length_map es in omega (arith, l)))
+    ∙ ap (λ i. infinite_below o 0 b (map infinite_in es) ++ infinite_in a (form_child o i b)) (let l = length_map es in omega (arith, l)))
     ∙ sym (append_assoc here (infinite_below o 0 b (map infinite_in es)) (infinite_in a (form_child o (length es) b)))
 
 pub step : (ps : List Place) (e : Expr) (b c : Bool) (es : List Expr) (i : ℕ) (a : Expr) (w : Option Place) → i < length es → a ≡ get_or es i a →
@@ -107,9 +107,9 @@ step ps e b c es i a w lt g f h =
     least_same ((ps ++ so_far e b (take i es)) ++ infinite_in a c) (ps ++ so_far e b (take (i + 1) es)) w
     (append_assoc ps (so_far e b (take i es)) (infinite_in a c)
     ∙ ap (λ qs. ps ++ qs)
-      (ap (λ c. so_far e b (take i es) ++ infinite_in a c) (f ∙ ap (λ i. form_child (out-Expr e).op i b) (sym l))
-      ∙ sym (so_far_end e b (take i es) a)
-      ∙ ap (so_far e b) (sym (take_more es i a lt g))))
+    (ap (λ c. so_far e b (take i es) ++ infinite_in a c) (f ∙ ap (λ i. form_child (out-Expr e).op i b) (sym l))
+    ∙ sym (so_far_end e b (take i es) a)
+    ∙ ap (so_far e b) (sym (take_more es i a lt g))))
     h
 
 pub all : (ps : List Place) (e : Expr) (b : Bool) (es : List Expr) (i : ℕ) (w : Option Place) → es ≡ (out-Expr e).args → length es ≤ i →
@@ -135,8 +135,8 @@ named_more ps vs i v w lt g h =
     least_same ((ps ++ all_infinite (map (λ v. v.1) (take i vs))) ++ infinite_in v.1 false) (ps ++ all_infinite (map (λ v. v.1) (take (i + 1) vs))) w
     (append_assoc ps (all_infinite (map (λ v. v.1) (take i vs))) (infinite_in v.1 false)
     ∙ ap (λ qs. ps ++ qs)
-      (sym (all_end (map (λ v. v.1) (take i vs)) v.1)
-      ∙ ap all_infinite (sym (named_end (take i vs) v) ∙ ap (map (λ v. v.1)) (sym (take_more vs i v lt g)))))
+    (sym (all_end (map (λ v. v.1) (take i vs)) v.1)
+    ∙ ap all_infinite (sym (named_end (take i vs) v) ∙ ap (map (λ v. v.1)) (sym (take_more vs i v lt g)))))
     h
 
 pub named_all : (ps : List Place) (vs : List (List ℕ × Expr)) (i : ℕ) (w : Option Place) → length vs ≤ i →
@@ -154,7 +154,7 @@ five a b c d r = append_assoc ((a ++ b) ++ c) d r ∙ append_assoc (a ++ b) c (d
 
 pub of_job : (job : Job) (vs : List (List ℕ × Expr)) (w : Option Place) → vs ≡ job.invs →
     IsLeast ((((([] ++ infinite_in job.cinit false) ++ infinite_in job.assume false) ++ infinite_in job.init false)
-      ++ infinite_in job.next false) ++ all_infinite (map (λ v. v.1) vs)) w → IsLeastIfAny job w
+    ++ infinite_in job.next false) ++ all_infinite (map (λ v. v.1) vs)) w → IsLeastIfAny job w
 of_job job vs w e h =
     let a : List Place = infinite_in job.cinit false in
     let b : List Place = infinite_in job.assume false in
