@@ -2,3 +2,4 @@ pub mod Rows
 pub mod Builds
 pub mod SameWays
 pub mod Steps
+pub mod Fitting
