@@ -1,15 +1,14 @@
 -- Right sides that go on along the path of an EXCEPT: a tree has none, nor has what is built of it.
-use Rattle.std.proofs.Common.{◌≡◌, ℕ, zero, suc, Bool, true, false, not, ◌&&◌, ◌||◌, List, [], ◌∷◌, map, take, drop, refl, sym, ◌∙◌, ap, ap₂, subst}
+use Rattle.std.proofs.Common.{◌≡◌, ℕ, zero, suc, Bool, true, false, not, ◌&&◌, ◌||◌, List, [], ◌∷◌, map, take, drop, refl, sym, ◌∙◌, ap, subst}
 use Rattle.std.specs.List.{list_all}
-use Rattle.tla_meaning.specs.declared.expr.Expr.{Expr, roll-Expr, out-Expr, roll-out-Expr, out-roll-Expr}
+use Rattle.tla_meaning.specs.declared.expr.Expr.{Expr, out-Expr, roll-out-Expr}
 use Rattle.tla_meaning.specs.declared.expr.Expr.TheOpen.{Expr-F}
 use Rattle.tla_meaning.specs.declared.op.Op.{Op}
 use Rattle.tla_meaning.specs.declared.op.Op.TheVariants as op
 use Rattle.tla_meaning.specs.declared.place.Place.{Place}
-use Rattle.tla_meaning.specs.Scopes.{same_text}
 use Rattle.tla_meaning.specs.Symbols.{same_place}
 use Rattle.tla_meaning.proofs.Views.{and_left, and_right, false≢true}
-use Rattle.kernel_shapes.specs.Trees.{is_bound_name, is_except, begins_with_name, is_part, recur}
+use Rattle.kernel_shapes.specs.Trees.{is_bound_name, is_except, begins_with_name, is_part}
 use Rattle.kera_reducer.specs.JobPaths.{below_notes, below_of}
 use Rattle.kera_reducer.specs.SizeLaws.{apart_at, begins_below, goes_on, is_apart}
 use Rattle.kera_reducer.proofs.Gists.{NoParts}

@@ -1,8 +1,8 @@
 -- The gist of a typed tree's node and of a kernel node, by those of its children.
-use Rattle.std.proofs.Common.{◌≡◌, ℕ, zero, suc, ◌+◌, Bool, true, false, List, [], ◌∷◌, ◌++◌, map, take, drop, length, Option, Some, None, pos, refl, sym, ◌∙◌, ap, ap₂, subst}
+use Rattle.std.proofs.Common.{◌≡◌, ℕ, zero, suc, ◌+◌, Bool, true, false, List, [], ◌∷◌, ◌++◌, map, take, drop, length, Option, None, pos, refl, sym, ◌∙◌, ap, ap₂}
 use Rattle.std.specs.Prelude.{sum}
 use Rattle.std.proofs.lemmas.List.Sums.{sum-map, sum_by-cons}
-use Rattle.tla_meaning.specs.declared.expr.Expr.{Expr, roll-Expr, out-Expr, roll-out-Expr}
+use Rattle.tla_meaning.specs.declared.expr.Expr.{Expr, roll-Expr}
 use Rattle.tla_meaning.specs.declared.expr.Expr.TheOpen.{Expr-F}
 use Rattle.tla_meaning.specs.declared.op.Op.{Op}
 use Rattle.tla_meaning.specs.declared.op.Op.TheVariants as op
@@ -13,15 +13,15 @@ use Rattle.kernel_trees.specs.declared.kernel.Ker.{Ker, roll-Ker}
 use Rattle.kernel_trees.specs.declared.kernel.Ker.TheOpen.{Ker-F}
 use Rattle.kernel_trees.specs.declared.kernel.KerOp.{KerOp}
 use Rattle.kernel_trees.specs.declared.kernel.KerOp.TheVariants as ker
-use Rattle.kernel_trees.specs.Trees.{op_of, names_of, literal}
+use Rattle.kernel_trees.specs.Trees.{op_of, names_of}
 use Rattle.kernel_trees.specs.TypeKinds as kind
 use Rattle.kernel_trees.specs.TypeKinds.{Kind, kind_of}
 use Rattle.kernel_shapes.specs.Shape.{Shape, interval}
 use Rattle.kernel_shapes.specs.Rows.{Literal, number}
-use Rattle.kernel_shapes.specs.Sized.{Extent, Sized, Sizing, Family, seen, outside, underneath, bind_shapes, excepts}
+use Rattle.kernel_shapes.specs.Sized.{Extent, Sizing, seen, outside, underneath, bind_shapes}
 use Rattle.kernel_shapes.specs.Trees.{SizedTree, family_of, family_with, read_shape, marks_of, sized_node, sizings, kinds_of, first_kind, tree_sized, tree_sizes, is_except}
 use Rattle.kernel_shapes.specs.Kernel.{kind_or_truth, ker_sized}
-use Rattle.kernel_shapes.proofs.KernelNodes.{ker_parts, first_kinds, literal_sizing, operand_sizings, node_sizing, ker_sized-roll}
+use Rattle.kernel_shapes.proofs.KernelNodes.{ker_parts, first_kinds, literal_sizing, operand_sizings, ker_sized-roll}
 use Rattle.kernel_shapes.proofs.TreeLemmas.{parts_of, tree-roll, size-roll}
 use Rattle.kera_reducer.specs.JobPaths.{nodes}
 use Rattle.kera_reducer.proofs.JobTrees.{Each, by_nodes, nodes-roll}

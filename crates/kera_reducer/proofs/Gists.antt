@@ -1,16 +1,11 @@
 -- What of a sized tree a refusal depends on: its shape, the literal that it is, and which of its numbers is refused first.
-use Rattle.std.proofs.Common.{◌≡◌, ℕ, zero, suc, Bool, true, false, List, [], ◌∷◌, ◌++◌, map, take, drop, Option, Some, None, refl, sym, ◌∙◌, ap, ap₂, if◌then◌else◌}
+use Rattle.std.proofs.Common.{◌≡◌, ℕ, zero, suc, Bool, true, false, List, [], ◌∷◌, ◌++◌, map, take, drop, Option, None, refl, sym, ◌∙◌, ap, ap₂, if◌then◌else◌}
 use Rattle.tla_meaning.specs.declared.place.Place.{Place}
-use Rattle.tla_meaning.specs.declared.op.Op.{Op}
-use Rattle.tla_meaning.specs.Meaning.{role}
-use Rattle.kernel_trees.specs.TypeKinds.{Kind}
-use Rattle.kernel_shapes.specs.Shape.{Shape, Empty, count, inside}
-use Rattle.kernel_shapes.specs.Rows.{Literal, no_literal, Row, row_shape, nth, insides, shape_at, joined_at, reached_by, the_subsets, the_functions}
+use Rattle.kernel_shapes.specs.Shape.{Shape, count, inside}
+use Rattle.kernel_shapes.specs.Rows.{Literal, no_literal, row_shape, nth, insides, shape_at, joined_at, reached_by, the_subsets, the_functions}
 use Rattle.kernel_shapes.specs.Counts.{Count, Rank, count_at, either_rank, first_rank}
-use Rattle.kernel_shapes.specs.Sized.{Extent, Sized, Sizing, Seen, Position, walked, as_form, assigned_from, picked_from, no_size, shapes_of, literals_of, counts_of, child_at, index_of, body, excepted, excepted_counts, right_counts, step, step_counts, Family, reads, plain, binder, membership, subset_set, function_set, product_set, infinite, noted, excepts, folds, family_shape, family_literal, within, has_number, own_count, operand, sized, seen, outside, underneath, bind_shapes, found}
-use Rattle.kernel_shapes.specs.Trees.{family_with, read_shape, marks_of, sized_node}
+use Rattle.kernel_shapes.specs.Sized.{Sized, Seen, Position, walked, as_form, assigned_from, picked_from, no_size, shapes_of, literals_of, counts_of, child_at, body, excepted, excepted_counts, right_counts, step, step_counts, Family, reads, plain, binder, membership, subset_set, function_set, product_set, infinite, noted, excepts, folds, family_shape, family_literal, within, has_number, own_count, operand, sized}
 use Rattle.kernel_shapes.proofs.Refusals.{rank_append}
-use Rattle.kera_reducer.proofs.Ranks.{either_none}
 
 pub record Gist : Type 0 where
   pub shape : Shape
@@ -262,7 +257,7 @@ except_gist (n ∷ ns) ps ks under a h =
     let right : Sized = child_at n (under (shape_at a path ∷ [])) in
     let rest : List Count = excepted_counts ns (drop (suc n) ps) (drop (suc n) ks) (λ bs. drop (suc n) (under bs)) (joined_at path right.shape a) in
     let r : List Gist → List Literal → Gist → Option Rank = λ front l b.
-        either_rank (ranks walked front) (either_rank (b.rank walked) (except_rank ns (drop (suc n) (gists ks)) (λ bs. drop (suc n) (gists (under bs))) (joined_at l b.shape a))) in
+    either_rank (ranks walked front) (either_rank (b.rank walked) (except_rank ns (drop (suc n) (gists ks)) (λ bs. drop (suc n) (gists (under bs))) (joined_at l b.shape a))) in
     (λ i. r (take_gists n ks i) (map (λ (b : Gist). b.literal) (take_gists n ks i)) (gist_at n (gists (under (shape_at a (map (λ (b : Gist). b.literal) (take_gists n ks i)) ∷ [])))))
     ∙ (λ i. r (gists (take n ks)) (gist_literals (take n ks) i) (gist_at n (gists (under (shape_at a (gist_literals (take n ks) i) ∷ [])))))
     ∙ (λ i. r (gists (take n ks)) path (gist_child n (under (shape_at a path ∷ [])) i))

@@ -1,19 +1,18 @@
 -- Shapes and numbers of small jobs' own trees, by computing: at 32 bits.
-use Rattle.std.proofs.Common.{◌≡◌, ℕ, Bool, true, false, List, [], ◌∷◌, map, pos, Option, Some, None, ap}
+use Rattle.std.proofs.Common.{◌≡◌, ℕ, true, false, List, [], ◌∷◌, pos, Some, None, ap}
 use Rattle.tla_meaning.specs.declared.expr.Expr.{Expr, roll-Expr, out-roll-Expr}
 use Rattle.tla_meaning.specs.declared.op.Op.{Op}
 use Rattle.tla_meaning.specs.declared.op.Op.TheVariants as op
 use Rattle.tla_meaning.specs.declared.place.Place.{Place}
 use Rattle.kernel_trees.specs.Paths.{Marks}
-use Rattle.kernel_trees.specs.TypeKinds.{Kind}
-use Rattle.kernel_shapes.specs.Shape.{Shape, Num, Set, Fun, Rec, Empty, shapes}
+use Rattle.kernel_shapes.specs.Shape.{Num, Set, Fun, Rec, Empty, shapes}
 use Rattle.kernel_shapes.specs.Counts.{Count, refusal}
 use Rattle.kernel_shapes.specs.Levels.{Path, Parts, Guard, Equals, Among, level_numbers, refused}
 use Rattle.kernel_shapes.specs.Sized.{Extent, Sizing, no_size, walked, picked_from}
 use Rattle.kernel_shapes.proofs.TreeLemmas.{size-roll, shape-roll, counts-roll, literal-roll}
 use Rattle.kera_reducer.specs.JobParts.{sized_job_paths, typed_sized}
 use Rattle.kera_reducer.specs.JobPaths.{TypedTree}
-use Rattle.kera_reducer.proofs.JobTrees.{has_name-roll, below-roll, nodes-roll, job_ways-roll}
+use Rattle.kera_reducer.proofs.JobTrees.{below-roll, nodes-roll, job_ways-roll}
 
 abbrev at : ℕ → Place
 at n = record { file = 0; line = 1; col = n }
@@ -118,7 +117,9 @@ too_many = ap refusal numbers_there
 -- x \in 100000..5: 1..x^1 is walked for no member, and its number is that of the upper end, 5
 abbrev upside_down : Expr
 upside_down = roll-Expr (record {
-  place = at 1; op = op.Forall; binds = name_x ∷ [];
+  place = at 1;
+  op = op.Forall;
+  binds = name_x ∷ [];
   args = tree 2 op.Range (number 2 100000 ∷ number 3 5 ∷ []) ∷ tree 6 op.Eq (tree 5 op.Range (number 4 1 ∷ tree 7 op.Pow (tree 7 (op.Bound name_x) [] ∷ number 8 1 ∷ []) ∷ []) ∷ empty 9 ∷ []) ∷ [];
 })
 
@@ -128,7 +129,9 @@ not_refused = simp (size-roll, shape-roll, counts-roll, literal-roll)
 -- [x EXCEPT !.a[1] = 5] of a record with a function of 70000 arguments has no number along its path
 abbrev along_a_path : Expr
 along_a_path = roll-Expr (record {
-  place = at 14; op = op.Except (2 ∷ []); binds = old ∷ [];
+  place = at 14;
+  op = op.Except (2 ∷ []);
+  binds = old ∷ [];
   args = now 15 ∷ tree 50 (op.Str name_a) [] ∷ number 51 1 ∷ number 52 5 ∷ [];
 })
 

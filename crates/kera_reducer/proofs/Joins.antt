@@ -1,18 +1,18 @@
 -- Joins of shapes, and the number of a join.
-use Rattle.std.proofs.Common.{◌≡◌, ℕ, zero, suc, ◌-◌, ◌≤◌, ◌<◌, min, max, Bool, true, false, List, [], ◌∷◌, Option, Some, None, ℤ, pos, neg_ℤ, ◌-ℤ◌, ◌≤ℤ◌, refl, sym, ◌∙◌, ap, ap₂, subst, arith, if◌then◌else◌}
+use Rattle.std.proofs.Common.{◌≡◌, ℕ, ◌-◌, ◌≤◌, ◌<◌, min, max, Bool, true, false, List, [], ◌∷◌, Option, Some, None, ℤ, pos, neg_ℤ, ◌-ℤ◌, refl, sym, ◌∙◌, ap, ap₂, arith, if◌then◌else◌}
 use Rattle.std.proofs.lemmas.Int.{ints, clamps}
 use Rattle.std.specs.Int.{int_max, int_min}
 use Rattle.std.specs.Prelude.{nat_lt, ◌^◌}
 use Rattle.std.proofs.Math.Nat.{pow-le-pow_right}
 use Rattle.std.specs.declared.cmp.Ordering.{Ordering}
-use Rattle.std.specs.declared.cmp.Ordering.TheVariants.{Less, Equal, Greater}
+use Rattle.std.specs.declared.cmp.Ordering.TheVariants.{Less, Equal}
 use Rattle.std.specs.Ordering.{nat_cmp, is_lt}
 use Rattle.std.specs.Cmp.{nat_cmp_is}
 use Rattle.std.specs.Cmp.Lexicographic.{slice_cmp}
 use Rattle.tla_meaning.specs.declared.place.Place.{Place}
 use Rattle.tla_meaning.proofs.Views.{false≢true}
 use Rattle.kernel_shapes.specs.Shape.{Shape, Atom, Num, Set, Fun, Rec, Tup, Seq, Empty, Shapes, no_shapes, more_shapes, join, join_items, alike, over_both, over_ends, interval, moved, hull_of}
-use Rattle.kernel_shapes.specs.Counts.{Count, Rank, most_printed, most_members, most_places, passes_limit, rank, first_of_two, either_rank, rank_of_one, first_rank, count_at}
+use Rattle.kernel_shapes.specs.Counts.{Count, Rank, most_printed, most_members, most_places, passes_limit, rank, first_of_two, either_rank, rank_of_one}
 use Rattle.kernel_shapes.proofs.Refusals.{either_same}
 use Rattle.kera_reducer.proofs.Ranks.{either_none}
 use Rattle.kera_reducer.proofs.Gists.{own}

@@ -58,5 +58,6 @@ pub mod PartRoots
 pub mod JoinsAlong
 pub mod SizePaths
 pub mod SizeExcepts
+pub mod SizeExceptLets
 pub mod SizesKept
 pub mod JobPartExamples

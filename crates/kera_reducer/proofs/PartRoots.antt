@@ -1,5 +1,5 @@
 -- A right side of an EXCEPT that does not go on along the path is built as none that does.
-use Rattle.std.proofs.Common.{◌≡◌, ℕ, zero, suc, Bool, true, false, not, ◌&&◌, ◌||◌, List, [], ◌∷◌, ◌++◌, map, take, drop, refl, sym, ◌∙◌, ap, ap₂, subst, Option, Some, None, if◌then◌else◌}
+use Rattle.std.proofs.Common.{◌≡◌, ℕ, Bool, true, false, not, ◌&&◌, List, [], ◌∷◌, ◌++◌, map, refl, sym, ◌∙◌, ap, ap₂, Option, Some, None, if◌then◌else◌}
 use Rattle.std.specs.List.{list_any}
 use Rattle.std.specs.Prelude.{nat_eq}
 use Rattle.tla_values.specs.Order.{Layer}
@@ -114,7 +114,7 @@ update_part : (q : Place) (x : List ℕ) (p : Place) (a : Ty) (f : Ker) (ks : Li
 update_part q x p a f ks xs h =
     let y : Ker-F Ker = record { place = p; ty = a; op = ker.Update; args = f ∷ ks; binds = xs } in
     let r : (same_place q p && is_bound_name x (out-Expr (as_expr f)).op) ≡ true =
-        sym (ap (λ (z : Expr-F Expr). is_except z.op && (same_place q z.place && begins_with_name x z.args)) (as_out y)) ∙ h in
+    sym (ap (λ (z : Expr-F Expr). is_except z.op && (same_place q z.place && begins_with_name x z.args)) (as_out y)) ∙ h in
     (and_left (same_place q p) (is_bound_name x (out-Expr (as_expr f)).op) r, and_right (same_place q p) (is_bound_name x (out-Expr (as_expr f)).op) r)
 
 levels_there : {ρ : Numbering} {x : List ℕ} {n : ℕ} {es : List Expr} {ls : List Level} {k : Ker} → BuildsPath ρ x n es ls k → is_nil ls ≡ false

@@ -1,6 +1,5 @@
 -- Nodes with bound names, and folds, keep shape, literal and refusal.
-use Rattle.std.proofs.Common.{◌≡◌, ℕ, zero, suc, ◌≤◌, Bool, true, false, ◌&&◌, List, [], ◌∷◌, ◌++◌, map, take, drop, length, replicate, Option, Some, None, refl, sym, ◌∙◌, ap, ap₂, subst, arith}
-use Rattle.tla_meaning.specs.declared.op.Op.{Op}
+use Rattle.std.proofs.Common.{◌≡◌, ℕ, zero, suc, Bool, true, false, ◌&&◌, List, [], ◌∷◌, ◌++◌, map, take, drop, length, replicate, Option, None, refl, sym, ◌∙◌, ap, ap₂, subst}
 use Rattle.tla_meaning.specs.declared.op.Op.TheVariants as op
 use Rattle.tla_meaning.specs.declared.place.Place.{Place}
 use Rattle.tla_meaning.proofs.Views.{and_left, and_right, false≢true}
@@ -11,22 +10,21 @@ use Rattle.kernel_trees.specs.declared.kernel.KerOp.{KerOp}
 use Rattle.kernel_trees.specs.declared.kernel.KerOp.TheVariants as ker
 use Rattle.kernel_trees.specs.Trees.{op_of, names_of}
 use Rattle.kernel_trees.specs.TypeKinds.{Kind}
-use Rattle.kernel_shapes.specs.Shape.{Shape, Empty, count, inside, join, alike}
-use Rattle.kernel_shapes.specs.Rows.{Literal, no_literal, Row, row_shape, a_truth, a_part, a_map, a_function, insides, reached_by, nth}
+use Rattle.kernel_shapes.specs.Shape.{Shape, count, inside, join, alike}
+use Rattle.kernel_shapes.specs.Rows.{no_literal, Row, row_shape, a_truth, a_part, a_map, a_function, insides, reached_by}
 use Rattle.kernel_shapes.specs.Counts.{Rank, either_rank}
-use Rattle.kernel_shapes.specs.Sized.{Extent, Sized, Sizing, Seen, Position, walked, no_size, Family, binder, folds, seen, outside, underneath, shapes_of, child_at, body, all_sound, has_one_name, is_sequence, step, steps_sound, bind_shapes, family_sound}
-use Rattle.kernel_shapes.specs.Trees.{read_shape}
+use Rattle.kernel_shapes.specs.Sized.{Extent, Sized, Sizing, Seen, walked, binder, folds, seen, outside, underneath, shapes_of, child_at, body, all_sound, has_one_name, is_sequence, step, steps_sound, bind_shapes, family_sound}
 use Rattle.kernel_shapes.specs.Kernel.{ker_sized}
 use Rattle.kernel_shapes.proofs.KernelNodes.{ker_parts, first_kinds, node_sizing, ker_sized-roll}
 use Rattle.kera_reducer.specs.Reduction.{Numbering, all_fresh, numbered}
 use Rattle.kera_reducer.specs.SizeLaws.{TiedShapes}
 use Rattle.kera_reducer.specs.inner.Builds.{is_binder}
-use Rattle.kera_reducer.specs.inner.Fitting.{the_kind, IsSequenceType, IsTupleType, LetTypes}
+use Rattle.kera_reducer.specs.inner.Fitting.{the_kind}
 use Rattle.kera_reducer.specs.inner.Rows.{tree}
-use Rattle.kera_reducer.proofs.Gists.{Gist, gist, gists, bares, bare, bare_shapes, gist_at, gist_child, no_gist, ranks, own, View, node_gist, body_of, step_of, steps_rank}
+use Rattle.kera_reducer.proofs.Gists.{Gist, gist, bares, bare, bare_shapes, gist_at, no_gist, ranks, own, View, node_gist, step_of, steps_rank}
 use Rattle.kera_reducer.proofs.GistNodes.{Gists, gist_outside, gist_under, view_at, node_at, operand_gists, ker_gist, ker_gists, ker_node, whole, Whole}
 use Rattle.kera_reducer.proofs.ShapeTies.{tied_under}
-use Rattle.kera_reducer.proofs.SizeFrame.{KeepsGist, KeepsGists, IsSound, AllSound, all_here, kers_here, same_here, of_here, outside_sound}
+use Rattle.kera_reducer.proofs.SizeFrame.{KeepsGist, KeepsGists, IsSound, AllSound, all_here, kers_here, same_here, outside_sound}
 
 abbrev pub binding : Place → Ty → KerOp → List Ker → List ℕ → Ker-F Ker
 binding p a ko ks ns = record { place = p; ty = a; op = ko; args = ks; binds = ns }
@@ -146,9 +144,6 @@ abbrev pub FirstSound : ℕ → List Ker → Extent → Type 0
 FirstSound w [] h = Unit {0}
 FirstSound w (k ∷ ks) h = IsSound w k h
 
-sizings_of : ℕ → List Ker → List Sizing
-sizings_of w ks = map (ker_sized w) ks
-
 front_sound : (w n : ℕ) (ks : List Ker) (h : Extent) → all_sound (take n (outside (marks_behind n) (map (ker_sized w) ks) h)) ≡ true → AllSound w (take n ks) h
 front_sound w zero ks h s = tt
 front_sound w (suc n) [] h s = tt
@@ -176,9 +171,10 @@ binder_sound w n r xs ks bs h e s =
     let t = and_right (has_one_name r n (length v.here)) both s in
     let front = front_sound w n (ks ++ bs) h (and_left (all_sound (take n v.here)) (body n v).sound t) in
     let shapes : shapes_of (take n v.here) ≡ gist_shapes (kers_here w ks h) = front_shapes w n (ks ++ bs) h ∙ ap (λ (l : List Ker). gist_shapes (kers_here w l h)) e.0 in
-    let inner = body_sound w n (ks ++ bs) (bind_shapes xs (insides (shapes_of (take n v.here))) h) (and_right (all_sound (take n v.here)) (body n v).sound t) in
-    (subst (λ (l : List Ker). AllSound w l h) e.0 front,
-    subst (λ (as' : List Shape). FirstSound w bs (bind_shapes xs (insides as') h)) shapes (subst (λ (l : List Ker). FirstSound w l (bind_shapes xs (insides (shapes_of (take n v.here))) h)) e.1 inner))
+    let inner = body_sound w n (ks ++ bs) (bind_shapes xs (insides (shapes_of (take n v.here))) h) (and_right (all_sound (take n v.here)) (body n v).sound t) in (
+      subst (λ (l : List Ker). AllSound w l h) e.0 front,
+      subst (λ (as' : List Shape). FirstSound w bs (bind_shapes xs (insides as') h)) shapes (subst (λ (l : List Ker). FirstSound w l (bind_shapes xs (insides (shapes_of (take n v.here))) h)) e.1 inner),
+    )
 
 pub same_first : (w : ℕ) (ρ : Numbering) (zs : Gists) (ks : List Ker) → KeepsGists w ρ zs ks → (g h : Extent) → TiedShapes ρ g h → FirstSound w ks h →
     first_gist zs g ≡ first_gist (ker_gists w ks) h
@@ -323,9 +319,10 @@ module _ (w : ℕ) (ρ : Numbering) (p : Place) (xs : List (List ℕ)) (ns : Lis
       let rest : Bool = steps_sound n fold_seen (step fold_seen a).shape in
       let later = and_right (alike a (reached_by n (λ b. (step fold_seen b).shape) (step fold_seen a).shape)) rest (and_right (step fold_seen a).sound _ s) in
       let e : job_step a ≡ ker_step a = one_step a here in
-      let r = same_steps n (ker_step a).shape (subst (λ (b : Shape). steps_sound n fold_seen b ≡ true) (step_shape a) later) in
-      (ap (λ (b : Gist). join a (reached_by n (λ b. (job_step b).shape) b.shape)) e ∙ ap (join a) r.0,
-      ap (λ (b : Gist). either_rank (b.rank walked) (fold_steps n job_step b.shape)) e ∙ ap (either_rank ((ker_step a).rank walked)) r.1)
+      let r = same_steps n (ker_step a).shape (subst (λ (b : Shape). steps_sound n fold_seen b ≡ true) (step_shape a) later) in (
+        ap (λ (b : Gist). join a (reached_by n (λ b. (job_step b).shape) b.shape)) e ∙ ap (join a) r.0,
+        ap (λ (b : Gist). either_rank (b.rank walked) (fold_steps n job_step b.shape)) e ∙ ap (either_rank ((ker_step a).rank walked)) r.1,
+      )
 
 -- of its own number and those within
 abbrev pub shaped : Place → Shape → Option Rank → Gist
@@ -348,8 +345,8 @@ sizes_fold w ρ p xs ps k js (z ∷ zs) ks (l ∷ []) ns a f b c g h t s =
     let all : AllSound w ks h = outside_sound w ks h (and_left (all_sound (drop 1 v.here)) (seq && rest) q) in
     let here : all_here zs g ≡ kers_here w ks h = same_here w ρ zs ks c g h t all in
     let steps : steps_sound (count (gist_at 1 (kers_here w ks h)).shape) v (gist_at 0 (kers_here w ks h)).shape ≡ true =
-        subst (λ (o : Gist). steps_sound (count o.shape) v (gist_at 0 (kers_here w ks h)).shape ≡ true) (nth_here w 1 ks h)
-        (subst (λ (o : Gist). steps_sound (count (child_at 2 v.here).shape) v o.shape ≡ true) (nth_here w 0 ks h) (and_right seq rest (and_right (all_sound (drop 1 v.here)) (seq && rest) q))) in
+    subst (λ (o : Gist). steps_sound (count o.shape) v (gist_at 0 (kers_here w ks h)).shape ≡ true) (nth_here w 1 ks h)
+    (subst (λ (o : Gist). steps_sound (count (child_at 2 v.here).shape) v o.shape ≡ true) (nth_here w 0 ks h) (and_right seq rest (and_right (all_sound (drop 1 v.here)) (seq && rest) q))) in
     let e = same_steps w ρ p xs ns f z l b.0 ks g h t (count (gist_at 1 (kers_here w ks h)).shape) (gist_at 0 (kers_here w ks h)).shape steps in
     fold_is w p xs z zs g
     ∙ ap (λ (as' : List Gist). of_fold w p (gist_at 0 as') (gist_at 1 as') (ranks walked as') (λ a. z (bind_shapes xs (a ∷ inside (gist_at 1 as').shape ∷ []) g))) here

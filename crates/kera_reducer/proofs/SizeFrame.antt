@@ -1,32 +1,27 @@
 -- What is built keeps shape, literal and refusal: the frame, and nodes of the same operator.
-use Rattle.std.proofs.Common.{◌≡◌, ℕ, Bool, true, false, ◌&&◌, List, [], ◌∷◌, map, length, Option, None, refl, sym, ◌∙◌, ap, ap₂, subst}
-use Rattle.tla_meaning.specs.declared.op.Op.{Op}
-use Rattle.tla_meaning.specs.declared.op.Op.TheVariants as op
+use Rattle.std.proofs.Common.{◌≡◌, ℕ, Bool, true, false, List, [], ◌∷◌, map, None, refl, sym, ◌∙◌, ap, ap₂}
 use Rattle.tla_meaning.specs.declared.place.Place.{Place}
-use Rattle.tla_meaning.specs.Meaning.{role}
 use Rattle.tla_meaning.proofs.Views.{and_left, and_right, false≢true}
 use Rattle.snowcat_rows.specs.declared.types.Ty.{Ty}
-use Rattle.kernel_trees.specs.declared.kernel.Ker.{Ker, roll-Ker}
+use Rattle.kernel_trees.specs.declared.kernel.Ker.{Ker}
 use Rattle.kernel_trees.specs.declared.kernel.Ker.TheOpen.{Ker-F}
 use Rattle.kernel_trees.specs.declared.kernel.KerOp.{KerOp}
 use Rattle.kernel_trees.specs.declared.kernel.KerOp.TheVariants as ker
 use Rattle.kernel_trees.specs.Trees.{op_of}
 use Rattle.kernel_trees.specs.TypeKinds as kind
 use Rattle.kernel_trees.specs.TypeKinds.{Kind, kind_of}
-use Rattle.kernel_shapes.specs.Shape.{Shape, Atom}
 use Rattle.kernel_shapes.specs.Rows.{Literal, no_literal, Row, nth}
-use Rattle.kernel_shapes.specs.Counts.{Rank, either_rank}
-use Rattle.kernel_shapes.specs.Sized.{Extent, Sized, Sizing, Seen, Position, walked, Family, reads, plain, binder, membership, subset_set, function_set, product_set, infinite, noted, excepts, folds, seen, outside, all_sound, family_sound, index_of, row_joins, shapes_of}
-use Rattle.kernel_shapes.specs.Trees.{family_with, domain_row, tuple_row, first_kind, read_shape, marks_of, is_except}
-use Rattle.kernel_shapes.specs.Kernel.{kind_or_truth, ker_sized, kinds_in}
+use Rattle.kernel_shapes.specs.Sized.{Extent, Sizing, Seen, Family, reads, plain, binder, membership, subset_set, function_set, product_set, infinite, noted, excepts, folds, seen, outside, all_sound, family_sound, index_of, row_joins, shapes_of}
+use Rattle.kernel_shapes.specs.Trees.{family_with, domain_row, tuple_row, read_shape, is_except}
+use Rattle.kernel_shapes.specs.Kernel.{ker_sized}
 use Rattle.kernel_shapes.proofs.KernelNodes.{ker_parts, first_kinds, node_sizing, ker_sized-roll}
 use Rattle.kera_reducer.specs.Reduction.{Numbering}
 use Rattle.kera_reducer.specs.SizeLaws.{TiedShapes}
 use Rattle.kera_reducer.specs.inner.Builds.{is_same}
 use Rattle.kera_reducer.specs.inner.Fitting.{the_kind}
 use Rattle.kera_reducer.specs.inner.Rows.{node}
-use Rattle.kera_reducer.proofs.Gists.{Gist, gist_at, ranks, View, node_gist}
-use Rattle.kera_reducer.proofs.GistNodes.{Gists, gist_outside, node_at, ker_gist, ker_gists, operand_gists, ker_node, whole, Whole}
+use Rattle.kera_reducer.proofs.Gists.{Gist, gist_at, node_gist}
+use Rattle.kera_reducer.proofs.GistNodes.{Gists, gist_outside, node_at, ker_gist, ker_gists, operand_gists, ker_node, whole}
 
 -- ---- what is kept
 
@@ -130,9 +125,10 @@ same_family ko f a b js ks ps qs r = refl
 
 pub outside_sound : (w : ℕ) (ks : List Ker) (h : Extent) → all_sound (outside [] (map (ker_sized w) ks) h) ≡ true → AllSound w ks h
 outside_sound w [] h s = tt
-outside_sound w (k ∷ ks) h s =
-    (and_left (ker_sized w k h).sound (all_sound (outside [] (map (ker_sized w) ks) h)) s,
-    outside_sound w ks h (and_right (ker_sized w k h).sound (all_sound (outside [] (map (ker_sized w) ks) h)) s))
+outside_sound w (k ∷ ks) h s = (
+  and_left (ker_sized w k h).sound (all_sound (outside [] (map (ker_sized w) ks) h)) s,
+  outside_sound w ks h (and_right (ker_sized w k h).sound (all_sound (outside [] (map (ker_sized w) ks) h)) s),
+)
 
 -- families whose children are all walked where the node stands
 abbrev pub IsSimple : Family → Type 0

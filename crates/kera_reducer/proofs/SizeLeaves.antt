@@ -1,37 +1,23 @@
 -- Rows that keep shape, literal and refusal: literals, names, and operators by one or two others.
-use Rattle.std.proofs.Common.{◌≡◌, ℕ, zero, suc, ◌-◌, Bool, true, false, List, [], ◌∷◌, map, length, Option, Some, None, option_and_then, ℤ, pos, neg_ℤ, ◌-ℤ◌, refl, sym, ◌∙◌, ap, ap₂, subst, arith}
-use Rattle.std.proofs.lemmas.Int.{ints}
-use Rattle.std.specs.Int.{int_max, int_min}
-use Rattle.std.specs.Prelude.{slice_get, nat_le, ◌^◌}
+use Rattle.std.proofs.Common.{◌≡◌, ℕ, Bool, List, [], Option, None, ℤ, refl, ◌∙◌, ap}
 use Rattle.tla_values.specs.Order.{Layer}
 use Rattle.tla_values.specs.declared.value.Value.{Value, out-Value}
 use Rattle.tla_values.specs.declared.value.Value.TheVariants as value
-use Rattle.tla_meaning.specs.declared.op.Op.{Op}
 use Rattle.tla_meaning.specs.declared.op.Op.TheVariants as op
 use Rattle.tla_meaning.specs.declared.place.Place.{Place}
-use Rattle.tla_meaning.specs.Scopes.{find_last}
-use Rattle.tla_meaning.proofs.Views.{false≢true}
 use Rattle.snowcat_rows.specs.declared.types.Ty.{Ty}
 use Rattle.kernel_trees.specs.declared.kernel.Ker.{Ker}
-use Rattle.kernel_trees.specs.declared.kernel.KerOp.{KerOp}
 use Rattle.kernel_trees.specs.declared.kernel.KerOp.TheVariants as ker
-use Rattle.kernel_trees.specs.Trees.{constant, number_name, op_of}
-use Rattle.kernel_trees.specs.TypeKinds.{Kind}
-use Rattle.kernel_shapes.specs.Shape.{Shape, Atom, Num, Set, Fun, Rec, Tup, Seq, Empty, Shapes, no_shapes, more_shapes, join, interval, moved, lowest, highest, over_ends, over_both}
-use Rattle.kernel_shapes.specs.Rows.{Literal, no_literal}
-use Rattle.kernel_shapes.specs.Counts.{Rank, either_rank}
-use Rattle.kernel_shapes.specs.Sized.{Extent, Position, walked, as_form, found}
-use Rattle.kernel_shapes.proofs.KernelNodes.{ker_parts, first_kinds}
-use Rattle.kernel_shapes.proofs.Refusals.{either_comm}
-use Rattle.kera_reducer.specs.Reduction.{Numbering}
-use Rattle.kera_reducer.specs.SizeLaws.{TiedShapes}
-use Rattle.kera_reducer.specs.inner.Fitting.{the_kind, IsSequenceType, IsTupleType, LetTypes}
-use Rattle.kera_reducer.specs.inner.Rows.{node, bound, number, truth, negation, implication, nested_ifs, constant as constant_at}
-use Rattle.kera_reducer.specs.inner.Builds.{has_arm}
-use Rattle.kera_reducer.proofs.Ranks.{either_none}
-use Rattle.kera_reducer.proofs.Gists.{Gist, ranks, own}
-use Rattle.kera_reducer.proofs.GistNodes.{Gists, node_at, ker_gist, ker_gists, ker_node, whole}
-use Rattle.kera_reducer.proofs.SizeFrame.{KeepsGist, KeepsGists, IsSound, AllSound, all_here, kers_here, same_here, of_here, opened, made, children_sound}
+use Rattle.kernel_trees.specs.Trees.{constant, number_name}
+use Rattle.kernel_shapes.specs.Shape.{Atom}
+use Rattle.kernel_shapes.specs.Rows.{no_literal}
+use Rattle.kernel_shapes.specs.Counts.{Rank}
+use Rattle.kernel_shapes.specs.Sized.{Extent, walked}
+use Rattle.kera_reducer.specs.inner.Fitting.{the_kind}
+use Rattle.kera_reducer.specs.inner.Rows.{bound, truth, constant as constant_at}
+use Rattle.kera_reducer.proofs.Gists.{Gist}
+use Rattle.kera_reducer.proofs.GistNodes.{node_at, ker_gist, ker_node, whole}
+use Rattle.kera_reducer.proofs.SizeFrame.{opened}
 
 -- a truth value or a text that has the refusal of its parts
 abbrev pub atom : Option Rank → Gist

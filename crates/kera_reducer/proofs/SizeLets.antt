@@ -1,39 +1,32 @@
 -- The gist of a LET, and of what reads what it names.
-use Rattle.std.proofs.Common.{◌≡◌, ℕ, zero, suc, ◌≤◌, Bool, true, false, not, ◌&&◌, List, [], ◌∷◌, ◌++◌, map, Option, Some, None, pos, refl, sym, ◌∙◌, ap, ap₂, subst}
+use Rattle.std.proofs.Common.{◌≡◌, ℕ, Bool, true, false, ◌&&◌, List, [], ◌∷◌, ◌++◌, map, Option, Some, None, pos, refl, sym, ◌∙◌, ap, ap₂, subst}
 use Rattle.std.specs.Prelude.{nat_eq}
 use Rattle.std.proofs.lemmas.List.{append_assoc}
-use Rattle.tla_values.specs.Order.{Layer}
-use Rattle.tla_values.specs.declared.value.Value.{Value, out-Value}
-use Rattle.tla_values.specs.declared.value.Value.TheOpen as layer
-use Rattle.tla_meaning.specs.declared.op.Op.{Op}
 use Rattle.tla_meaning.specs.declared.op.Op.TheVariants as op
 use Rattle.tla_meaning.specs.declared.place.Place.{Place}
 use Rattle.tla_meaning.specs.Scopes.{find_last}
-use Rattle.tla_meaning.proofs.Views.{and_left, and_right, false≢true}
+use Rattle.tla_meaning.proofs.Views.{and_left, and_right}
 use Rattle.snowcat_rows.specs.declared.types.Ty.{Ty}
-use Rattle.kernel_trees.specs.declared.kernel.Ker.{Ker, roll-Ker, out-Ker, out-roll-Ker, roll-out-Ker}
+use Rattle.kernel_trees.specs.declared.kernel.Ker.{Ker, roll-Ker}
 use Rattle.kernel_trees.specs.declared.kernel.Ker.TheOpen.{Ker-F}
-use Rattle.kernel_trees.specs.declared.kernel.KerOp.{KerOp}
 use Rattle.kernel_trees.specs.declared.kernel.KerOp.TheVariants as ker
-use Rattle.kernel_trees.specs.Trees.{constant, op_of, names_of, number_name}
-use Rattle.kernel_trees.specs.TypeKinds.{Kind}
+use Rattle.kernel_trees.specs.Trees.{names_of, number_name}
 use Rattle.kernel_shapes.specs.Shape.{Shape, Tup, Seq, Empty, shapes, count, inside, join}
-use Rattle.kernel_shapes.specs.Rows.{Literal, no_literal, number, Row, a_sequence, a_tuple, applied_at}
-use Rattle.kernel_shapes.specs.Counts.{Count, Rank, either_rank, first_rank}
-use Rattle.kernel_shapes.specs.Sized.{Extent, Sized, Sizing, Seen, Position, walked, found, Family, reads, plain, binder, membership, subset_set, function_set, product_set, infinite, noted, excepts, folds, seen, outside, child_at, step, all_sound, is_sequence, steps_sound, bind_shapes, family_sound, family_shape, has_number, own_count, within, index_of}
-use Rattle.kernel_shapes.specs.Trees.{family_of, family_with, tuple_row, read_shape, marks_of, is_except}
+use Rattle.kernel_shapes.specs.Rows.{no_literal, number, Row, a_sequence, applied_at}
+use Rattle.kernel_shapes.specs.Counts.{either_rank}
+use Rattle.kernel_shapes.specs.Sized.{Extent, Sized, Sizing, Seen, walked, found, plain, folds, seen, step, all_sound, is_sequence, steps_sound, bind_shapes, family_sound}
+use Rattle.kernel_shapes.specs.Trees.{family_with}
 use Rattle.kernel_shapes.specs.Kernel.{ker_sized}
-use Rattle.kernel_shapes.proofs.KernelNodes.{ker_parts, first_kinds, node_sizing, operand_sizings, ker_sized-roll}
-use Rattle.kernel_shapes.proofs.Refusals.{either_same, rank_append}
+use Rattle.kernel_shapes.proofs.KernelNodes.{ker_parts, first_kinds, ker_sized-roll}
 use Rattle.kera_reducer.specs.inner.Builds.{is_let}
-use Rattle.kera_reducer.specs.inner.Fitting.{the_kind, IsSequenceType, IsTupleType, LetTypes}
-use Rattle.kera_reducer.specs.inner.Rows.{node, tree, bound, item, pair, Let, let_in, place_of, type_of, op_at, named_one, named_first, named_second}
+use Rattle.kera_reducer.specs.inner.Fitting.{the_kind, IsSequenceType, IsTupleType}
+use Rattle.kera_reducer.specs.inner.Rows.{node, bound, item, pair, Let, let_in}
 use Rattle.kera_reducer.proofs.Joins.{join_empty}
-use Rattle.kera_reducer.proofs.Ranks.{either_none, below_left, same_sum, nothing, one, both}
+use Rattle.kera_reducer.proofs.Ranks.{same_sum, nothing, one, both}
 use Rattle.kera_reducer.proofs.Tying.{not_true}
-use Rattle.kera_reducer.proofs.Gists.{Gist, gist_at, ranks, own}
-use Rattle.kera_reducer.proofs.GistNodes.{Gists, node_at, ker_gist, ker_gists, ker_node, whole, literal_gist}
-use Rattle.kera_reducer.proofs.ShapeTies.{found_new, found_old, found_named}
+use Rattle.kera_reducer.proofs.Gists.{Gist, ranks}
+use Rattle.kera_reducer.proofs.GistNodes.{ker_gist, ker_gists, ker_node, whole}
+use Rattle.kera_reducer.proofs.ShapeTies.{found_new, found_old}
 use Rattle.kera_reducer.proofs.SizeFrame.{IsSound, AllSound, kers_here, of_here, opened, made, children_sound, outside_sound}
 use Rattle.kera_reducer.proofs.SizeLeaves.{bound_gist, walked_rank}
 use Rattle.kera_reducer.proofs.SizeBinders.{binding, shaped, of_fold, fold_is}
@@ -132,8 +125,8 @@ module _ (w : ℕ) (p : Place) (l : Let) (f : is_let l ≡ true) (whole_type : I
       let steps : Bool = steps_sound (count (ker_sized w over h).shape) v (ker_sized w start h).shape in
       let all : AllSound w (start ∷ over ∷ []) h = outside_sound w (start ∷ over ∷ []) h (and_left (all_sound (drop_one v.here)) (seq && steps) q) in
       let turn : steps_sound 1 v (Seq 0 Empty) ≡ true =
-          subst (λ (b : Gist). steps_sound (count b.shape) v (Seq 0 Empty) ≡ true) over_gist
-          (subst (λ (b : Gist). steps_sound (count (ker_sized w over h).shape) v b.shape ≡ true) start_gist (and_right seq steps (and_right (all_sound (drop_one v.here)) (seq && steps) q))) in
+      subst (λ (b : Gist). steps_sound (count b.shape) v (Seq 0 Empty) ≡ true) over_gist
+      (subst (λ (b : Gist). steps_sound (count (ker_sized w over h).shape) v b.shape ≡ true) start_gist (and_right seq steps (and_right (all_sound (drop_one v.here)) (seq && steps) q))) in
       let first : IsSound w body (bind_shapes (names_of fold.binds) (Seq 0 Empty ∷ inside (ker_sized w over h).shape ∷ []) h) = and_left (step v (Seq 0 Empty)).sound _ turn in
       let here : IsSound w body inner = subst (λ (b : Gist). IsSound w body (bind_shapes (names_of fold.binds) (Seq 0 Empty ∷ inside b.shape ∷ []) h)) over_gist first in
       ((children_sound w p l.items ker.SeqOf (d ∷ []) h refl all.1.0).0, (children_sound w p l.wholes ker.Push (bound p l.wholes l.unread ∷ e ∷ []) inner refl here).1.0)

@@ -1,46 +1,44 @@
 -- Rows by a LET keep shape, literal and refusal: Iff, a function of one pair, powers, items and fields at a literal.
-use Rattle.std.proofs.Common.{◌≡◌, ℕ, zero, suc, ◌+◌, ◌≤◌, ◌*ℤ◌, Bool, true, false, not, List, [], ◌∷◌, ◌++◌, map, length, Option, Some, None, ℤ, pos, refl, sym, ◌∙◌, ap, ap₂, subst, arith}
+use Rattle.std.proofs.Common.{◌≡◌, ℕ, zero, suc, ◌≤◌, ◌*ℤ◌, Bool, true, false, List, [], ◌∷◌, ◌++◌, map, length, Option, Some, None, pos, refl, sym, ◌∙◌, ap, ap₂, subst, arith}
 use Rattle.std.specs.Prelude.{nat_eq}
 use Rattle.tla_values.specs.Order.{Layer}
 use Rattle.tla_values.specs.declared.value.Value.{Value, out-Value}
 use Rattle.tla_values.specs.declared.value.Value.TheVariants as value
 use Rattle.tla_values.specs.declared.value.Value.TheOpen as layer
-use Rattle.tla_meaning.specs.declared.op.Op.{Op}
 use Rattle.tla_meaning.specs.declared.op.Op.TheVariants as op
 use Rattle.tla_meaning.specs.declared.place.Place.{Place}
 use Rattle.tla_meaning.specs.Scopes.{find_last}
 use Rattle.tla_meaning.specs.Meaning.{role}
-use Rattle.tla_meaning.proofs.Views.{and_left, and_right}
+use Rattle.tla_meaning.proofs.Views.{and_left}
 use Rattle.snowcat_rows.specs.declared.types.Ty.{Ty}
-use Rattle.kernel_trees.specs.declared.kernel.Ker.{Ker, roll-Ker, out-Ker, out-roll-Ker, roll-out-Ker}
+use Rattle.kernel_trees.specs.declared.kernel.Ker.{Ker, roll-Ker, out-Ker, roll-out-Ker}
 use Rattle.kernel_trees.specs.declared.kernel.Ker.TheOpen.{Ker-F}
 use Rattle.kernel_trees.specs.declared.kernel.KerOp.{KerOp}
 use Rattle.kernel_trees.specs.declared.kernel.KerOp.TheVariants as ker
 use Rattle.kernel_trees.specs.Trees.{constant, op_of, names_of, number_name}
-use Rattle.kernel_trees.specs.TypeKinds as kind
 use Rattle.kernel_trees.specs.TypeKinds.{Kind}
-use Rattle.kernel_shapes.specs.Shape.{Shape, Atom, Num, Set, Fun, Seq, Tup, Empty, shapes, count, inside, join, interval, over_both}
-use Rattle.kernel_shapes.specs.Rows.{Literal, no_literal, number, text, Row, a_tuple, a_function, an_application, a_single, applied_at, power_shape}
+use Rattle.kernel_shapes.specs.Shape.{Shape, Atom, Set, Fun, Seq, Tup, Empty, shapes, inside, join, over_both}
+use Rattle.kernel_shapes.specs.Rows.{Literal, no_literal, number, text, a_function, an_application, a_single, applied_at, power_shape}
 use Rattle.kernel_shapes.specs.Counts.{Count, Rank, either_rank, first_rank}
-use Rattle.kernel_shapes.specs.Sized.{Extent, Sized, Sizing, Seen, Position, walked, Family, reads, plain, binder, membership, subset_set, function_set, product_set, infinite, noted, excepts, folds, seen, outside, family_shape, has_number, own_count, within, index_of, bind_shapes, bound_shapes, sized}
-use Rattle.kernel_shapes.specs.Trees.{family_of, family_with, read_shape, marks_of, sized_node}
+use Rattle.kernel_shapes.specs.Sized.{Extent, Sized, Sizing, Seen, walked, Family, reads, plain, infinite, noted, seen, family_shape, has_number, own_count, within, index_of, bind_shapes, sized}
+use Rattle.kernel_shapes.specs.Trees.{family_with, read_shape, marks_of, sized_node}
 use Rattle.kernel_shapes.specs.Kernel.{ker_sized}
 use Rattle.kernel_shapes.proofs.KernelNodes.{ker_parts, first_kinds, node_sizing, operand_sizings, ker_sized-roll}
 use Rattle.kernel_shapes.proofs.Refusals.{either_same, rank_append}
 use Rattle.kera_reducer.specs.Reduction.{Numbering}
 use Rattle.kera_reducer.specs.SizeLaws.{TiedShapes}
 use Rattle.kera_reducer.specs.inner.Builds.{is_let}
-use Rattle.kera_reducer.specs.inner.Fitting.{the_kind, IsSequenceType, IsTupleType, LetTypes}
-use Rattle.kera_reducer.specs.inner.Rows.{node, tree, bound, item, negation, pair, Let, let_in, place_of, type_of, op_at, number as number_of, named_one, named_first, named_second, equivalence, single, item_by_let, product, tested, power_body, small_power, large_power} 
+use Rattle.kera_reducer.specs.inner.Fitting.{the_kind, IsTupleType, LetTypes}
+use Rattle.kera_reducer.specs.inner.Rows.{node, bound, item, negation, pair, Let, let_in, place_of, type_of, op_at, number as number_of, named_one, named_first, named_second, equivalence, single, item_by_let, product, tested, power_body, small_power, large_power}
 use Rattle.kera_reducer.proofs.Joins.{join_empty, join_self, small_interval, own_over}
 use Rattle.kera_reducer.proofs.Ranks.{either_none, below_left, same_sum, nothing, one, both}
-use Rattle.kera_reducer.proofs.Gists.{Gist, gist, gist_at, ranks, own}
+use Rattle.kera_reducer.proofs.Gists.{Gist, gist_at, ranks, own}
 use Rattle.kera_reducer.proofs.GistNodes.{Gists, node_at, ker_gist, ker_gists, ker_node, whole, literal_gist}
 use Rattle.kera_reducer.proofs.ShapeTies.{found_old, found_named}
-use Rattle.kera_reducer.proofs.SizeFrame.{KeepsGist, KeepsGists, IsSound, AllSound, all_here, kers_here, same_here, of_here, opened, made, children_sound}
-use Rattle.kera_reducer.proofs.SizeLeaves.{atom, bound_gist, integer_gist, walked_rank}
+use Rattle.kera_reducer.proofs.SizeFrame.{KeepsGist, KeepsGists, IsSound, AllSound, same_here, of_here, opened, made, children_sound}
+use Rattle.kera_reducer.proofs.SizeLeaves.{atom, integer_gist, walked_rank}
 use Rattle.kera_reducer.proofs.SizeRows.{not_gist}
-use Rattle.kera_reducer.proofs.SizeBinders.{binding, shaped, binder_gist, binder_here, of_binder}
+use Rattle.kera_reducer.proofs.SizeBinders.{binding, shaped, binder_here, of_binder}
 use Rattle.kera_reducer.proofs.SizeLets.{pair_gist, item_gist, read_gist, let_extent, let_gist, let_sound}
 
 -- ---- a kernel node's own number is one of its numbers
@@ -182,16 +180,16 @@ module _ (w : ℕ) (ρ : Numbering) (p : Place) (xs : List (List ℕ)) (ps : Lis
       let second : Ker = named_second l t m in
       let x : Ker-F Ker = binding p l.type ker.FunOf (one_set ∷ second ∷ []) (z ∷ []) in
       let set_gist : ker_gist w one_set h' ≡ shaped p (Set 1 K.shape) (own (place_of k) K.shape) =
-          made w p c ker.SetOf (named_first l t k ∷ []) h' refl
-          ∙ ap (λ (a : Gist). shaped p (Set 1 (join a.shape Empty)) (either_rank (a.rank walked) None)) (first_gist_of w p l t k m h h' (named_here h))
-          ∙ (λ i. shaped p (Set 1 (join_empty K.shape i)) ((either_none (either_rank (own (place_of k) K.shape) None) ∙ either_none (own (place_of k) K.shape)) i)) in
+      made w p c ker.SetOf (named_first l t k ∷ []) h' refl
+      ∙ ap (λ (a : Gist). shaped p (Set 1 (join a.shape Empty)) (either_rank (a.rank walked) None)) (first_gist_of w p l t k m h h' (named_here h))
+      ∙ (λ i. shaped p (Set 1 (join_empty K.shape i)) ((either_none (either_rank (own (place_of k) K.shape) None) ∙ either_none (own (place_of k) K.shape)) i)) in
       let fun_gist : ker_gist w (roll-Ker x) h' ≡ shaped p (Fun 1 K.shape M.shape) (either_rank (own (place_of k) K.shape) (own (place_of m) M.shape)) =
-          ker_node w x h' (whole op.Lambda (ker_parts x) refl)
-          ∙ binder_here w p 1 (a_function 1) (names_of (z ∷ [])) (ker_gists w (one_set ∷ second ∷ [])) h'
-          ∙ ap (λ (a : Gist). of_binder w p (a_function 1) (a ∷ []) (ker_gist w second (bind_shapes (names_of (z ∷ [])) (inside a.shape ∷ []) h'))) set_gist
-          ∙ ap (of_binder w p (a_function 1) (shaped p (Set 1 K.shape) (own (place_of k) K.shape) ∷ [])) (second_gist_of w p l t k m h (bind_shapes (names_of (z ∷ [])) (K.shape ∷ []) h') (named_under z K.shape h n))
-          ∙ ap (shaped p (Fun 1 K.shape M.shape)) (same_sum (own (place_of k) K.shape ∷ own (place_of m) M.shape ∷ [])
-          (both (both (both nothing (one 0)) nothing) (both (one 1) nothing)) (both (one 0) (one 1)) refl refl) in
+      ker_node w x h' (whole op.Lambda (ker_parts x) refl)
+      ∙ binder_here w p 1 (a_function 1) (names_of (z ∷ [])) (ker_gists w (one_set ∷ second ∷ [])) h'
+      ∙ ap (λ (a : Gist). of_binder w p (a_function 1) (a ∷ []) (ker_gist w second (bind_shapes (names_of (z ∷ [])) (inside a.shape ∷ []) h'))) set_gist
+      ∙ ap (of_binder w p (a_function 1) (shaped p (Set 1 K.shape) (own (place_of k) K.shape) ∷ [])) (second_gist_of w p l t k m h (bind_shapes (names_of (z ∷ [])) (K.shape ∷ []) h') (named_under z K.shape h n))
+      ∙ ap (shaped p (Fun 1 K.shape M.shape)) (same_sum (own (place_of k) K.shape ∷ own (place_of m) M.shape ∷ [])
+      (both (both (both nothing (one 0)) nothing) (both (one 1) nothing)) (both (one 0) (one 1)) refl refl) in
       ap (λ (as' : List Gist). of_here w p (plain a_single no_literal) as') (same_here w ρ zs (k ∷ m ∷ []) b g h s (pair_sound (roll-Ker x) h q))
       ∙ sym (pair_let (roll-Ker x) h (shaped p (Fun 1 K.shape M.shape) (either_rank (own (place_of k) K.shape) (own (place_of m) M.shape))) fun_gist
       ∙ ap (shaped p (Fun 1 K.shape M.shape)) (absorbed h))

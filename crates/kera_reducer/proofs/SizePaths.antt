@@ -1,28 +1,26 @@
 -- The gist of an EXCEPT, by its updates, and of an update along a path of the kernel.
-use Rattle.std.proofs.Common.{◌≡◌, ℕ, zero, suc, Bool, true, false, ◌&&◌, List, [], ◌∷◌, ◌++◌, map, take, drop, replicate, length, Option, Some, None, refl, sym, ◌∙◌, ap, ap₂, subst, if◌then◌else◌}
-use Rattle.tla_meaning.specs.declared.expr.Expr.{out-Expr, out-roll-Expr}
+use Rattle.std.proofs.Common.{◌≡◌, ℕ, zero, suc, Bool, true, false, ◌&&◌, List, [], ◌∷◌, ◌++◌, map, take, drop, replicate, Option, None, refl, sym, ◌∙◌, ap, ap₂, if◌then◌else◌}
 use Rattle.tla_meaning.specs.declared.op.Op.TheVariants as op
 use Rattle.tla_meaning.specs.declared.place.Place.{Place}
 use Rattle.tla_meaning.specs.Meaning.{except_marks}
-use Rattle.tla_meaning.specs.Symbols.{same_place}
-use Rattle.tla_meaning.proofs.Views.{and_left, and_right, false≢true}
+use Rattle.tla_meaning.proofs.Views.{and_left, and_right}
 use Rattle.snowcat_rows.specs.declared.types.Ty.{Ty}
-use Rattle.kernel_trees.specs.declared.kernel.Ker.{Ker, roll-Ker}
+use Rattle.kernel_trees.specs.declared.kernel.Ker.{Ker}
 use Rattle.kernel_trees.specs.declared.kernel.Ker.TheOpen.{Ker-F}
 use Rattle.kernel_trees.specs.declared.kernel.KerOp.TheVariants as ker
 use Rattle.kernel_trees.specs.Trees.{as_expr, names_of, number_name}
 use Rattle.kernel_trees.specs.TypeKinds.{Kind}
 use Rattle.kernel_shapes.specs.Shape.{Shape}
-use Rattle.kernel_shapes.specs.Rows.{Literal, no_literal, applied_at, joined_at, nth, shape_at}
+use Rattle.kernel_shapes.specs.Rows.{Literal, no_literal, applied_at, joined_at, shape_at}
 use Rattle.kernel_shapes.specs.Counts.{Count, Rank, either_rank, first_rank}
-use Rattle.kernel_shapes.specs.Sized.{Extent, Sized, Sizing, walked, no_size, bind_shapes, excepted, excepts, literals_of, child_at, right_counts, own_count}
+use Rattle.kernel_shapes.specs.Sized.{Extent, Sized, Sizing, walked, bind_shapes, excepted, literals_of, child_at, right_counts, own_count}
 use Rattle.kernel_shapes.specs.Trees.{is_part}
 use Rattle.kernel_shapes.specs.Kernel.{ker_sized}
-use Rattle.kernel_shapes.proofs.KernelNodes.{ker_parts, ker_sized-roll, node_sizing}
+use Rattle.kernel_shapes.proofs.KernelNodes.{ker_sized-roll}
 use Rattle.kernel_shapes.proofs.Refusals.{rank_append}
 use Rattle.kera_reducer.specs.inner.Rows.{tree}
-use Rattle.kera_reducer.proofs.Ranks.{either_none, same_sum, nothing, one, both}
-use Rattle.kera_reducer.proofs.Gists.{Gist, gist, bare, bares, gist_at, no_gist, ranks, own, node_gist, except_rank, View}
+use Rattle.kera_reducer.proofs.Ranks.{either_none}
+use Rattle.kera_reducer.proofs.Gists.{Gist, gist, bare, bares, gist_at, ranks, own, except_rank}
 use Rattle.kera_reducer.proofs.GistNodes.{Gists, gist_outside, gist_under, node_at, ker_gist}
 use Rattle.kera_reducer.proofs.SizeFrame.{IsSound, all_here}
 use Rattle.kera_reducer.proofs.SizeLeaves.{walked_rank}
@@ -121,7 +119,7 @@ module _ (x : List ℕ) (g : Extent) where
       let under : List Shape → List Gist = λ bs. gist_under ms zs (bind_shapes (x ∷ []) bs g) in
       let path : List Literal = path_at n zs g in
       let f : List Gist → Gist → Option Rank = λ l b.
-          either_rank (ranks walked l) (either_rank (b.rank walked) (except_rank ns (drop (suc n) ks) (λ bs. drop (suc n) (under bs)) (joined_at (literals l) b.shape a))) in
+      either_rank (ranks walked l) (either_rank (b.rank walked) (except_rank ns (drop (suc n) ks) (λ bs. drop (suc n) (under bs)) (joined_at (literals l) b.shape a))) in
       ap (λ (l : List Gist). f l (gist_at n (under (shape_at a (literals l) ∷ [])))) (front n (except_marks ns) zs g)
       ∙ ap (f (all_here (take n zs) g)) (right n (except_marks ns) zs (bind_shapes (x ∷ []) (shape_at a path ∷ []) g))
       ∙ (λ i. either_rank (ranks walked (all_here (take n zs) g)) (either_rank ((right_at x n zs g (shape_at a path)).rank walked)
@@ -176,7 +174,7 @@ module _ (w : ℕ) (p : Place) (a : Ty) (f i e : Ker) (n : ℕ) (h : Extent) whe
         shape = S;
         literal = no_literal;
         rank = λ q. (rank_append (own_count true p S) ((ker_sized w f h).counts walked ++ inner_counts)
-        ∙ ap (either_rank (own p S)) (rank_append ((ker_sized w f h).counts walked) inner_counts ∙ ap (either_rank (walked_rank w f h)) counted)) j;
+            ∙ ap (either_rank (own p S)) (rank_append ((ker_sized w f h).counts walked) inner_counts ∙ ap (either_rank (walked_rank w f h)) counted)) j;
       })
       ∙ ap (λ (c : Bool). shaped p S (either_rank (walked_rank w f h) (either_rank (walked_rank w i h) (right_rank c)))) q
 
@@ -190,7 +188,10 @@ module _ (w : ℕ) (p : Place) (a : Ty) (f i e : Ker) (n : ℕ) (h : Extent) whe
   pub update_sound : IsSound w (tree p a ker.Update (f ∷ i ∷ e ∷ []) (n ∷ [])) h → IsSound w f h × (IsSound w i h × IsSound w e update_inner)
   update_sound s =
       let r = sym (ap (λ (z : Sizing). (z h).sound) (ker_sized-roll w update)) ∙ s in
-      let s1 = and_right (ker_sized w f h).sound _ r in
-      (and_left (ker_sized w f h).sound _ r,
-      (and_left (ker_sized w i h).sound true (and_left ((ker_sized w i h).sound && true) _ s1),
-      and_left (ker_sized w e update_inner).sound _ (and_right _ _ (and_right ((ker_sized w i h).sound && true) _ s1))))
+      let s1 = and_right (ker_sized w f h).sound _ r in (
+        and_left (ker_sized w f h).sound _ r,
+        (
+          and_left (ker_sized w i h).sound true (and_left ((ker_sized w i h).sound && true) _ s1),
+          and_left (ker_sized w e update_inner).sound _ (and_right _ _ (and_right ((ker_sized w i h).sound && true) _ s1)),
+        ),
+      )

@@ -1,8 +1,8 @@
 -- Ranges and IsFinite keep shape, literal and refusal.
-use Rattle.std.proofs.Common.{◌≡◌, ℕ, Bool, true, ◌&&◌, List, [], ◌∷◌, map, Option, None, refl, sym, ◌∙◌, ap}
+use Rattle.std.proofs.Common.{ℕ, Bool, true, ◌&&◌, List, [], ◌∷◌, None, refl, sym, ◌∙◌, ap}
 use Rattle.tla_meaning.specs.declared.op.Op.TheVariants as op
 use Rattle.tla_meaning.specs.declared.place.Place.{Place}
-use Rattle.tla_meaning.proofs.Views.{and_left, and_right}
+use Rattle.tla_meaning.proofs.Views.{and_left}
 use Rattle.snowcat_rows.specs.declared.types.Ty.{Ty}
 use Rattle.kernel_trees.specs.declared.kernel.Ker.{Ker}
 use Rattle.kernel_trees.specs.declared.kernel.Ker.TheOpen.{Ker-F}
@@ -10,12 +10,11 @@ use Rattle.kernel_trees.specs.declared.kernel.KerOp.TheVariants as ker
 use Rattle.kernel_trees.specs.Trees.{names_of}
 use Rattle.kernel_trees.specs.TypeKinds.{Kind}
 use Rattle.kernel_shapes.specs.Rows.{no_literal, a_range, a_truth}
-use Rattle.kernel_shapes.specs.Counts.{Rank, either_rank}
-use Rattle.kernel_shapes.specs.Sized.{Extent, Sizing, walked, plain}
+use Rattle.kernel_shapes.specs.Counts.{either_rank}
+use Rattle.kernel_shapes.specs.Sized.{Sizing, walked, plain}
 use Rattle.kernel_shapes.specs.Kernel.{ker_sized}
 use Rattle.kernel_shapes.proofs.KernelNodes.{ker_parts, ker_sized-roll}
 use Rattle.kera_reducer.specs.Reduction.{Numbering}
-use Rattle.kera_reducer.specs.SizeLaws.{TiedShapes}
 use Rattle.kera_reducer.specs.inner.Rows.{node, tree, truth}
 use Rattle.kera_reducer.proofs.Ranks.{either_none}
 use Rattle.kera_reducer.proofs.Gists.{Gist, ranks}

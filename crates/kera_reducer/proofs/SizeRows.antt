@@ -1,8 +1,6 @@
 -- Rows of the reduction that keep shape, literal and refusal: literals, names, and operators by others without a LET.
-use Rattle.std.proofs.Common.{◌≡◌, ℕ, zero, suc, ◌-◌, ◌≤◌, Bool, true, false, List, [], ◌∷◌, map, length, Option, Some, None, option_and_then, ℤ, pos, neg_ℤ, ◌-ℤ◌, refl, sym, ◌∙◌, ap, ap₂, subst, arith, if◌then◌else◌}
-use Rattle.std.proofs.lemmas.Int.{ints, clamps}
-use Rattle.std.specs.Int.{int_max, int_min}
-use Rattle.std.specs.Prelude.{slice_get, ◌^◌}
+use Rattle.std.proofs.Common.{◌≡◌, ℕ, ◌≤◌, Bool, true, false, List, [], ◌∷◌, map, Option, Some, None, option_and_then, ℤ, pos, refl, sym, ◌∙◌, ap, ap₂, if◌then◌else◌}
+use Rattle.std.specs.Prelude.{slice_get}
 use Rattle.tla_values.specs.declared.value.Value.TheVariants as value
 use Rattle.tla_meaning.specs.declared.op.Op.TheVariants as op
 use Rattle.tla_meaning.specs.declared.place.Place.{Place}
@@ -13,23 +11,22 @@ use Rattle.kernel_trees.specs.declared.kernel.Ker.{Ker}
 use Rattle.kernel_trees.specs.declared.kernel.KerOp.TheVariants as ker
 use Rattle.kernel_trees.specs.Trees.{number_name}
 use Rattle.kernel_trees.specs.TypeKinds.{Kind}
-use Rattle.kernel_shapes.specs.Shape.{Shape, Atom, Num, Set, Fun, Rec, Tup, Seq, Empty, join, join_all, alike, alike_all, interval, moved, lowest, highest, over_ends, over_both, hull_of}
-use Rattle.kernel_shapes.specs.Rows.{Literal, no_literal, branches_of, row_shape, a_negation, a_difference, an_enumeration, a_choice}
+use Rattle.kernel_shapes.specs.Shape.{Shape, Empty, join, join_all, alike, alike_all, interval}
+use Rattle.kernel_shapes.specs.Rows.{no_literal, branches_of, row_shape, a_negation, a_difference, an_enumeration, a_choice}
 use Rattle.kernel_shapes.specs.Counts.{Rank, either_rank}
-use Rattle.kernel_shapes.specs.Sized.{Extent, Sizing, Position, walked, as_form, found, shapes_of, all_sound, plain}
+use Rattle.kernel_shapes.specs.Sized.{Extent, Sizing, walked, as_form, found, all_sound, plain}
 use Rattle.kernel_shapes.specs.Kernel.{ker_sized}
 use Rattle.kernel_shapes.proofs.Refusals.{either_same}
-use Rattle.kernel_shapes.proofs.KernelNodes.{ker_parts, first_kinds, node_sizing, ker_sized-roll}
+use Rattle.kernel_shapes.proofs.KernelNodes.{ker_sized-roll}
 use Rattle.kera_reducer.specs.Reduction.{Numbering}
-use Rattle.kera_reducer.specs.SizeLaws.{TiedShapes}
-use Rattle.kera_reducer.specs.inner.Fitting.{the_kind, IsSequenceType, IsTupleType, LetTypes}
+use Rattle.kera_reducer.specs.inner.Fitting.{the_kind}
 use Rattle.kera_reducer.specs.inner.Rows.{node, bound, number, truth, negation, implication, nested_ifs}
 use Rattle.kera_reducer.specs.inner.Builds.{has_arm}
 use Rattle.kera_reducer.proofs.Joins.{join_empty, own_join, zero_minus}
 use Rattle.kera_reducer.proofs.Ranks.{below_left, either_none, same_sum, nothing, one, both}
 use Rattle.kera_reducer.proofs.Gists.{Gist, bare_shapes, gist_at, node_gist, ranks, own}
-use Rattle.kera_reducer.proofs.GistNodes.{Gists, node_at, ker_gist, ker_gists, ker_node, whole}
-use Rattle.kera_reducer.proofs.SizeFrame.{KeepsGist, KeepsGists, IsSound, AllSound, all_here, kers_here, same_here, of_here, opened, made, children_sound}
+use Rattle.kera_reducer.proofs.GistNodes.{Gists, node_at, ker_gist, ker_node, whole}
+use Rattle.kera_reducer.proofs.SizeFrame.{KeepsGist, KeepsGists, IsSound, AllSound, kers_here, same_here, of_here, opened, made, children_sound}
 use Rattle.kera_reducer.proofs.SizeLeaves.{atom, walked_rank, truth_gist, integer_gist, text_gist, bound_gist}
 
 -- a name of this shape
@@ -197,9 +194,9 @@ module _ (w : ℕ) (p : Place) (a : Ty) (h : Extent) where
         shape = (ap (join K) (join_empty (ker_gist w N h).shape ∙ n.shape)) i;
         literal = no_literal;
         rank = λ q. (
-        ap (λ (b : Shape). either_rank (own p (join K b)) (ranks walked (kers_here w (g ∷ k ∷ N ∷ []) h))) (join_empty (ker_gist w N h).shape ∙ n.shape)
-        ∙ by (own p (join K S)) (own p S) (walked_rank w g h) (walked_rank w k h) (walked_rank w N h) (ranks walked (kers_here w ks h))
-        (own_join p K S (ap (alike K) (sym n.shape) ∙ e)) (ap (λ (b : Shape). either_rank (own p b) (walked_rank w N h)) (sym n.shape) ∙ n.rank)) i;
+            ap (λ (b : Shape). either_rank (own p (join K b)) (ranks walked (kers_here w (g ∷ k ∷ N ∷ []) h))) (join_empty (ker_gist w N h).shape ∙ n.shape)
+            ∙ by (own p (join K S)) (own p S) (walked_rank w g h) (walked_rank w k h) (walked_rank w N h) (ranks walked (kers_here w ks h))
+            (own_join p K S (ap (alike K) (sym n.shape) ∙ e)) (ap (λ (b : Shape). either_rank (own p b) (walked_rank w N h)) (sym n.shape) ∙ n.rank)) i;
       })
     where
       by : (o o' g k n r : Option Rank) → either_rank o' o ≡ o → either_rank o' n ≡ either_rank o' r →
@@ -225,20 +222,24 @@ module _ (w : ℕ) (p : Place) (a : Ty) (h : Extent) where
   nested [] s =
       let e : ker_gist w (node p a ker.NoCase []) h ≡ chosen p [] = ker_node w (opened p a ker.NoCase []) h (whole (op.Case false) [] refl) in
       (record { shape = ap (λ (b : Gist). b.shape) e; rank = ap (λ (b : Gist). either_rank (own p b.shape) (b.rank walked)) e }, tt)
-  nested (k ∷ []) s =
-      (record {
-        shape = sym (join_empty (ker_gist w k h).shape);
-        rank = ap₂ (λ (b : Shape) (r : Option Rank). either_rank (own p b) r) (sym (join_empty (ker_gist w k h).shape)) (sym (either_none (walked_rank w k h)));
-      }, (s, tt))
+  nested (k ∷ []) s = (
+    record {
+      shape = sym (join_empty (ker_gist w k h).shape);
+      rank = ap₂ (λ (b : Shape) (r : Option Rank). either_rank (own p b) r) (sym (join_empty (ker_gist w k h).shape)) (sym (either_none (walked_rank w k h)));
+    },
+    (s, tt),
+  )
   nested (g ∷ k ∷ ks) s =
       let parts = children_sound w p a ker.If (g ∷ k ∷ nested_ifs p a ks ∷ []) h refl s in
       let rest = nested ks parts.1.1.0 in
       let e = if_gist g k ks rest.0 (if_alike g k (nested_ifs p a ks) s) in
-      let S : Shape = join_all (branches_of (map (λ b. b.shape) (kers_here w (g ∷ k ∷ ks) h))) in
-      (record {
-        shape = ap (λ (b : Gist). b.shape) e;
-        rank = ap (λ (b : Gist). either_rank (own p b.shape) (b.rank walked)) e ∙ below_left (own p S) (own p S) (ranks walked (kers_here w (g ∷ k ∷ ks) h)) (either_same (own p S));
-      }, (parts.0, (parts.1.0, rest.1)))
+      let S : Shape = join_all (branches_of (map (λ b. b.shape) (kers_here w (g ∷ k ∷ ks) h))) in (
+        record {
+          shape = ap (λ (b : Gist). b.shape) e;
+          rank = ap (λ (b : Gist). either_rank (own p b.shape) (b.rank walked)) e ∙ below_left (own p S) (own p S) (ranks walked (kers_here w (g ∷ k ∷ ks) h)) (either_same (own p S));
+        },
+        (parts.0, (parts.1.0, rest.1)),
+      )
 
 pub sizes_cases : (w : ℕ) (ρ : Numbering) (p : Place) (other : Bool) (xs : List (List ℕ)) (ps : List Bool) (k : Kind) (js : List Kind) (zs : Gists) (ks : List Ker) (a : Ty) →
     has_arm ks ≡ true → KeepsGists w ρ zs ks → KeepsGist w ρ (node_at w p (op.Case other) xs ps k js zs) (nested_ifs p a ks)

@@ -1,8 +1,8 @@
 -- What is built keeps shape, literal and refusal: one induction over the rows.
-use Rattle.std.proofs.Common.{◌≡◌, ℕ, zero, suc, ◌≤◌, Bool, true, false, ◌&&◌, ◌||◌, List, [], ◌∷◌, ◌++◌, map, take, drop, length, refl, sym, ◌∙◌, ap, ap₂, subst, Option, Some, None}
+use Rattle.std.proofs.Common.{◌≡◌, ℕ, zero, suc, ◌≤◌, Bool, true, false, ◌||◌, List, [], ◌∷◌, ◌++◌, map, take, drop, length, refl, sym, ◌∙◌, ap, subst, Option, Some, None}
 use Rattle.std.specs.List.{list_any}
 use Rattle.tla_meaning.specs.declared.actions.Assignable.{Assignable}
-use Rattle.tla_meaning.specs.declared.expr.Expr.{Expr, roll-Expr, out-Expr, roll-out-Expr}
+use Rattle.tla_meaning.specs.declared.expr.Expr.{Expr, out-Expr, roll-out-Expr}
 use Rattle.tla_meaning.specs.declared.expr.Expr.TheFolds.{fold-roll-Expr}
 use Rattle.tla_meaning.specs.declared.expr.Expr.TheOpen.{Expr-F}
 use Rattle.tla_meaning.specs.declared.op.Op.{Op}
@@ -13,13 +13,9 @@ use Rattle.snowcat_rows.specs.declared.types.Ty.{Ty}
 use Rattle.kernel_trees.specs.declared.kernel.Ker.{Ker}
 use Rattle.kernel_trees.specs.declared.kernel.KerOp.{KerOp}
 use Rattle.kernel_trees.specs.declared.kernel.KerOp.TheVariants as ker
-use Rattle.kernel_trees.specs.Trees.{op_of}
-use Rattle.kernel_trees.specs.TypeKinds as kind
 use Rattle.kernel_trees.specs.TypeKinds.{Kind}
-use Rattle.kernel_shapes.specs.Kernel.{kinds_in}
-use Rattle.kernel_shapes.specs.Rows.{nth}
 use Rattle.kernel_shapes.specs.Sized.{Extent}
-use Rattle.kernel_shapes.specs.Trees.{domain_row, tuple_row, first_kind, is_part, is_except}
+use Rattle.kernel_shapes.specs.Trees.{first_kind, is_part, is_except}
 use Rattle.kernel_shapes.proofs.KernelNodes.{first_kinds}
 use Rattle.kernel_shapes.proofs.TreeLemmas.{parts_of}
 use Rattle.kera_reducer.specs.JobPaths.{nodes}
@@ -29,16 +25,17 @@ use Rattle.kera_reducer.specs.Laws.{IsSilent}
 use Rattle.kera_reducer.specs.inner.Builds as rows
 use Rattle.kera_reducer.specs.inner.Builds.{Builds, BuildsEach, BuildsNode, BuildsPath, BuildsChanges, is_same}
 use Rattle.kera_reducer.specs.inner.Fitting.{the_kind, SameTable, Fitting, FittingEach, FittingPath, FittingChanges, FittingNode, behind}
-use Rattle.kera_reducer.specs.inner.Rows.{node, tree, Level, Change, all_levels, level_numbers}
+use Rattle.kera_reducer.specs.inner.Rows.{node, tree, Level, Change, level_numbers}
 use Rattle.kera_reducer.proofs.Apart.{AllApart, NoneGoOn, apart_drop, apart_take, children_apart, no_parts, none_drop, none_take, rights_apart}
 use Rattle.kera_reducer.proofs.Gists.{Gist, NoParts}
-use Rattle.kera_reducer.proofs.GistNodes.{Gists, Whole, job_gist, job_gists, job_kinds, job_node, node_at}
+use Rattle.kera_reducer.proofs.GistNodes.{Gists, job_gist, job_gists, job_kinds, job_node, node_at}
 use Rattle.kera_reducer.proofs.SizeFrame.{KeepsGist, KeepsGists, SameRow, keeps_same, opened}
 use Rattle.kera_reducer.proofs.SizeRows.{sizes_boolean, sizes_integer, sizes_text, sizes_declared, sizes_bound, sizes_noted, sizes_assign, sizes_unequal, sizes_no_member, sizes_at_least, sizes_greater, sizes_at_most, sizes_implies, sizes_negative, sizes_truth_values, sizes_cases}
 use Rattle.kera_reducer.proofs.SizeBinders.{sizes_binder, sizes_fold}
 use Rattle.kera_reducer.proofs.SizePairs.{sizes_equivalent, sizes_single, sizes_field, sizes_low_item, sizes_high_item, sizes_power, sizes_high_power}
 use Rattle.kera_reducer.proofs.SizeRest.{sizes_range, sizes_finite}
 use Rattle.kera_reducer.proofs.SizeExcepts.{PathKept, ChangesKept, sizes_except}
+use Rattle.kera_reducer.proofs.SizeExceptLets.{sizes_except_let}
 use Rattle.kera_reducer.proofs.PartRoots.{right_apart, let_fresh, levels_fresh, numbers_of}
 
 -- ---- in an action position, of trees that hold no name that may be assigned
@@ -201,7 +198,11 @@ module _ (w : ℕ) (wide : 2 ≤ w) where
         sizes_except w ρ p cs x ps (first_kind ks) (job_kinds es (drop 1 ks)) (job_gist w e (take (nodes e) (drop 1 ks))) (job_gists w fs (drop (nodes e) (drop 1 ks))) d
         (sizes None ρ e d b tt (take (nodes e) (drop 1 ks)) f.0 u.0) a c us fr
         (sizes_changes p ρ x cs fs (c ∷ us) bs (drop (nodes e) (drop 1 ks)) f.1 u.1 (v refl) fr)
-    sizes_node i ρ p o es xs k (rows.except_let _ _ cs e fs x l t d us r pl b bs) q ks f u v ps = absurd f
+    sizes_node i ρ p o es xs k (rows.except_let _ _ cs e fs x l t d us r pl b bs) q ks f u v ps =
+        let fr : are_fresh (level_numbers us) ρ ≡ true = let_fresh l (level_numbers us) ρ r in
+        sizes_except_let w ρ p cs x ps (first_kind ks) (job_kinds es (drop 1 ks)) (job_gist w e (take (nodes e) (drop 1 ks))) (job_gists w fs (drop (nodes e) (drop 1 ks))) d
+        (sizes None ρ e d b tt (take (nodes e) (drop 1 ks)) f.1.1.0 u.0) l t us f.0 f.1.0 r pl
+        (sizes_changes p ρ x cs fs us bs (drop (nodes e) (drop 1 ks)) f.1.1.1 u.1 (v refl) fr)
     sizes_node i ρ p o es xs k (rows.cases _ _ other _ _ a kers e b) q ks f u v ps =
         sizes_cases w ρ p other xs ps (first_kind ks) (job_kinds es (drop 1 ks)) (job_gists w es (drop 1 ks)) kers a e (sizes_each None ρ es kers b tt (drop 1 ks) f u)
     sizes_node i ρ p o es xs k (rows.as_value m _ _ _ _ _ _ e b) q ks f u v ps = sizes_node None ρ p o es xs k b tt ks f u v ps
@@ -219,23 +220,28 @@ module _ (w : ℕ) (wide : 2 ≤ w) where
 
     sizes_path : (p : Place) (ρ : Numbering) (x : List ℕ) (n : ℕ) (es : List Expr) (ls : List Level) (k : Ker) (b : BuildsPath ρ x n es ls k) → (ks : List Kind) → FittingPath b ks →
         AllApart es → NoneGoOn p (x ∷ []) es → are_fresh (numbers_of ls) ρ ≡ true → PathKept w p ρ x ls n (job_gists w es ks) k
-    sizes_path p ρ x n es ls k (rows.last_level _ _ e d l _ b c) ks f u v r =
-        (sizes None ρ e l.index b tt (take (nodes e) ks) f.0 u.0,
-        (sizes None (numbered (x ∷ []) (l.number ∷ []) ρ) d k c tt (take (nodes d) (drop (nodes e) ks)) f.1 u.1.0,
-        right_apart ρ x l.number d k p c (and_left (fresh l.number ρ) true r) v.1.0))
-    sizes_path p ρ x n es ls k (rows.one_level _ _ m e fs l y ys _ b c) ks f u v r =
-        (sizes None ρ e l.index b tt (take (nodes e) ks) f.0 u.0,
-        sizes_path p ρ x m fs (y ∷ ys) k c (drop (nodes e) ks) f.1 u.1 v.1 (and_right (fresh l.number ρ) (are_fresh (numbers_of (y ∷ ys)) ρ) r))
+    sizes_path p ρ x n es ls k (rows.last_level _ _ e d l _ b c) ks f u v r = (
+      sizes None ρ e l.index b tt (take (nodes e) ks) f.0 u.0,
+      (
+        sizes None (numbered (x ∷ []) (l.number ∷ []) ρ) d k c tt (take (nodes d) (drop (nodes e) ks)) f.1 u.1.0,
+        right_apart ρ x l.number d k p c (and_left (fresh l.number ρ) true r) v.1.0,
+      ),
+    )
+    sizes_path p ρ x n es ls k (rows.one_level _ _ m e fs l y ys _ b c) ks f u v r = (
+      sizes None ρ e l.index b tt (take (nodes e) ks) f.0 u.0,
+      sizes_path p ρ x m fs (y ∷ ys) k c (drop (nodes e) ks) f.1 u.1 v.1 (and_right (fresh l.number ρ) (are_fresh (numbers_of (y ∷ ys)) ρ) r),
+    )
 
     sizes_changes : (p : Place) (ρ : Numbering) (x : List ℕ) (ns : List ℕ) (es : List Expr) (us : List Change) (b : BuildsChanges ρ x ns es us) → (ks : List Kind) → FittingChanges b ks →
         AllApart es → NoneGoOn p (x ∷ []) es → are_fresh (level_numbers us) ρ ≡ true → ChangesKept w p ρ x ns (job_gists w es ks) us
     sizes_changes p ρ x ns es us (rows.no_changes _ _) ks f u v r = tt
     sizes_changes p ρ x ns es us (rows.one_change _ _ n ms _ c cs b d) ks f u v r =
-        let fr = levels_fresh c cs ρ r in
-        (subst (λ (l : Gists). PathKept w p ρ x c.levels n l c.right) (sym (front_gists w (suc n) es ks))
-        (sizes_path p ρ x n (take (suc n) es) c.levels c.right b ks f.0 (apart_take (suc n) es u) (none_take p (x ∷ []) (suc n) es v) fr.0),
-        subst (λ (l : Gists). ChangesKept w p ρ x ms l cs) (sym (rest_gists w (suc n) es ks))
-        (sizes_changes p ρ x ms (drop (suc n) es) cs d (behind (suc n) es ks) f.1 (apart_drop (suc n) es u) (none_drop p (x ∷ []) (suc n) es v) fr.1))
+        let fr = levels_fresh c cs ρ r in (
+          subst (λ (l : Gists). PathKept w p ρ x c.levels n l c.right) (sym (front_gists w (suc n) es ks))
+              (sizes_path p ρ x n (take (suc n) es) c.levels c.right b ks f.0 (apart_take (suc n) es u) (none_take p (x ∷ []) (suc n) es v) fr.0),
+          subst (λ (l : Gists). ChangesKept w p ρ x ms l cs) (sym (rest_gists w (suc n) es ks))
+              (sizes_changes p ρ x ms (drop (suc n) es) cs d (behind (suc n) es ks) f.1 (apart_drop (suc n) es u) (none_drop p (x ∷ []) (suc n) es v) fr.1),
+        )
 
 pub each_keeps_sizes : (w : ℕ) (i : Option Assignable) (ρ : Numbering) (e : Expr) (k : Ker) (ks : List Kind) (g h : Extent) → KeepsSizes w i ρ e k ks g h
 each_keeps_sizes w i ρ e k ks g h wide q a b f t s =

@@ -8,7 +8,6 @@ use Rattle.tla_meaning.specs.declared.expr.Expr.{Expr}
 use Rattle.tla_meaning.specs.declared.expr.Decl.{Decl}
 use Rattle.tla_meaning.specs.declared.job.Job.{Job}
 use Rattle.tla_meaning.specs.Executions.{in_cinit, in_init, in_next}
-use Rattle.snowcat_rows.specs.declared.types.Ty.{Ty}
 use Rattle.snowcat_rows.specs.declared.types.Typed.{Typed}
 use Rattle.kernel_trees.specs.Paths.{Marks, marks_below}
 use Rattle.kernel_trees.specs.TypeKinds.{Kind, kind_of}
