@@ -8,6 +8,7 @@ use Rattle.tla_meaning.specs.declared.expr.Expr.TheOpen.{Expr-F}
 use Rattle.tla_meaning.specs.declared.op.Op.{Op}
 use Rattle.tla_meaning.specs.declared.op.Op.TheVariants as op
 use Rattle.tla_meaning.specs.declared.place.Place.{Place}
+use Rattle.tla_meaning.specs.Scopes.{find_last}
 use Rattle.tla_meaning.proofs.Views.{and_left, and_right, false≢true}
 use Rattle.snowcat_rows.specs.declared.types.Ty.{Ty}
 use Rattle.kernel_trees.specs.declared.kernel.Ker.{Ker}
@@ -20,7 +21,7 @@ use Rattle.kernel_shapes.proofs.KernelNodes.{first_kinds}
 use Rattle.kernel_shapes.proofs.TreeLemmas.{parts_of}
 use Rattle.kera_reducer.specs.JobPaths.{nodes}
 use Rattle.kera_reducer.specs.Reduction.{Numbering, are_fresh, fresh, numbered, mentioned, mentioned_at, any_mentioned}
-use Rattle.kera_reducer.specs.SizeLaws.{is_apart, KeepsSizes}
+use Rattle.kera_reducer.specs.SizeLaws.{is_apart, KeepsPartSizes, KeepsSizes}
 use Rattle.kera_reducer.specs.Laws.{IsSilent}
 use Rattle.kera_reducer.specs.inner.Builds as rows
 use Rattle.kera_reducer.specs.inner.Builds.{Builds, BuildsEach, BuildsNode, BuildsPath, BuildsChanges, is_same}
@@ -247,3 +248,8 @@ pub each_keeps_sizes : (w : ℕ) (i : Option Assignable) (ρ : Numbering) (e : E
 each_keeps_sizes w i ρ e k ks g h wide q a b f t s =
     let r = sizes w wide i ρ e k b q ks f a g h t s in
     record { shape = ap (λ (y : Gist). y.shape) r; first = λ q. ap (λ (y : Gist). y.rank q) r }
+
+pub each_part_keeps_sizes : (w : ℕ) (e : Expr) (k : Ker) (ks : List Kind) (g : Extent) → KeepsPartSizes w e k ks g
+each_part_keeps_sizes w e k ks g wide a b f n s =
+    each_keeps_sizes w None [] e k ks g g wide tt a b f
+    (record { now = refl; next = refl; bound = λ x. ap (find_last x) n }) s

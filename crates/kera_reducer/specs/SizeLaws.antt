@@ -1,5 +1,5 @@
 -- What the reduction keeps of shapes and numbers.
-use Rattle.std.specs.Prelude.{◌≡◌, ◌≤◌, ℕ, Bool, false, not, ◌&&◌, ◌||◌, IsTrue, List, [], ◌∷◌, drop, Option, option_and_then}
+use Rattle.std.specs.Prelude.{◌≡◌, ◌≤◌, ℕ, Bool, false, not, ◌&&◌, ◌||◌, IsTrue, List, [], ◌∷◌, drop, Option, None, option_and_then}
 use Rattle.std.specs.List.{list_all}
 use Rattle.tla_meaning.specs.declared.actions.Assignable.{Assignable}
 use Rattle.tla_meaning.specs.declared.expr.Expr.{Expr, out-Expr}
@@ -71,3 +71,9 @@ abbrev pub KeepsSizes : ℕ → Option Assignable → Numbering → Expr → Ker
 KeepsSizes w i ρ e k ks g h =
     2 ≤ w → IsSilent i e → IsTrue (is_apart e) → (b : Builds i ρ e k) → Fitting b ks → TiedShapes ρ g h →
     IsTrue (ker_sized w k h).sound → SameSize ((tree_sized w e).sizing ks g) (ker_sized w k h)
+
+-- so of a part of a job that is no action, in which no name is bound: the assumption or an invariant
+abbrev pub KeepsPartSizes : ℕ → Expr → Ker → List Kind → Extent → Type 0
+KeepsPartSizes w e k ks g =
+    2 ≤ w → IsTrue (is_apart e) → (b : Builds None [] e k) → Fitting b ks → g.bound ≡ [] →
+    IsTrue (ker_sized w k g).sound → SameSize ((tree_sized w e).sizing ks g) (ker_sized w k g)
