@@ -43,28 +43,22 @@ found_old n m v bs h =
     ∙ ap (λ c. or_else (or_else None (if c then Some v else None)) (find_last (number_name n) bs)) (names_apart n m h)
 
 module _ (ρ : Numbering) (as' bs : Bound) (r : TiedBound ρ as' bs) (n : ℕ) (h : fresh n ρ ≡ true) (v : Shape) where
-  old_names : (z : List ℕ) (o : Option ℕ) → find_last z ρ ≡ o →
-      option_and_then (λ k. find_last (number_name k) bs) o ≡ option_and_then (λ k. find_last (number_name k) (bs ++ (number_name n, v) ∷ [])) o
-  old_names z None q = refl
-  old_names z (Some k) q =
-      sym (find-append (number_name k) bs ((number_name n, v) ∷ [])
-      ∙ ap (λ c. or_else (or_else None (if c then Some v else None)) (find_last (number_name k) bs)) (found_fresh ρ z n k h q))
+  old_number : (z : List ℕ) (k : ℕ) → find_last z ρ ≡ Some k → find_last (number_name k) (bs ++ (number_name n, v) ∷ []) ≡ find_last (number_name k) bs
+  old_number z k q =
+      find-append (number_name k) bs ((number_name n, v) ∷ [])
+      ∙ ap (λ c. or_else (or_else None (if c then Some v else None)) (find_last (number_name k) bs)) (found_fresh ρ z n k h q)
 
-  tied_by : (x z : List ℕ) (c : Bool) →
-      or_else (or_else None (if c then Some v else None)) (find_last z as')
-      ≡ option_and_then (λ k. find_last (number_name k) (bs ++ (number_name n, v) ∷ [])) (or_else (or_else None (if c then Some n else None)) (find_last z ρ))
-  tied_by x z true = sym (found_new n v bs)
-  tied_by x z false = r z ∙ old_names z (find_last z ρ) refl
+  tied_by : (z : List ℕ) (k : ℕ) (c : Bool) → or_else (or_else None (if c then Some n else None)) (find_last z ρ) ≡ Some k →
+      or_else (or_else None (if c then Some v else None)) (find_last z as') ≡ find_last (number_name k) (bs ++ (number_name n, v) ∷ [])
+  tied_by z k true q = sym (found_new n v bs) ∙ ap (λ m. find_last (number_name m) (bs ++ (number_name n, v) ∷ [])) (some_same q)
+  tied_by z k false q = r z k q ∙ sym (old_number z k q)
 
   tied_one : (x : List ℕ) → TiedBound (ρ ++ (x, n) ∷ []) (as' ++ (x, v) ∷ []) (bs ++ (number_name n, v) ∷ [])
-  tied_one x z =
-      find-append z as' ((x, v) ∷ [])
-      ∙ tied_by x z (same_text z x)
-      ∙ ap (option_and_then (λ k. find_last (number_name k) (bs ++ (number_name n, v) ∷ []))) (sym (find-append z ρ ((x, n) ∷ [])))
+  tied_one x z k q = find-append z as' ((x, v) ∷ []) ∙ tied_by z k (same_text z x) (sym (find-append z ρ ((x, n) ∷ [])) ∙ q)
 
   -- a number that no name has
   tied_unread : TiedBound ρ as' (bs ++ (number_name n, v) ∷ [])
-  tied_unread z = r z ∙ old_names z (find_last z ρ) refl
+  tied_unread z k q = r z k q ∙ sym (old_number z k q)
 
 -- with one more in front of the rest
 in_front : (ρ : Numbering) (as' bs cs ds : Bound) (x y : List ℕ × Shape) → TiedBound ρ ((as' ++ x ∷ []) ++ cs) ((bs ++ y ∷ []) ++ ds) → TiedBound ρ (as' ++ x ∷ cs) (bs ++ y ∷ ds)

@@ -56,9 +56,7 @@ module _ (w : ℕ) (ρ : Numbering) (p : Place) (xs : List (List ℕ)) (ps : Lis
       by false = ap (λ (l : List (Option Shape)). of_name p (option_and_then (λ o. o) (slice_get l i))) t.now
 
   pub sizes_bound : (a : Ty) (x : List ℕ) (n : ℕ) → find_last x ρ ≡ Some n → KeepsGist w ρ (node_at w p (op.Bound x) xs ps k js []) (bound p a n)
-  sizes_bound a x n f g h t s =
-      ap (of_name p) (t.bound x ∙ ap (option_and_then (λ m. find_last (number_name m) h.bound)) f)
-      ∙ sym (bound_gist w p a n h)
+  sizes_bound a x n f g h t s = ap (of_name p) (t.bound x n f) ∙ sym (bound_gist w p a n h)
 
   module _ (zs : Gists) where
     pub sizes_noted : (x : List ℕ) (l : Ker) → KeepsGists w ρ zs (l ∷ []) → KeepsGist w ρ (node_at w p (op.Noted x) xs ps k js zs) l

@@ -8,7 +8,7 @@ use Rattle.tla_meaning.specs.declared.expr.Expr.TheOpen.{Expr-F}
 use Rattle.tla_meaning.specs.declared.op.Op.{Op}
 use Rattle.tla_meaning.specs.declared.op.Op.TheVariants as op
 use Rattle.tla_meaning.specs.declared.place.Place.{Place}
-use Rattle.tla_meaning.specs.Scopes.{find_last}
+use Rattle.tla_meaning.proofs.Laws.{none≢some}
 use Rattle.tla_meaning.proofs.Views.{and_left, and_right, false≢true}
 use Rattle.snowcat_rows.specs.declared.types.Ty.{Ty}
 use Rattle.kernel_trees.specs.declared.kernel.Ker.{Ker}
@@ -250,6 +250,6 @@ each_keeps_sizes w i ρ e k ks g h wide q a b f t s =
     record { shape = ap (λ (y : Gist). y.shape) r; first = λ q. ap (λ (y : Gist). y.rank q) r }
 
 pub each_part_keeps_sizes : (w : ℕ) (e : Expr) (k : Ker) (ks : List Kind) (g : Extent) → KeepsPartSizes w e k ks g
-each_part_keeps_sizes w e k ks g wide a b f n s =
+each_part_keeps_sizes w e k ks g wide a b f s =
     each_keeps_sizes w None [] e k ks g g wide tt a b f
-    (record { now = refl; next = refl; bound = λ x. ap (find_last x) n }) s
+    (record { now = refl; next = refl; bound = λ x n q. absurd (none≢some q) }) s

@@ -1,5 +1,5 @@
 -- What the reduction keeps of shapes and numbers.
-use Rattle.std.specs.Prelude.{◌≡◌, ◌≤◌, ℕ, Bool, false, not, ◌&&◌, ◌||◌, IsTrue, List, [], ◌∷◌, drop, Option, None, option_and_then}
+use Rattle.std.specs.Prelude.{◌≡◌, ◌≤◌, ℕ, Bool, false, not, ◌&&◌, ◌||◌, IsTrue, List, [], ◌∷◌, drop, Option, Some, None}
 use Rattle.std.specs.List.{list_all}
 use Rattle.tla_meaning.specs.declared.actions.Assignable.{Assignable}
 use Rattle.tla_meaning.specs.declared.expr.Expr.{Expr, out-Expr}
@@ -22,10 +22,9 @@ use Rattle.kera_reducer.specs.Reduction.{Numbering}
 use Rattle.kera_reducer.specs.inner.Builds.{Builds}
 use Rattle.kera_reducer.specs.inner.Fitting.{Fitting}
 
--- each name has the shape of its number
+-- each name that has a number has its shape; other names may have any
 abbrev pub TiedBound : Numbering → List (List ℕ × Shape) → List (List ℕ × Shape) → Type 0
-TiedBound ρ as' bs =
-    (x : List ℕ) → find_last x as' ≡ option_and_then (λ n. find_last (number_name n) bs) (find_last x ρ)
+TiedBound ρ as' bs = (x : List ℕ) (n : ℕ) → find_last x ρ ≡ Some n → find_last x as' ≡ find_last (number_name n) bs
 
 -- and declared names have the same shapes
 pub record TiedShapes (ρ : Numbering) (g h : Extent) : Type 0 where
@@ -72,8 +71,8 @@ KeepsSizes w i ρ e k ks g h =
     2 ≤ w → IsSilent i e → IsTrue (is_apart e) → (b : Builds i ρ e k) → Fitting b ks → TiedShapes ρ g h →
     IsTrue (ker_sized w k h).sound → SameSize ((tree_sized w e).sizing ks g) (ker_sized w k h)
 
--- so of a part of a job that is no action, in which no name is bound: the assumption or an invariant
+-- so of a part of a job that is no action: the assumption or an invariant
 abbrev pub KeepsPartSizes : ℕ → Expr → Ker → List Kind → Extent → Type 0
 KeepsPartSizes w e k ks g =
-    2 ≤ w → IsTrue (is_apart e) → (b : Builds None [] e k) → Fitting b ks → g.bound ≡ [] →
-    IsTrue (ker_sized w k g).sound → SameSize ((tree_sized w e).sizing ks g) (ker_sized w k g)
+    2 ≤ w → IsTrue (is_apart e) → (b : Builds None [] e k) → Fitting b ks → IsTrue (ker_sized w k g).sound →
+    SameSize ((tree_sized w e).sizing ks g) (ker_sized w k g)
