@@ -7,7 +7,7 @@ use Rattle.tla_meaning.specs.declared.place.Place.{Place}
 use Rattle.kernel_trees.specs.Paths.{Marks}
 use Rattle.kernel_shapes.specs.Shape.{Num, Set, Fun, Rec, Empty, shapes}
 use Rattle.kernel_shapes.specs.Counts.{Count, refusal}
-use Rattle.kernel_shapes.specs.Levels.{Path, Parts, Guard, Equals, Among, level_numbers, refused}
+use Rattle.kernel_shapes.specs.Levels.{Path, Parts, Guard, Pick, Equals, Among, level_numbers, refused}
 use Rattle.kernel_shapes.specs.Sized.{Extent, Sizing, no_size, walked, picked_from}
 use Rattle.kernel_shapes.proofs.TreeLemmas.{size-roll, shape-roll, counts-roll, literal-roll}
 use Rattle.kera_reducer.specs.JobParts.{sized_job_paths, typed_sized}
@@ -96,6 +96,21 @@ guarded = simp (job_ways-roll, nodes-roll, below-roll, out-roll-Expr)
 -- what follows FALSE is on no path
 never_reached : on_step (tree 1 op.And (tree 2 (op.Bool false) [] ∷ becomes 4 (many 5) ∷ [])) ≡ (Guard (of_tree (tree 2 (op.Bool false) [])) ∷ []) ∷ []
 never_reached = simp (job_ways-roll, nodes-roll, below-roll, out-roll-Expr)
+
+-- \E x \in 1..2: (\E x \in 1..70000: x' = 1) /\ 1..x = {} has a name bound again, as a definition that is written out
+-- may have. Along the path the last step reads the inner one, where the language reads the outer one: see `JobParts`
+abbrev two : Expr
+two = tree 30 op.Range (number 30 1 ∷ number 31 2 ∷ [])
+
+abbrev some_name : ℕ → Expr → Expr → Expr
+some_name n a b = roll-Expr (record { place = at n; op = op.Exists; args = a ∷ b ∷ []; binds = name_x ∷ [] })
+
+abbrev last : Expr
+last = tree 41 op.Eq (tree 40 op.Range (number 40 1 ∷ tree 42 (op.Bound name_x) [] ∷ []) ∷ empty 43 ∷ [])
+
+bound_again : on_step (some_name 28 two (tree 35 op.And (some_name 32 (many 33) (becomes 34 (number 34 1)) ∷ last ∷ [])))
+    ≡ (Pick ((name_x, of_tree two) ∷ []) ∷ Pick ((name_x, of_tree (many 33)) ∷ []) ∷ Equals 0 (of_tree (number 34 1)) ∷ Guard (of_tree last) ∷ []) ∷ []
+bound_again = simp (job_ways-roll, nodes-roll, below-roll, out-roll-Expr)
 
 -- ---- levels
 

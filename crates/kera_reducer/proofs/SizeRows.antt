@@ -9,7 +9,6 @@ use Rattle.tla_meaning.proofs.Views.{and_left, and_right, false≢true}
 use Rattle.snowcat_rows.specs.declared.types.Ty.{Ty}
 use Rattle.kernel_trees.specs.declared.kernel.Ker.{Ker}
 use Rattle.kernel_trees.specs.declared.kernel.KerOp.TheVariants as ker
-use Rattle.kernel_trees.specs.Trees.{number_name}
 use Rattle.kernel_trees.specs.TypeKinds.{Kind}
 use Rattle.kernel_shapes.specs.Shape.{Shape, Empty, join, join_all, alike, alike_all, interval}
 use Rattle.kernel_shapes.specs.Rows.{no_literal, branches_of, row_shape, a_negation, a_difference, an_enumeration, a_choice}

@@ -1,7 +1,9 @@
 -- A job's own parts for shapes: the numbers of its typed trees, along the paths of CInit, Init and Next. On a path a primed
 -- name has the shape of its assignment there; so have a variable in Init and a constant in CInit. A node that stands on
--- no path has no shape and no number. Source: Konnov, Kukovec and Tran, "TLA+ Model Checking Made Symbolic", OOPSLA 2019,
--- on the static bounds of cells and arenas, and on assignments.
+-- no path has no shape and no number. A path knows bound names by their texts and keeps them to its end, so this says
+-- what the language means only where no name is bound again in its scope: `\E i \in S: (\E i \in T: x' = i) /\ y' = i`
+-- reads the inner i in its last step, and its kernel the outer one. Source: Konnov, Kukovec and Tran, "TLA+ Model
+-- Checking Made Symbolic", OOPSLA 2019, on the static bounds of cells and arenas, and on assignments.
 use Rattle.std.specs.Prelude.{ℕ, suc, List, [], ◌∷◌, map, length}
 use Rattle.tla_meaning.specs.declared.actions.Assignable.{Assignable}
 use Rattle.tla_meaning.specs.declared.expr.Expr.{Expr}

@@ -117,7 +117,8 @@ abbrev mutual
   FittingNode (rows.except ρ p cs e es x a f u us g h b c) ks =
       Fitting b (take (nodes e) (drop 1 ks)) × FittingChanges c (drop (nodes e) (drop 1 ks))
   FittingNode (rows.except_let ρ p cs e es x l t f us g h b c) ks =
-      LetTypes l × (PairTypes t (all_levels us) × (Fitting b (take (nodes e) (drop 1 ks)) × FittingChanges c (drop (nodes e) (drop 1 ks))))
+      LetTypes l × (PairTypes t (all_levels us)
+      × (Fitting b (take (nodes e) (drop 1 ks)) × FittingChanges c (drop (nodes e) (drop 1 ks))))
   FittingNode (rows.cases ρ p other es xs a kers f b) ks = FittingEach b (drop 1 ks)
   FittingNode (rows.as_value m ρ p o es xs k f b) ks = FittingNode b ks
   FittingNode (rows.conjunction m ρ p es xs a kers b) ks = FittingEach b (drop 1 ks)
@@ -133,4 +134,5 @@ abbrev mutual
   FittingArms (rows.no_arms m ρ) ks = Unit {0}
   FittingArms (rows.other_arm m ρ e k b) ks = Fitting b (take (nodes e) ks)
   FittingArms (rows.one_arm m ρ c e g k es xs o a b d) ks =
-      Fitting a (take (nodes c) ks) × (Fitting b (take (nodes e) (drop (nodes c) ks)) × FittingArms d (drop (nodes e) (drop (nodes c) ks)))
+      Fitting a (take (nodes c) ks)
+      × (Fitting b (take (nodes e) (drop (nodes c) ks)) × FittingArms d (drop (nodes e) (drop (nodes c) ks)))
