@@ -10,3 +10,5 @@ pub mod Laws
 pub mod Origins
 pub mod BuiltJobs
 pub mod inner
+pub mod SizeLaws
+pub mod JobParts

@@ -6,6 +6,7 @@
 
 mod finite;
 mod path_theorems;
+mod size_theorems;
 mod texts;
 mod theorems;
 
@@ -15,5 +16,6 @@ pub use path_theorems::{
     built_jobs_keep_outcomes_and_paths, built_jobs_keep_places_and_texts,
     built_trees_keep_places_and_names,
 };
+pub use size_theorems::built_trees_keep_shapes_and_refusals;
 pub use texts::texts_of;
 pub use theorems::what_is_built_keeps_its_outcomes;
