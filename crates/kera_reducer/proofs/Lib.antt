@@ -44,3 +44,16 @@ pub mod BuildExamples
 pub mod SoundMade
 pub mod SoundChanges
 pub mod SoundExcepts
+pub mod FieldOrder
+pub mod KindsOf
+pub mod SameRows
+pub mod KindTies
+pub mod SoundForms
+pub mod BuiltParts
+pub mod RowsDone
+pub mod NodeRows
+pub mod ChoiceRows
+pub mod SameDone
+pub mod LiteralRoots
+pub mod BuiltSound
+pub mod SoundJobs

@@ -5,4 +5,7 @@ pub mod PathLaws
 pub mod Laws
 pub mod Origins
 pub mod BuiltJobs
+pub mod Infinite
+pub mod Whole
+pub mod SoundLaws
 pub mod inner

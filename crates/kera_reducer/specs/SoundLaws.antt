@@ -1,0 +1,64 @@
+-- What the reduction makes of a typed job is sound, as a law. Source: the Apalache manual, "Type System 1.2: Type
+-- annotations", and Konnov, Kukovec and Tran, "TLA+ Model Checking Made Symbolic", OOPSLA 2019, on the reduction to KerA+.
+use Rattle.std.specs.Prelude.{◌≡◌, ℕ, Bool, true, false, ◌&&◌, IsTrue, List, [], ◌∷◌, map, length, Option, Some, None, is_some}
+use Rattle.std.specs.List.{list_all}
+use Rattle.tla_meaning.specs.declared.actions.Assignable.{Assignable}
+use Rattle.tla_meaning.specs.declared.expr.Expr.{Expr}
+use Rattle.tla_meaning.specs.declared.job.Job.{Job}
+use Rattle.tla_meaning.specs.Executions.{in_cinit, in_init, in_next}
+use Rattle.snowcat_rows.specs.declared.types.Ty.{Ty}
+use Rattle.snowcat_rows.specs.declared.types.Typed.{Typed}
+use Rattle.snowcat_types.specs.Answers.{MeetsRows}
+use Rattle.snowcat_types.specs.Systems.{parts_of}
+use Rattle.kernel_trees.specs.declared.kernel.Ker.{Ker}
+use Rattle.kernel_trees.specs.declared.system.KerJob.{KerJob}
+use Rattle.kernel_trees.specs.Sound.{kind_at, passes, sound}
+use Rattle.kernel_trees.specs.Systems.{kinds_of_names, parts}
+use Rattle.kernel_trees.specs.TypeKinds.{Kind, Truth, is_kind, kind_of}
+use Rattle.kera_reducer.specs.Infinite.{infinite_places}
+use Rattle.kera_reducer.specs.Reduction.{Numbering}
+use Rattle.kera_reducer.specs.Whole.{is_whole}
+use Rattle.kera_reducer.specs.inner.Builds.{Builds}
+use Rattle.kera_reducer.specs.inner.BuildsTyped.{BuildsTyped}
+
+-- what is built with types is built
+abbrev pub IsBuiltTooTyped : Option Assignable → Numbering → Expr → List Ty → Ker → List Ty → Type 0
+IsBuiltTooTyped i ρ e ts k us = BuildsTyped i ρ e ts k us → Builds i ρ e k
+
+-- ---- jobs
+
+-- each type of a name has a kind; so has each of a part, and the first is that of truth values
+abbrev pub has_kind : Ty → Bool
+has_kind t = is_some (kind_of t)
+
+abbrev pub is_truth_first : List Ty → Bool
+is_truth_first [] = false
+is_truth_first (t ∷ ts) = is_kind Truth (kind_of t)
+
+abbrev pub are_kinded : Typed → Bool
+are_kinded t = list_all has_kind t.names && list_all (λ ts. list_all has_kind ts && is_truth_first ts) t.parts
+
+abbrev pub is_whole_job : ℕ → Job → Bool
+is_whole_job n job = list_all (is_whole n) (parts_of job)
+
+-- the positions of the parts
+abbrev pub positions : Job → List (Option Assignable)
+positions job =
+    Some (in_cinit job) ∷ None ∷ Some (in_init job) ∷ Some (in_next job) ∷ map (λ e. None) job.invs
+
+-- each part is built in its position, of all types of the part
+abbrev pub AllBuilt : List (Option Assignable) → List Expr → List (List Ty) → List Ker → Type 0
+AllBuilt [] [] [] [] = Unit {0}
+AllBuilt (i ∷ is) (e ∷ es) (ts ∷ tss) (k ∷ ks) = BuildsTyped i [] e ts k [] × AllBuilt is es tss ks
+AllBuilt is es tss ks = ⊥
+
+abbrev pub is_sound_truth : List Kind → Ker → Bool
+is_sound_truth names p = is_kind Truth (kind_at p) && sound names p [] false
+
+-- of a job whose trees are whole, with no infinite set outside a form position, and whose types have kinds and meet the
+-- rows of the type table: each part of its kernel is a truth value and sound over the kinds of the names
+abbrev pub PartsAreSound : Job → Typed → KerJob → Type 0
+PartsAreSound job t k =
+    IsTrue (is_whole_job (length t.names) job) → infinite_places job ≡ [] → IsTrue (are_kinded t) → MeetsRows job t →
+    k.names ≡ t.names → AllBuilt (positions job) (parts_of job) t.parts (parts k) →
+    IsTrue (passes (λ names. list_all (is_sound_truth names) (parts k)) (kinds_of_names k))
