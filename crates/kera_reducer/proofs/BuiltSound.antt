@@ -577,7 +577,7 @@ module _ (names : List Kind) where
         (λ n. false) met.fine.below refl rest reads in
         let z = only_out c (λ n. false) int_type r.kinds k r.are r.all in
         (r.reads, number_out c b (mean t) _ met.result (minus_done names c p k (as_number names c z.0 k z.1 z.2)))
-    node_sound _ _ _ _ _ _ _ _ _ _ (finite ρ p t es xs k n ts us d) g kn c tie b tss met a q rest act reads =
+    node_sound _ _ _ _ _ _ _ _ _ _ (finite ρ p t es xs k n ts us fr d) g kn c tie b tss met a q rest act reads =
         let r =
         values_sound ρ es ts (k ∷ []) us (each_sound None ρ es ts (k ∷ []) us d) g kn c tie p op.IsFinite xs b (mean t) tss met
         (λ n. false) met.fine.below refl rest reads in
@@ -596,14 +596,14 @@ module _ (names : List Kind) where
             anywhere names c b (Set Truth) _ (truths_done names c p t q'),
           ),
         )
-    node_sound _ _ _ _ _ _ _ _ _ _ (equivalent ρ p t es xs u n k m ts us ap' d) g kn c tie b tss met a q rest act reads =
+    node_sound _ _ _ _ _ _ _ _ _ _ (equivalent ρ p t es xs u n k m ts us ap' fr d) g kn c tie b tss met a q rest act reads =
         let r =
         values_sound ρ es ts (k ∷ m ∷ []) us (each_sound None ρ es ts (k ∷ m ∷ []) us d) g kn c tie p op.Iff xs b (mean t) tss met
         (λ n. false) met.fine.below refl rest reads in
         let z = only_two c 0 bool_type bool_type r.kinds k m r.are r.all in
         (r.reads, truth_out names c b (mean t) _ met.result
           (equivalence_done names c p u n k m ap' (as_truth names c z.0 k z.2 z.4) (as_truth names c z.1 m z.3 z.5)))
-    node_sound _ _ _ _ _ _ _ _ _ _ (one_pair ρ p t es xs u n z0 k m ts us ap' zz d) g kn c tie b tss met a q rest act reads =
+    node_sound _ _ _ _ _ _ _ _ _ _ (one_pair ρ p t es xs u n z0 k m ts us ap' fr zz d) g kn c tie b tss met a q rest act reads =
         let r =
         values_sound ρ es ts (k ∷ m ∷ []) us (each_sound None ρ es ts (k ∷ m ∷ []) us d) g kn c tie p op.Single xs b (mean t) tss met
         (λ n. false) met.fine.below refl rest reads in
@@ -616,10 +616,10 @@ module _ (names : List Kind) where
           (
             Fun z.0 z.1,
             (t, q', refl),
-            anywhere names c b (Fun z.0 z.1) _ (single_done names c p t u n z0 k m z.0 z.1 q' ap' zz z.4 z.5),
+            anywhere names c b (Fun z.0 z.1) _ (single_done names c p t u n z0 k m z.0 z.1 q' ap' zz.1 z.4 z.5),
           ),
         )
-    node_sound _ _ _ _ _ _ _ _ _ _ (power ρ p t es xs u n k m j ts us ap' m1 m2 d) g kn c tie b tss met a q rest act reads =
+    node_sound _ _ _ _ _ _ _ _ _ _ (power ρ p t es xs u n k m j ts us ap' fr m1 m2 d) g kn c tie b tss met a q rest act reads =
         let r =
         values_sound ρ es ts (k ∷ m ∷ []) us (each_sound None ρ es ts (k ∷ m ∷ []) us d) g kn c tie p op.Pow xs b (mean t) tss met
         (λ n. false) met.fine.below refl rest reads in
@@ -627,7 +627,7 @@ module _ (names : List Kind) where
         let q' : kind_of t ≡ Some Number = q ∙ ap Some (is_number a (t, q, met.result)) in
         (r.reads, number_out c b (mean t) _ met.result
           (power_done names c p t u n j k q' ap' (as_number names c z.0 k z.2 z.4)))
-    node_sound _ _ _ _ _ _ _ _ _ _ (high_power ρ p t es xs u n k m j ts us ap' m1 m2 d) g kn c tie b tss met a q rest act reads =
+    node_sound _ _ _ _ _ _ _ _ _ _ (high_power ρ p t es xs u n k m j ts us ap' fr m1 m2 d) g kn c tie b tss met a q rest act reads =
         let r =
         values_sound ρ es ts (k ∷ m ∷ []) us (each_sound None ρ es ts (k ∷ m ∷ []) us d) g kn c tie p op.Pow xs b (mean t) tss met
         (λ n. false) met.fine.below refl rest reads in
@@ -679,7 +679,7 @@ module _ (names : List Kind) where
                 (item_is names c p t j k w.0 a q w.2 (subst (λ v. Child names c false v k) w.1 z.4)),
           ),
         )
-    node_sound _ _ _ _ _ _ _ _ _ _ (high_item ρ p t es xs u n k m j ts us apart fo em gt d) g kn c tie b tss met a q rest act reads =
+    node_sound _ _ _ _ _ _ _ _ _ _ (high_item ρ p t es xs u n k m j ts us apart fr fo em gt d) g kn c tie b tss met a q rest act reads =
         let r =
         values_sound ρ es ts (k ∷ m ∷ []) us (each_sound None ρ es ts (k ∷ m ∷ []) us d) g kn c tie p op.Apply xs b (mean t) tss met
         (λ n. false) met.fine.below refl rest reads in

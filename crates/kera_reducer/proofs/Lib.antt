@@ -57,3 +57,5 @@ pub mod SameDone
 pub mod LiteralRoots
 pub mod BuiltSound
 pub mod SoundJobs
+pub mod TypedBuilt
+pub mod SoundTexts

@@ -1,11 +1,12 @@
 -- What the reduction makes of a typed job is sound, as a law. Source: the Apalache manual, "Type System 1.2: Type
 -- annotations", and Konnov, Kukovec and Tran, "TLA+ Model Checking Made Symbolic", OOPSLA 2019, on the reduction to KerA+.
-use Rattle.std.specs.Prelude.{◌≡◌, ℕ, Bool, true, false, ◌&&◌, IsTrue, List, [], ◌∷◌, map, length, Option, Some, None, is_some}
-use Rattle.std.specs.List.{list_all}
+use Rattle.std.specs.Prelude.{◌≡◌, ℕ, Bool, true, false, not, ◌&&◌, IsTrue, List, [], ◌∷◌, map, length, Option, Some, None, is_some}
+use Rattle.std.specs.List.{list_all, list_any}
 use Rattle.tla_meaning.specs.declared.actions.Assignable.{Assignable}
 use Rattle.tla_meaning.specs.declared.expr.Expr.{Expr}
 use Rattle.tla_meaning.specs.declared.job.Job.{Job}
 use Rattle.tla_meaning.specs.Executions.{in_cinit, in_init, in_next}
+use Rattle.tla_meaning.specs.Scopes.{same_text}
 use Rattle.snowcat_rows.specs.declared.types.Ty.{Ty}
 use Rattle.snowcat_rows.specs.declared.types.Typed.{Typed}
 use Rattle.snowcat_types.specs.Answers.{MeetsRows}
@@ -13,17 +14,18 @@ use Rattle.snowcat_types.specs.Systems.{parts_of}
 use Rattle.kernel_trees.specs.declared.kernel.Ker.{Ker}
 use Rattle.kernel_trees.specs.declared.system.KerJob.{KerJob}
 use Rattle.kernel_trees.specs.Sound.{kind_at, passes, sound}
-use Rattle.kernel_trees.specs.Systems.{kinds_of_names, parts}
+use Rattle.kernel_trees.specs.Systems.{kinds_of_names, parts, texts_within}
 use Rattle.kernel_trees.specs.TypeKinds.{Kind, Truth, is_kind, kind_of}
 use Rattle.kera_reducer.specs.Infinite.{infinite_places}
+use Rattle.kera_reducer.specs.Origins.{has_node}
 use Rattle.kera_reducer.specs.Reduction.{Numbering}
 use Rattle.kera_reducer.specs.Whole.{is_whole}
 use Rattle.kera_reducer.specs.inner.Builds.{Builds}
 use Rattle.kera_reducer.specs.inner.BuildsTyped.{BuildsTyped}
 
--- what is built with types is built
-abbrev pub IsBuiltTooTyped : Option Assignable → Numbering → Expr → List Ty → Ker → List Ty → Type 0
-IsBuiltTooTyped i ρ e ts k us = BuildsTyped i ρ e ts k us → Builds i ρ e k
+-- what is built with types is built by the same rows
+abbrev pub IsBuiltBeside : Option Assignable → Numbering → Expr → List Ty → Ker → List Ty → Type 0
+IsBuiltBeside i ρ e ts k us = BuildsTyped i ρ e ts k us → Builds i ρ e k
 
 -- ---- jobs
 
@@ -62,3 +64,18 @@ PartsAreSound job t k =
     IsTrue (is_whole_job (length t.names) job) → infinite_places job ≡ [] → IsTrue (are_kinded t) → MeetsRows job t →
     k.names ≡ t.names → AllBuilt (positions job) (parts_of job) t.parts (parts k) →
     IsTrue (passes (λ names. list_all (is_sound_truth names) (parts k)) (kinds_of_names k))
+
+-- ---- texts
+
+abbrev pub is_foreign : List (List ℕ) → List ℕ → Bool
+is_foreign texts x = not (list_any (same_text x) texts)
+
+-- each text of a tree is one of these
+abbrev pub texts_among : List (List ℕ) → Expr → Bool
+texts_among texts e = not (has_node (λ q. false) (is_foreign texts) e)
+
+-- where each text of the job is one of the kernel's, so is each text of a part of the kernel
+abbrev pub TextsAreWithin : Job → Typed → KerJob → Type 0
+TextsAreWithin job t k =
+    IsTrue (list_all (texts_among k.texts) (parts_of job)) →
+    AllBuilt (positions job) (parts_of job) t.parts (parts k) → IsTrue (list_all (texts_within k.texts) (parts k))

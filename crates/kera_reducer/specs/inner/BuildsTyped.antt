@@ -4,7 +4,8 @@
 --
 -- A tree is built where these types are still to be read, and those are left behind it. The root that stands for a node
 -- carries the node's type; truth values and numbers that are made carry Bool and Int, pairs the types of their operands,
--- the sequences of a LET those of what they hold.
+-- the sequences of a LET those of what they hold. The numbers that are made are those of no name around. EXCEPT has no row
+-- here yet.
 use Rattle.std.specs.Prelude.{◌≡◌, ℕ, Bool, true, false, not, ◌&&◌, nat_eq, nat_le, List, [], ◌∷◌, ◌++◌, take, drop, length, Option, Some, None, ℤ, pos}
 use Rattle.tla_values.specs.declared.value.Value.TheVariants as value
 use Rattle.tla_meaning.specs.declared.actions.Assignable.{Assignable}
@@ -20,7 +21,7 @@ use Rattle.kernel_trees.specs.declared.kernel.Ker.{Ker}
 use Rattle.kernel_trees.specs.declared.kernel.KerOp.{KerOp}
 use Rattle.kernel_trees.specs.declared.kernel.KerOp.TheVariants as ker
 use Rattle.kernel_trees.specs.Trees.{op_of}
-use Rattle.kera_reducer.specs.Reduction.{Numbering, numbered, all_fresh, any_mentioned}
+use Rattle.kera_reducer.specs.Reduction.{Numbering, fresh, are_fresh, numbered, all_fresh, any_mentioned}
 use Rattle.kera_reducer.specs.inner.Builds.{is_same, is_binder, passes_on, has_arm}
 use Rattle.kera_reducer.specs.inner.Making.{pair_type, let_of}
 use Rattle.kera_reducer.specs.inner.Rows.{tree, node, op_at, type_of, truth, number, bound, negation, implication, equivalence, single, item_by_let, small_power, large_power, nested_ifs, split_case, guard_of}
@@ -147,7 +148,7 @@ mutual
         → TypedNode None ρ p t op.Neg es xs ts (node p ty.Int ker.Minus (number p ty.Int 0 ∷ k ∷ [])) us
     finite : (ρ : Numbering) (p : Place) (t : Ty) (es : List Expr) (xs : List (List ℕ)) (k : Ker) (n : ℕ)
         (ts us : List Ty)
-        → EachTyped None ρ es ts (k ∷ []) us
+        → fresh n ρ ≡ true → EachTyped None ρ es ts (k ∷ []) us
         → TypedNode None ρ p t op.IsFinite es xs ts
         (tree p ty.Bool ker.Every (k ∷ truth p ty.Bool true ∷ []) (n ∷ [])) us
     truth_values : (ρ : Numbering) (p : Place) (t : Ty) (xs : List (List ℕ)) (ts : List Ty)
@@ -155,25 +156,26 @@ mutual
         (node p t ker.SetOf (truth p ty.Bool false ∷ truth p ty.Bool true ∷ [])) ts
     equivalent : (ρ : Numbering) (p : Place) (t : Ty) (es : List Expr) (xs : List (List ℕ)) (u n : ℕ) (k m : Ker)
         (ts us : List Ty)
-        → not (nat_eq u n) ≡ true → EachTyped None ρ es ts (k ∷ m ∷ []) us
+        → not (nat_eq u n) ≡ true → are_fresh (u ∷ n ∷ []) ρ ≡ true → EachTyped None ρ es ts (k ∷ m ∷ []) us
         → TypedNode None ρ p t op.Iff es xs ts
         (equivalence p (let_of ty.Bool (pair_type (type_of k) (type_of m)) u n) (pair_type (type_of k) (type_of m)) k m)
         us
     one_pair : (ρ : Numbering) (p : Place) (t : Ty) (es : List Expr) (xs : List (List ℕ)) (u n z : ℕ) (k m : Ker)
         (ts us : List Ty)
-        → not (nat_eq u n) ≡ true → nat_eq n z ≡ false → EachTyped None ρ es ts (k ∷ m ∷ []) us
+        → not (nat_eq u n) ≡ true → are_fresh (u ∷ n ∷ z ∷ []) ρ ≡ true →
+        (nat_eq u z ≡ false) × (nat_eq n z ≡ false) → EachTyped None ρ es ts (k ∷ m ∷ []) us
         → TypedNode None ρ p t op.Single es xs ts
         (single p (let_of t (pair_type (type_of k) (type_of m)) u n) (pair_type (type_of k) (type_of m))
         (ty.Set (type_of k)) z k m) us
     -- ---- powers, and items and fields at a literal
     power : (ρ : Numbering) (p : Place) (t : Ty) (es : List Expr) (xs : List (List ℕ)) (u n : ℕ) (k m : Ker) (j : ℕ)
         (ts us : List Ty)
-        → not (nat_eq u n) ≡ true → op_at m ≡ ker.Const (value.Int (pos j)) → nat_le j 7 ≡ true →
+        → not (nat_eq u n) ≡ true → are_fresh (u ∷ n ∷ []) ρ ≡ true → op_at m ≡ ker.Const (value.Int (pos j)) → nat_le j 7 ≡ true →
         EachTyped None ρ es ts (k ∷ m ∷ []) us
         → TypedNode None ρ p t op.Pow es xs ts (small_power p (let_of t (type_of k) u n) ty.Bool k j) us
     high_power : (ρ : Numbering) (p : Place) (t : Ty) (es : List Expr) (xs : List (List ℕ)) (u n : ℕ) (k m : Ker)
         (j : ℕ) (ts us : List Ty)
-        → not (nat_eq u n) ≡ true → op_at m ≡ ker.Const (value.Int (pos j)) → nat_le j 7 ≡ false →
+        → not (nat_eq u n) ≡ true → are_fresh (u ∷ n ∷ []) ρ ≡ true → op_at m ≡ ker.Const (value.Int (pos j)) → nat_le j 7 ≡ false →
         EachTyped None ρ es ts (k ∷ m ∷ []) us
         → TypedNode None ρ p t op.Pow es xs ts
         (large_power p (let_of t (pair_type (type_of k) (type_of m)) u n) (pair_type (type_of k) (type_of m)) ty.Bool k m
@@ -190,7 +192,7 @@ mutual
         → TypedNode None ρ p t op.Apply es xs ts (node p t (ker.Item j) (k ∷ [])) us
     high_item : (ρ : Numbering) (p : Place) (t : Ty) (es : List Expr) (xs : List (List ℕ)) (u n : ℕ) (k m : Ker) (j : ℕ)
         (ts us : List Ty)
-        → not (nat_eq u n) ≡ true → is_tuple (out-Ty (type_of k)) ≡ true →
+        → not (nat_eq u n) ≡ true → are_fresh (u ∷ n ∷ []) ρ ≡ true → is_tuple (out-Ty (type_of k)) ≡ true →
         op_at m ≡ ker.Const (value.Int (pos j)) → nat_le j 7 ≡ false → EachTyped None ρ es ts (k ∷ m ∷ []) us
         → TypedNode None ρ p t op.Apply es xs ts
         (item_by_let p (let_of t (pair_type (type_of k) (type_of m)) u n) (pair_type (type_of k) (type_of m)) j k m) us
