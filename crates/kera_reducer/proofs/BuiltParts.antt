@@ -1,6 +1,6 @@
 -- What the types and the form of a node say of its children.
 use Rattle.std.proofs.Common.{◌≡◌, ℕ, zero, suc, ◌+◌, Bool, true, false, not, ◌&&◌, ◌||◌, List, [], ◌∷◌, ◌++◌, map, take, drop, length, refl, sym, ◌∙◌, ap, subst, Option, Some, None, arith, if◌then◌else◌}
-use Rattle.std.specs.Prelude.{replicate, nat_eq, nat_lt, slice_get}
+use Rattle.std.specs.Prelude.{replicate, nat_eq}
 use Rattle.std.specs.List.{list_all}
 use Rattle.std.proofs.lemmas.Bool.{eqb-true}
 use Rattle.std.proofs.lemmas.List.{append_assoc}
@@ -10,20 +10,20 @@ use Rattle.tla_meaning.specs.declared.expr.Expr.TheFolds.{fold_out-Expr, map-Exp
 use Rattle.tla_meaning.specs.declared.op.Op.{Op}
 use Rattle.tla_meaning.specs.declared.op.Op.TheVariants as op
 use Rattle.tla_meaning.specs.declared.place.Place.{Place}
-use Rattle.tla_meaning.proofs.Views.{and_left, and_right, and_both, false≢true}
+use Rattle.tla_meaning.proofs.Views.{and_left, and_right}
 use Rattle.snowcat_rows.specs.Types.{Term, mean}
 use Rattle.snowcat_rows.specs.Substitutions.{Sub}
 use Rattle.snowcat_rows.specs.declared.types.Ty.{Ty}
 use Rattle.snowcat_types.specs.TypeForms.{bool_type}
-use Rattle.snowcat_types.specs.Rows.{Operand, Signature, Context, row_of, noted_row, gives, from_type, sets_of, branches, with_bound, index_types, reached_after, typed_names, update_operands, plain as plain_operand}
+use Rattle.snowcat_types.specs.Rows.{Operand, Context, noted_row, from_type, sets_of, branches, with_bound, index_types, update_operands, plain as plain_operand}
 use Rattle.snowcat_types.specs.Requirements.{MeetAll}
 use Rattle.snowcat_types.specs.Systems.{fields_asked}
 use Rattle.snowcat_types.specs.Typings.{Each}
 use Rattle.snowcat_types.specs.Waiting.{waiting}
-use Rattle.snowcat_types.specs.Judgement.{sight_of, HasChoice, joined_types, HasTypes, HaveTypes, none_more, one_more, another}
+use Rattle.snowcat_types.specs.Judgement.{sight_of, HasChoice, joined_types, HasTypes, HaveTypes, none_more, one_more}
 use Rattle.kernel_trees.specs.TypeKinds.{Kind, kind_of}
 use Rattle.kera_reducer.specs.Infinite.{is_infinite, form_child, infinite_here, infinite_below, infinite_node, infinite_in}
-use Rattle.kera_reducer.specs.Whole.{nowhere, operand_count, binds_enough, is_declared, names_enough, whole_node, is_whole}
+use Rattle.kera_reducer.specs.Whole.{operand_count, binds_enough, is_declared, names_enough, whole_node, is_whole}
 use Rattle.kera_reducer.proofs.KindsOf.{Of, AreOf, no_more, and_of}
 use Rattle.kera_reducer.proofs.SameRows.{signature, types_of}
 

@@ -1,50 +1,46 @@
 -- What is built of an expression whose nodes have types by the rows of the type table is sound.
-use Rattle.std.proofs.Common.{◌≡◌, ℕ, zero, suc, ◌+◌, Bool, true, false, not, ◌&&◌, ◌||◌, List, [], ◌∷◌, ◌++◌, map, zip, take, drop, length, refl, sym, ◌∙◌, ap, subst, Option, Some, None, arith, pos}
-use Rattle.std.specs.Prelude.{nat_eq, nat_lt, replicate, slice_get, option_map}
+use Rattle.std.proofs.Common.{◌≡◌, ℕ, zero, suc, ◌+◌, Bool, true, false, List, [], ◌∷◌, ◌++◌, map, zip, take, drop, length, refl, sym, ◌∙◌, ap, subst, Option, Some, None, arith, pos}
+use Rattle.std.specs.Prelude.{nat_lt, replicate, slice_get}
 use Rattle.std.proofs.lemmas.Bool.{eqb-true}
 use Rattle.std.proofs.lemmas.List.{append_assoc}
 use Rattle.tla_values.specs.declared.value.Value.{out-Value}
 use Rattle.tla_values.specs.declared.value.Value.TheVariants as value
-use Rattle.tla_values.specs.declared.value.Value.TheOpen as vlayer
 use Rattle.tla_meaning.specs.declared.actions.Assignable.{Assignable}
 use Rattle.tla_meaning.specs.declared.expr.Expr.{Expr, out-Expr}
 use Rattle.tla_meaning.specs.declared.op.Op.{Op}
 use Rattle.tla_meaning.specs.declared.op.Op.TheVariants as op
 use Rattle.tla_meaning.specs.declared.place.Place.{Place}
-use Rattle.tla_meaning.specs.Scopes.{find_last}
-use Rattle.tla_meaning.proofs.Views.{and_left, and_right, and_both, false≢true}
+use Rattle.tla_meaning.proofs.Views.{and_left, and_right, false≢true}
 use Rattle.snowcat_rows.specs.Types.{Term, mean}
-use Rattle.snowcat_rows.specs.declared.types.Ty.{Ty, out-Ty, Bool as bool_ty, Int}
+use Rattle.snowcat_rows.specs.declared.types.Ty.{Ty, out-Ty, Bool as bool_ty}
 use Rattle.snowcat_types.specs.TypeForms.{bool_type, int_type, set_type, seq_type, fun_type}
-use Rattle.snowcat_types.specs.Rows.{Scope, Operand, Signature, Context as TypeContext, with_bound, from_type, sets_of, typed_names, over, branches, or_type, gives, plain as plain_operand}
+use Rattle.snowcat_types.specs.Rows.{Scope, Operand, Signature, Context as TypeContext, with_bound, from_type, sets_of, typed_names, over, branches, or_type, plain as plain_operand}
 use Rattle.snowcat_types.specs.Requirements.{MeetAll}
 use Rattle.snowcat_types.specs.Waiting.{second_literal, choice as choice_of}
 use Rattle.snowcat_types.specs.declared.waiting.Index.TheVariants as lit
 use Rattle.snowcat_types.specs.declared.waiting.Wait.TheVariants as wait
 use Rattle.snowcat_types.specs.Judgement.{sight_of, joined_types, HasTypes, HaveTypes, by_row}
 use Rattle.kernel_trees.specs.declared.kernel.Ker.{Ker}
-use Rattle.kernel_trees.specs.declared.kernel.KerOp.{KerOp}
 use Rattle.kernel_trees.specs.declared.kernel.KerOp.TheVariants as ker
 use Rattle.kernel_trees.specs.Trees.{op_of}
 use Rattle.kernel_trees.specs.TypeKinds.{Kind, Truth, Number, Word, Set, Seq, Fun, Tup, Rec, kinds, kind_of, same, is_kind, members}
-use Rattle.kernel_trees.specs.Sound.{Context, binder_row, is_literal, row, form_child as sound_child, literal_of as kernel_literal}
+use Rattle.kernel_trees.specs.Sound.{Context, binder_row, is_literal, form_child as sound_child, literal_of as kernel_literal}
 use Rattle.kernel_trees.proofs.SoundTrees.{Child}
-use Rattle.kernel_trees.proofs.TypeLaws.{kind-Bool, kind-Int}
+use Rattle.kernel_trees.proofs.TypeLaws.{kind-Bool}
 use Rattle.kera_reducer.specs.Reduction.{Numbering, numbered, all_fresh}
 use Rattle.kera_reducer.specs.Infinite.{form_child}
 use Rattle.kera_reducer.specs.Whole.{binds_enough}
-use Rattle.kera_reducer.specs.inner.Builds.{is_same, is_binder}
-use Rattle.kera_reducer.specs.inner.BuildsTyped.{is_chosen, BuildsTyped, at_node, EachTyped, none_left, one_more, ArmsTyped, no_arms, other_arm, one_arm, TypedNode, boolean, integer, text, declared, bound_name, same as same_row, range, binder, fold, noted, assign, implies, unequal, no_member, greater, at_most, at_least, negative, finite, truth_values, equivalent, one_pair, power, high_power, field, low_item, high_item, cases, as_value, conjunction, disjunction, choice, branches as branches_row, split_cases}
+use Rattle.kera_reducer.specs.inner.BuildsTyped.{BuildsTyped, at_node, EachTyped, none_left, one_more, ArmsTyped, no_arms, other_arm, one_arm, TypedNode, boolean, integer, text, declared, bound_name, same as same_row, range, binder, fold, noted, assign, implies, unequal, no_member, greater, at_most, at_least, negative, finite, truth_values, equivalent, one_pair, power, high_power, field, low_item, high_item, cases, as_value, conjunction, disjunction, choice, branches as branches_row, split_cases}
 use Rattle.kera_reducer.specs.inner.Making.{pair_type, let_of}
-use Rattle.kera_reducer.specs.inner.Rows.{tree, node, type_of, nested_ifs, split_case, negation}
+use Rattle.kera_reducer.specs.inner.Rows.{tree, type_of}
 use Rattle.kera_reducer.proofs.SoundMade.{Is, same_self, negation_is, implication_is, finite_is, if_is, fold_is, item_is, item_by_let_is}
 use Rattle.kera_reducer.proofs.SoundChanges.{nested_ifs_are, guard_is, SplitArms, split_case_is}
-use Rattle.kera_reducer.proofs.KindsOf.{Of, AreOf, no_more, and_of, same_of, has_bool, has_int, has_set, has_seq, has_fun, is_truth, is_number, of_set, of_seq}
-use Rattle.kera_reducer.proofs.KindTies.{Ties, Named, tie_all, tie_nil}
-use Rattle.kera_reducer.proofs.SameRows.{signature, types_of, is_direct, direct_row, sets_there}
+use Rattle.kera_reducer.proofs.KindsOf.{Of, AreOf, no_more, and_of, same_of, has_bool, has_int, has_set, has_seq, has_fun, is_truth, is_number, of_set}
+use Rattle.kera_reducer.proofs.KindTies.{Ties, tie_all, tie_nil}
+use Rattle.kera_reducer.proofs.SameRows.{signature, types_of, direct_row, sets_there}
 use Rattle.kera_reducer.proofs.SoundForms.{AllAt, anywhere, plain_at, made_at, binder_at}
-use Rattle.kera_reducer.proofs.BuiltParts.{Fine, AllFine, NodeFine, fine_at, fine_take, fine_drop, Have, Reads, AllOf, all_of, of_left, of_right, is_none, all_plain, plain_map, Front, front_of, none_of, Parted, parted, less, kinds_of_operands, Met, types_at, as_many}
-use Rattle.kera_reducer.proofs.RowsDone.{Out, truth_out, All, as_truth, as_number, equal_done, less_done, minus_done, truths_done, equivalence_done, single_done, power_done, high_power_done, arms_done, let_types, pair_kind}
+use Rattle.kera_reducer.proofs.BuiltParts.{Fine, AllFine, fine_at, fine_take, fine_drop, Reads, AllOf, all_of, of_left, is_none, all_plain, plain_map, front_of, none_of, parted, less, kinds_of_operands, Met, types_at, as_many}
+use Rattle.kera_reducer.proofs.RowsDone.{Out, truth_out, as_truth, as_number, equal_done, less_done, minus_done, truths_done, equivalence_done, single_done, power_done, high_power_done, arms_done, let_types, pair_kind}
 use Rattle.kera_reducer.proofs.LiteralRoots.{Tells, second_told}
 use Rattle.kera_reducer.proofs.ChoiceRows.{plus_none, form_of, form_tuple, form_record, item_row, field_row}
 use Rattle.kera_reducer.proofs.SameDone.{row_of_same}
@@ -364,28 +360,26 @@ module _ (names : List Kind) where
         (g : TypeContext) → Knows g → (c : Context) → Ties ρ g.bound c → (b : Bool) (tss : List (List Term)) →
         Met (length names) g p o es xs b (mean t) tss → (a : Kind) → kind_of t ≡ Some a → (rest : List Term) →
         InAction i (mean t) → Reads ts (joined_types tss ++ rest) → Reads us rest × Out names c b (mean t) k
-    node_sound _ _ _ _ _ _ _ _ _ _ (boolean ρ p t v xs ts) g kn c tie b tss met a q rest act reads =
-        (
-          none_reads g _ tss ts rest met.have reads,
-          (
-            a,
-            (t, q, refl),
-            constant_done names c b p t (value.Bool v) a q
-                (ap (λ z. is_literal z (out-Value (value.Bool v))) (is_truth a (t, q, met.result))
-                ∙ ap (is_literal Truth) (value.outs-Bool v)),
-          ),
-        )
-    node_sound _ _ _ _ _ _ _ _ _ _ (integer ρ p t v xs ts) g kn c tie b tss met a q rest act reads =
-        (
-          none_reads g _ tss ts rest met.have reads,
-          (
-            a,
-            (t, q, refl),
-            constant_done names c b p t (value.Int v) a q
-                (ap (λ z. is_literal z (out-Value (value.Int v))) (is_number a (t, q, met.result))
-                ∙ ap (is_literal Number) (value.outs-Int v)),
-          ),
-        )
+    node_sound _ _ _ _ _ _ _ _ _ _ (boolean ρ p t v xs ts) g kn c tie b tss met a q rest act reads = (
+      none_reads g _ tss ts rest met.have reads,
+      (
+        a,
+        (t, q, refl),
+        constant_done names c b p t (value.Bool v) a q
+            (ap (λ z. is_literal z (out-Value (value.Bool v))) (is_truth a (t, q, met.result))
+            ∙ ap (is_literal Truth) (value.outs-Bool v)),
+      ),
+    )
+    node_sound _ _ _ _ _ _ _ _ _ _ (integer ρ p t v xs ts) g kn c tie b tss met a q rest act reads = (
+      none_reads g _ tss ts rest met.have reads,
+      (
+        a,
+        (t, q, refl),
+        constant_done names c b p t (value.Int v) a q
+            (ap (λ z. is_literal z (out-Value (value.Int v))) (is_number a (t, q, met.result))
+            ∙ ap (is_literal Number) (value.outs-Int v)),
+      ),
+    )
     node_sound _ _ _ _ _ _ _ _ _ _ (text ρ p t s xs ts) g kn c tie b tss met a q rest act reads =
         let w = word_of_text s a (t, q, met.result) in (
           none_reads g _ tss ts rest met.have reads,
@@ -434,8 +428,7 @@ module _ (names : List Kind) where
     node_sound _ _ _ _ _ _ _ _ _ _ (range ρ p t es xs k l ts us d) g kn c tie b tss met a q rest act reads =
         let r =
         values_sound ρ es ts (k ∷ l ∷ []) us (each_sound None ρ es ts (k ∷ l ∷ []) us d) g kn c tie p op.Range xs b (mean t) tss met
-        (λ n. false) met.fine.below refl rest reads in
-        (
+        (λ n. false) met.fine.below refl rest reads in (
           r.reads,
           (
             a,
@@ -523,54 +516,68 @@ module _ (names : List Kind) where
     node_sound _ _ _ _ _ _ _ _ _ _ (assign ρ p t es xs ks ts us d) g kn c tie b tss met a q rest act reads =
         let r =
         values_sound ρ es ts ks us (each_sound None ρ es ts ks us d) g kn c tie p op.Assign xs b (mean t) tss met
-        (λ n. false) met.fine.below refl rest reads in
-        (r.reads, truth_out names c b (mean t) _ met.result
-          (equal_done names (types_at met 0) c p ks r.kinds r.are r.all))
+        (λ n. false) met.fine.below refl rest reads in (
+          r.reads,
+          truth_out names c b (mean t) _ met.result
+              (equal_done names (types_at met 0) c p ks r.kinds r.are r.all),
+        )
     node_sound _ _ _ _ _ _ _ _ _ _ (implies ρ p t es xs k l ts us d) g kn c tie b tss met a q rest act reads =
         let r =
         values_sound ρ es ts (k ∷ l ∷ []) us (each_sound None ρ es ts (k ∷ l ∷ []) us d) g kn c tie p op.Implies xs b (mean t) tss met
         (λ n. false) met.fine.below refl rest reads in
-        let z = only_two c 0 bool_type bool_type r.kinds k l r.are r.all in
-        (r.reads, truth_out names c b (mean t) _ met.result
-          (implication_is names c p bool_ty k l kind-Bool (as_truth names c z.0 k z.2 z.4) (as_truth names c z.1 l z.3 z.5)))
+        let z = only_two c 0 bool_type bool_type r.kinds k l r.are r.all in (
+          r.reads,
+          truth_out names c b (mean t) _ met.result
+              (implication_is names c p bool_ty k l kind-Bool (as_truth names c z.0 k z.2 z.4) (as_truth names c z.1 l z.3 z.5)),
+        )
     node_sound _ _ _ _ _ _ _ _ _ _ (unequal ρ p t es xs ks ts us d) g kn c tie b tss met a q rest act reads =
         let r =
         values_sound ρ es ts ks us (each_sound None ρ es ts ks us d) g kn c tie p op.Ne xs b (mean t) tss met
-        (λ n. false) met.fine.below refl rest reads in
-        (r.reads, truth_out names c b (mean t) _ met.result
-          (negation_is names c p bool_ty _ kind-Bool (equal_done names (types_at met 0) c p ks r.kinds r.are r.all)))
+        (λ n. false) met.fine.below refl rest reads in (
+          r.reads,
+          truth_out names c b (mean t) _ met.result
+              (negation_is names c p bool_ty _ kind-Bool (equal_done names (types_at met 0) c p ks r.kinds r.are r.all)),
+        )
     node_sound _ _ _ _ _ _ _ _ _ _ (no_member ρ p t es xs ks ts us d) g kn c tie b tss met a q rest act reads =
         let r =
         values_sound ρ es ts ks us (each_sound None ρ es ts ks us d) g kn c tie p op.NotIn xs b (mean t) tss met
-        (λ n. form_child op.NotIn n b) met.fine.below refl rest reads in
-        (r.reads, truth_out names c b (mean t) _ met.result
-          (negation_is names c p bool_ty _ kind-Bool
-          (plain_at names c false p bool_ty ker.Member r.kinds ks [] Truth refl refl kind-Bool
-          (direct_row ker.Member g xs (length es) (types_at met) Truth r.kinds refl has_bool r.are)
-          (along names (λ n. form_child op.NotIn n b) (λ n. sound_child ker.Member n false) (λ n. member_forms n b) 0 c
-          r.kinds ks r.all))))
+        (λ n. form_child op.NotIn n b) met.fine.below refl rest reads in (
+          r.reads,
+          truth_out names c b (mean t) _ met.result
+              (negation_is names c p bool_ty _ kind-Bool
+              (plain_at names c false p bool_ty ker.Member r.kinds ks [] Truth refl refl kind-Bool
+              (direct_row ker.Member g xs (length es) (types_at met) Truth r.kinds refl has_bool r.are)
+              (along names (λ n. form_child op.NotIn n b) (λ n. sound_child ker.Member n false) (λ n. member_forms n b) 0 c
+              r.kinds ks r.all))),
+        )
     node_sound _ _ _ _ _ _ _ _ _ _ (greater ρ p t es xs k l ts us d) g kn c tie b tss met a q rest act reads =
         let r =
         values_sound ρ es ts (k ∷ l ∷ []) us (each_sound None ρ es ts (k ∷ l ∷ []) us d) g kn c tie p op.Gt xs b (mean t) tss met
         (λ n. false) met.fine.below refl rest reads in
-        let z = only_two c 0 int_type int_type r.kinds k l r.are r.all in
-        (r.reads, truth_out names c b (mean t) _ met.result
-          (less_done names c p l k (as_number names c z.1 l z.3 z.5) (as_number names c z.0 k z.2 z.4)))
+        let z = only_two c 0 int_type int_type r.kinds k l r.are r.all in (
+          r.reads,
+          truth_out names c b (mean t) _ met.result
+              (less_done names c p l k (as_number names c z.1 l z.3 z.5) (as_number names c z.0 k z.2 z.4)),
+        )
     node_sound _ _ _ _ _ _ _ _ _ _ (at_most ρ p t es xs k l ts us d) g kn c tie b tss met a q rest act reads =
         let r =
         values_sound ρ es ts (k ∷ l ∷ []) us (each_sound None ρ es ts (k ∷ l ∷ []) us d) g kn c tie p op.Le xs b (mean t) tss met
         (λ n. false) met.fine.below refl rest reads in
-        let z = only_two c 0 int_type int_type r.kinds k l r.are r.all in
-        (r.reads, truth_out names c b (mean t) _ met.result
-          (negation_is names c p bool_ty _ kind-Bool (less_done names c p l k (as_number names c z.1 l z.3 z.5) (as_number names c z.0 k z.2 z.4))))
+        let z = only_two c 0 int_type int_type r.kinds k l r.are r.all in (
+          r.reads,
+          truth_out names c b (mean t) _ met.result
+              (negation_is names c p bool_ty _ kind-Bool (less_done names c p l k (as_number names c z.1 l z.3 z.5) (as_number names c z.0 k z.2 z.4))),
+        )
     node_sound _ _ _ _ _ _ _ _ _ _ (at_least ρ p t es xs ks ts us d) g kn c tie b tss met a q rest act reads =
         let r =
         values_sound ρ es ts ks us (each_sound None ρ es ts ks us d) g kn c tie p op.Ge xs b (mean t) tss met
-        (λ n. false) met.fine.below refl rest reads in
-        (r.reads, truth_out names c b (mean t) _ met.result
-          (negation_is names c p bool_ty _ kind-Bool
-          (plain_at names c false p bool_ty ker.Less r.kinds ks [] Truth refl refl kind-Bool
-          (direct_row ker.Less g xs (length es) (types_at met) Truth r.kinds refl has_bool r.are) r.all)))
+        (λ n. false) met.fine.below refl rest reads in (
+          r.reads,
+          truth_out names c b (mean t) _ met.result
+              (negation_is names c p bool_ty _ kind-Bool
+              (plain_at names c false p bool_ty ker.Less r.kinds ks [] Truth refl refl kind-Bool
+              (direct_row ker.Less g xs (length es) (types_at met) Truth r.kinds refl has_bool r.are) r.all)),
+        )
     node_sound _ _ _ _ _ _ _ _ _ _ (negative ρ p t es xs k ts us d) g kn c tie b tss met a q rest act reads =
         let r =
         values_sound ρ es ts (k ∷ []) us (each_sound None ρ es ts (k ∷ []) us d) g kn c tie p op.Neg xs b (mean t) tss met
@@ -582,9 +589,11 @@ module _ (names : List Kind) where
         values_sound ρ es ts (k ∷ []) us (each_sound None ρ es ts (k ∷ []) us d) g kn c tie p op.IsFinite xs b (mean t) tss met
         (λ n. false) met.fine.below refl rest reads in
         let z = only_out c (λ n. false) (set_type (types_at met 0)) r.kinds k r.are r.all in
-        let w = of_set (types_at met 0) z.0 z.1 in
-        (r.reads, truth_out names c b (mean t) _ met.result
-          (finite_is names c p bool_ty k n w.0 kind-Bool (subst (λ v. Child names c false v k) w.1 z.2)))
+        let w = of_set (types_at met 0) z.0 z.1 in (
+          r.reads,
+          truth_out names c b (mean t) _ met.result
+              (finite_is names c p bool_ty k n w.0 kind-Bool (subst (λ v. Child names c false v k) w.1 z.2)),
+        )
     node_sound _ _ _ _ _ _ _ _ _ _ (truth_values ρ p t xs ts) g kn c tie b tss met a q rest act reads =
         let e : a ≡ Set Truth =
         same_of (set_type bool_type) a (Set Truth) (t, q, met.result) (has_set bool_type Truth has_bool) in
@@ -600,9 +609,11 @@ module _ (names : List Kind) where
         let r =
         values_sound ρ es ts (k ∷ m ∷ []) us (each_sound None ρ es ts (k ∷ m ∷ []) us d) g kn c tie p op.Iff xs b (mean t) tss met
         (λ n. false) met.fine.below refl rest reads in
-        let z = only_two c 0 bool_type bool_type r.kinds k m r.are r.all in
-        (r.reads, truth_out names c b (mean t) _ met.result
-          (equivalence_done names c p u n k m ap' (as_truth names c z.0 k z.2 z.4) (as_truth names c z.1 m z.3 z.5)))
+        let z = only_two c 0 bool_type bool_type r.kinds k m r.are r.all in (
+          r.reads,
+          truth_out names c b (mean t) _ met.result
+              (equivalence_done names c p u n k m ap' (as_truth names c z.0 k z.2 z.4) (as_truth names c z.1 m z.3 z.5)),
+        )
     node_sound _ _ _ _ _ _ _ _ _ _ (one_pair ρ p t es xs u n z0 k m ts us ap' fr zz d) g kn c tie b tss met a q rest act reads =
         let r =
         values_sound ρ es ts (k ∷ m ∷ []) us (each_sound None ρ es ts (k ∷ m ∷ []) us d) g kn c tie p op.Single xs b (mean t) tss met
@@ -624,18 +635,22 @@ module _ (names : List Kind) where
         values_sound ρ es ts (k ∷ m ∷ []) us (each_sound None ρ es ts (k ∷ m ∷ []) us d) g kn c tie p op.Pow xs b (mean t) tss met
         (λ n. false) met.fine.below refl rest reads in
         let z = only_two c 0 int_type int_type r.kinds k m r.are r.all in
-        let q' : kind_of t ≡ Some Number = q ∙ ap Some (is_number a (t, q, met.result)) in
-        (r.reads, number_out c b (mean t) _ met.result
-          (power_done names c p t u n j k q' ap' (as_number names c z.0 k z.2 z.4)))
+        let q' : kind_of t ≡ Some Number = q ∙ ap Some (is_number a (t, q, met.result)) in (
+          r.reads,
+          number_out c b (mean t) _ met.result
+              (power_done names c p t u n j k q' ap' (as_number names c z.0 k z.2 z.4)),
+        )
     node_sound _ _ _ _ _ _ _ _ _ _ (high_power ρ p t es xs u n k m j ts us ap' fr m1 m2 d) g kn c tie b tss met a q rest act reads =
         let r =
         values_sound ρ es ts (k ∷ m ∷ []) us (each_sound None ρ es ts (k ∷ m ∷ []) us d) g kn c tie p op.Pow xs b (mean t) tss met
         (λ n. false) met.fine.below refl rest reads in
         let z = only_two c 0 int_type int_type r.kinds k m r.are r.all in
-        let q' : kind_of t ≡ Some Number = q ∙ ap Some (is_number a (t, q, met.result)) in
-        (r.reads, number_out c b (mean t) _ met.result
-          (high_power_done names c p t u n j k m q' ap' (as_number names c z.0 k z.2 z.4)
-          (as_number names c z.1 m z.3 z.5)))
+        let q' : kind_of t ≡ Some Number = q ∙ ap Some (is_number a (t, q, met.result)) in (
+          r.reads,
+          number_out c b (mean t) _ met.result
+              (high_power_done names c p t u n j k m q' ap' (as_number names c z.0 k z.2 z.4)
+              (as_number names c z.1 m z.3 z.5)),
+        )
     node_sound _ _ _ _ _ _ _ _ _ _ (field ρ p t es xs k m x ts us fo em d) g kn c tie b tss met a q rest act reads =
         let r =
         values_sound ρ es ts (k ∷ m ∷ []) us (each_sound None ρ es ts (k ∷ m ∷ []) us d) g kn c tie p op.Apply xs b (mean t) tss met
@@ -707,8 +722,7 @@ module _ (names : List Kind) where
     node_sound _ _ _ _ _ _ _ _ _ _ (cases ρ p t other es xs ks ts us ha d) g kn c tie b tss met a q rest act reads =
         let r =
         values_sound ρ es ts ks us (each_sound None ρ es ts ks us d) g kn c tie p (op.Case other) xs b (mean t) tss met
-        (λ n. false) met.fine.below (plain_map (branches (types_at met 0) (length es))) rest reads in
-        (
+        (λ n. false) met.fine.below (plain_map (branches (types_at met 0) (length es))) rest reads in (
           r.reads,
           (
             a,
@@ -722,27 +736,33 @@ module _ (names : List Kind) where
     node_sound _ _ _ _ _ _ _ _ _ _ (conjunction m ρ p t es xs ks ts us d) g kn c tie b tss met a q rest act reads =
         let r =
         kids_sound (Some m) ρ es ts ks us (each_sound (Some m) ρ es ts ks us d) g kn c tie p op.And xs b (mean t) tss met
-        (λ n. false) met.fine.below (plain_map (replicate (length es) bool_type)) (all_true m (length es)) rest reads in
-        (r.reads, truth_out names c b (mean t) _ met.result
-          (plain_at names c false p bool_ty ker.And r.kinds ks [] Truth refl refl kind-Bool
-          (direct_row ker.And g xs (length es) (types_at met) Truth r.kinds refl has_bool r.are) r.all))
+        (λ n. false) met.fine.below (plain_map (replicate (length es) bool_type)) (all_true m (length es)) rest reads in (
+          r.reads,
+          truth_out names c b (mean t) _ met.result
+              (plain_at names c false p bool_ty ker.And r.kinds ks [] Truth refl refl kind-Bool
+              (direct_row ker.And g xs (length es) (types_at met) Truth r.kinds refl has_bool r.are) r.all),
+        )
     node_sound _ _ _ _ _ _ _ _ _ _ (disjunction m ρ p t es xs ks ts us d) g kn c tie b tss met a q rest act reads =
         let r =
         kids_sound (Some m) ρ es ts ks us (each_sound (Some m) ρ es ts ks us d) g kn c tie p op.Or xs b (mean t) tss met
-        (λ n. false) met.fine.below (plain_map (replicate (length es) bool_type)) (all_true m (length es)) rest reads in
-        (r.reads, truth_out names c b (mean t) _ met.result
-          (plain_at names c false p bool_ty ker.Or r.kinds ks [] Truth refl refl kind-Bool
-          (direct_row ker.Or g xs (length es) (types_at met) Truth r.kinds refl has_bool r.are) r.all))
+        (λ n. false) met.fine.below (plain_map (replicate (length es) bool_type)) (all_true m (length es)) rest reads in (
+          r.reads,
+          truth_out names c b (mean t) _ met.result
+              (plain_at names c false p bool_ty ker.Or r.kinds ks [] Truth refl refl kind-Bool
+              (direct_row ker.Or g xs (length es) (types_at met) Truth r.kinds refl has_bool r.are) r.all),
+        )
     node_sound _ _ _ _ _ _ _ _ _ _ (choice m ρ p t es xs ks bs ns ts us vs fr d1 d2) g kn c tie b tss met a q rest act reads =
         let r =
         under_sound (Some m) ρ es xs ts ks us bs vs ns fr (each_sound None ρ (take (length xs) es) ts ks us d1)
         (each_sound (Some m) (numbered xs ns ρ) (drop (length xs) es) us bs vs d2) g kn c tie (types_at met) bool_type
         bool_type tss met.have (as_many (length names) g p op.Exists es xs b (mean t) tss met) met.fine.below refl rest
-        reads in
-        (r.reads, truth_out names c b (mean t) _ met.result
-          (subst (λ z. Child names c false Truth (tree p bool_ty ker.Some (ks ++ z) ns)) (sym r.one)
-          (binder_at names c p bool_ty ker.Some r.sets r.inside ks r.last ns Truth r.kind (λ ps. refl) kind-Bool r.long
-          r.sets_are (ap (binder_row ker.Some Truth r.inside) (is_truth r.kind r.of)) r.all r.sound)))
+        reads in (
+          r.reads,
+          truth_out names c b (mean t) _ met.result
+              (subst (λ z. Child names c false Truth (tree p bool_ty ker.Some (ks ++ z) ns)) (sym r.one)
+              (binder_at names c p bool_ty ker.Some r.sets r.inside ks r.last ns Truth r.kind (λ ps. refl) kind-Bool r.long
+              r.sets_are (ap (binder_row ker.Some Truth r.inside) (is_truth r.kind r.of)) r.all r.sound)),
+        )
     node_sound _ _ _ _ _ _ _ _ _ _ (branches_row m ρ p t e es xs h k l ts us vs me d1 d2) g kn c tie b tss met a q rest act reads =
         let x : Term = types_at met 0 in
         let w = front_of g e es (plain_operand bool_type) (plain_operand x ∷ plain_operand x ∷ []) tss met.have in
@@ -757,11 +777,13 @@ module _ (names : List Kind) where
         each_sound (Some m) ρ es us (k ∷ l ∷ []) vs d2 g kn c (λ n. false) 1 (plain_operand x ∷ plain_operand x ∷ [])
         w.others rest met.fine.below.1 (plain_tie ρ g.bound c (plain_operand x ∷ plain_operand x ∷ []) refl tie)
         (y, (y, tt)) (less 2 (length es) (as_many (length names) g p op.If (e ∷ es) xs b (mean t) tss met)) w.rest r.0 in
-        let z = only_two c 1 x x s.kinds k l s.are s.all in
-        (s.reads, truth_out names c b (mean t) _ act
-          (if_is names c p bool_ty _ k l Truth kind-Bool
-          (guard_is names c p bool_ty h kind-Bool (as_truth names c r.1.0 h r.1.1 r.1.2))
-          (as_truth names c z.0 k (bool_of x z.0 y z.2) z.4) (as_truth names c z.1 l (bool_of x z.1 y z.3) z.5)))
+        let z = only_two c 1 x x s.kinds k l s.are s.all in (
+          s.reads,
+          truth_out names c b (mean t) _ act
+              (if_is names c p bool_ty _ k l Truth kind-Bool
+              (guard_is names c p bool_ty h kind-Bool (as_truth names c r.1.0 h r.1.1 r.1.2))
+              (as_truth names c z.0 k (bool_of x z.0 y z.2) z.4) (as_truth names c z.1 l (bool_of x z.1 y z.3) z.5)),
+        )
     node_sound _ _ _ _ _ _ _ _ _ _ (split_cases m ρ p t other es xs ys o ts us me d) g kn c tie b tss met a q rest act reads =
         let y : types_at met 0 ≡ bool_type = sym met.result ∙ act in
         let r =

@@ -1,13 +1,10 @@
 -- Rows in which a choice tells the types: applications, domains, tuples, and records.
-use Rattle.std.proofs.Common.{◌≡◌, ℕ, zero, suc, ◌+◌, Bool, true, false, not, ◌&&◌, ◌||◌, List, [], ◌∷◌, ◌++◌, map, zip, length, refl, sym, ◌∙◌, ap, subst, Option, Some, None, arith, pos, option_map, option_and_then, if◌then◌else◌}
-use Rattle.std.specs.Prelude.{replicate, ◌==◌, nat_eq}
-use Rattle.std.proofs.lemmas.Bool.{eqb-true}
+use Rattle.std.proofs.Common.{◌≡◌, ℕ, zero, suc, ◌+◌, true, not, List, [], ◌∷◌, map, zip, length, refl, sym, ◌∙◌, ap, subst, Option, Some, None, arith, pos}
+use Rattle.std.specs.Prelude.{◌==◌}
 use Rattle.tla_meaning.proofs.Laws.{none≢some}
-use Rattle.tla_meaning.proofs.Views.{and_left, and_right, and_both, false≢true}
-use Rattle.tla_meaning.specs.declared.op.Op.TheVariants as op
-use Rattle.tla_meaning.specs.declared.expr.Expr.{Expr}
+use Rattle.tla_meaning.proofs.Views.{and_both, false≢true}
 use Rattle.tla_meaning.specs.declared.place.Place.{Place}
-use Rattle.snowcat_rows.specs.Types.{Term, Slot, none, some, mean, var, app, con, fields as record_term, row as row_term, lookup, TupHead}
+use Rattle.snowcat_rows.specs.Types.{Term, some, mean, var, app, con, fields as record_term, row as row_term, lookup, TupHead}
 use Rattle.snowcat_rows.specs.Codes.{named}
 use Rattle.snowcat_rows.specs.Substitutions.{Sub, apply}
 use Rattle.snowcat_rows.specs.declared.types.Ty.{Ty, out-Ty}
@@ -15,8 +12,8 @@ use Rattle.snowcat_rows.specs.declared.types.Ty.TheOpen as layer
 use Rattle.snowcat_rows.specs.declared.types.Ty.TheFolds.{map-Ty}
 use Rattle.snowcat_rows.specs.TypeTexts.{are_distinct}
 use Rattle.snowcat_rows.proofs.Means.{mean_out}
-use Rattle.snowcat_types.specs.TypeForms.{bool_type, int_type, str_type, set_type, seq_type, fun_type, tuple_type, record_type}
-use Rattle.snowcat_types.specs.Rows.{Context as TypeContext, from_type, sets_of, plain as plain_operand}
+use Rattle.snowcat_types.specs.TypeForms.{int_type, str_type, set_type, seq_type, fun_type, tuple_type, record_type}
+use Rattle.snowcat_types.specs.Rows.{from_type, plain as plain_operand}
 use Rattle.snowcat_types.specs.Requirements.{kind, MeetAll, item_at, item_of, field_at}
 use Rattle.snowcat_types.specs.Waiting.{choice, items_from, all_equal}
 use Rattle.snowcat_types.specs.declared.waiting.Index.{Index}
@@ -25,15 +22,15 @@ use Rattle.snowcat_types.specs.declared.waiting.Wait.TheVariants as wait
 use Rattle.snowcat_types.specs.declared.kinds.Kind.{Kind as Formed}
 use Rattle.snowcat_types.specs.declared.kinds.Kind.TheVariants as formed
 use Rattle.kernel_trees.specs.declared.kernel.KerOp.TheVariants as ker
-use Rattle.kernel_trees.specs.TypeKinds.{Kind, Kinds, Fields, Truth, Number, Word, Set, Seq, Fun, Tup, Rec, kinds, fields, kind_of, kind_layer, same, all_same, fields_same, each_is, members, item_kind, field_kind, is_kind, all_there}
+use Rattle.kernel_trees.specs.TypeKinds.{Kind, Kinds, Fields, Truth, Number, Word, Set, Seq, Fun, Tup, Rec, kinds, fields, kind_of, kind_layer, same, fields_same, each_is, members, item_kind, field_kind, all_there}
 use Rattle.kernel_trees.specs.Sound.{row, passes}
 use Rattle.kernel_trees.proofs.TypeLaws.{kind_out}
 use Rattle.kernel_trees.proofs.Reading.{nat_same}
 use Rattle.kera_reducer.specs.inner.BuildsTyped.{is_sequence, is_tuple, is_record}
 use Rattle.kera_reducer.proofs.SoundMade.{same_self, all_self, fields_self}
-use Rattle.kera_reducer.proofs.FieldOrder.{found, fields_found}
-use Rattle.kera_reducer.proofs.KindsOf.{some_same, mapped, mapped_list, two, record_parts, opened_fields, Opened, split_there, Of, AreOf, no_more, and_of, same_of, has_bool, has_int, has_str, has_set, has_seq, has_fun, has_tuple, has_record, is_truth, is_number, of_set, of_seq, of_fun, of_tuple, of_fields, looked_up}
-use Rattle.kera_reducer.proofs.SameRows.{types_of, sets_there}
+use Rattle.kera_reducer.proofs.FieldOrder.{fields_found}
+use Rattle.kera_reducer.proofs.KindsOf.{some_same, mapped, mapped_list, two, record_parts, Opened, split_there, Of, AreOf, no_more, and_of, same_of, has_int, has_str, has_set, has_seq, has_fun, has_tuple, has_record, is_number, of_seq, of_fun, of_tuple, of_fields, looked_up}
+use Rattle.kera_reducer.proofs.SameRows.{types_of}
 
 -- ---- how a kind is formed, and its type
 

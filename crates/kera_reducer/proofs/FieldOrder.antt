@@ -1,5 +1,5 @@
 -- Fields in the order of their names are one list where they have one look-up.
-use Rattle.std.proofs.Common.{◌≡◌, ℕ, Bool, true, false, not, ◌&&◌, ◌||◌, List, [], ◌∷◌, map, refl, sym, ◌∙◌, ap, ap₂, subst, Option, Some, None, if◌then◌else◌, bytes_eq}
+use Rattle.std.proofs.Common.{◌≡◌, ℕ, Bool, true, false, List, [], ◌∷◌, refl, sym, ◌∙◌, ap, subst, Option, Some, None, if◌then◌else◌}
 use Rattle.std.proofs.lemmas.Cmp.{nat_list_cmp_total}
 use Rattle.std.specs.Ordering.{is_eq, is_lt, ordering_reverse}
 use Rattle.std.specs.declared.cmp.Ordering.{Ordering}
@@ -7,7 +7,6 @@ use Rattle.std.specs.declared.cmp.Ordering.TheVariants.{Less, Equal, Greater}
 use Rattle.tla_values.specs.Order.{text_cmp}
 use Rattle.tla_values.proofs.TotalLemmas.{texts_equal}
 use Rattle.tla_meaning.proofs.Laws.{none≢some, equal_of}
-use Rattle.tla_meaning.proofs.Views.{and_left, and_right, false≢true}
 use Rattle.kernel_trees.specs.TypeKinds.{Kind, Fields, no_fields, more_fields, insert_field, fields, field_kind}
 use Rattle.kernel_trees.proofs.Steps.{same_text_same}
 

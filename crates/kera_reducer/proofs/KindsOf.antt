@@ -1,9 +1,9 @@
 -- The kinds of types, by what these mean: two types that mean the same have one kind, and the kind of a form of types is
 -- made of the kinds of its parts.
-use Rattle.std.proofs.Common.{◌≡◌, ℕ, suc, Bool, true, false, List, [], ◌∷◌, map, zip, length, arith, refl, sym, ◌∙◌, ap, subst, Option, Some, None, option_map, option_and_then, bytes_eq, not, ◌&&◌, ◌||◌, if◌then◌else◌}
+use Rattle.std.proofs.Common.{◌≡◌, ℕ, suc, Bool, true, false, List, [], ◌∷◌, map, zip, length, arith, refl, sym, ◌∙◌, ap, subst, Option, Some, None, option_map, option_and_then, bytes_eq, not, ◌||◌, if◌then◌else◌}
 use Rattle.tla_meaning.proofs.Laws.{none≢some}
-use Rattle.snowcat_rows.specs.Types.{Head, Term, Slot, none, some, var, con, app, fields, row, lookup, mean_layer, mean, BoolHead, IntHead, StrHead, NamedHead, SetHead, SeqHead, FunHead, TupHead, OperHead}
-use Rattle.snowcat_rows.specs.declared.types.Ty.{Ty, out-Ty, roll-Ty, roll-out-Ty, Bool as bool_ty, Int, Str, Named, Var, Set as set_ty, Seq as seq_ty, Fun as fun_ty, Tup as tup_ty, Rec as rec_ty, Oper}
+use Rattle.snowcat_rows.specs.Types.{Term, Slot, none, some, con, app, fields, row, lookup, mean_layer, mean, BoolHead, IntHead, StrHead, NamedHead, SetHead, SeqHead, FunHead, TupHead}
+use Rattle.snowcat_rows.specs.declared.types.Ty.{Ty, out-Ty, roll-Ty, roll-out-Ty, Bool as bool_ty, Int, Str, Named, Set as set_ty, Seq as seq_ty, Fun as fun_ty, Tup as tup_ty, Rec as rec_ty}
 use Rattle.snowcat_rows.specs.declared.types.Ty.TheVariants.{rolls-Bool, rolls-Int, rolls-Str, rolls-Named, rolls-Var, rolls-Set, rolls-Seq, rolls-Fun, rolls-Tup, rolls-Rec, rolls-Oper}
 use Rattle.snowcat_rows.specs.declared.types.Ty.TheOpen as layer
 use Rattle.snowcat_rows.specs.declared.types.Ty.TheFolds.{map-Ty, ind-Ty}
@@ -19,7 +19,7 @@ use Rattle.tla_meaning.proofs.Views.{and_left, and_right, false≢true}
 use Rattle.kera_reducer.proofs.Tying.{not_true}
 use Rattle.kera_reducer.proofs.FieldOrder.{found, Once, one_list, fields_found}
 use Rattle.snowcat_rows.proofs.Means.{mean_out, mean-Bool, mean-Int, mean-Str, mean-Named, mean-Set, mean-Seq, mean-Fun, mean-Tup, mean-Rec}
-use Rattle.snowcat_rows.proofs.Roots.{Root, no_root, marked, record_root, root}
+use Rattle.snowcat_rows.proofs.Roots.{Root, marked, record_root, root}
 use Rattle.snowcat_types.specs.TypeForms.{bool_type, int_type, str_type, set_type, seq_type, fun_type, tuple_type, record_type}
 use Rattle.kernel_trees.specs.TypeKinds.{Kind, Truth, Number, Word, Set, Seq, Fun, Tup, Rec, kinds, fields as fields_in, kind_of, record_kind, all_there, all_fields_there}
 use Rattle.kernel_trees.proofs.TypeLaws.{kind-Bool, kind-Int, kind-Str, kind-Named, kind-Set, kind-Seq, kind-Fun, kind-Tup, kind-Rec, kind-open, kind-Var, kind-Oper}

@@ -1,14 +1,13 @@
 -- What is built as a constant is a literal, through notes.
-use Rattle.std.proofs.Common.{◌≡◌, ℕ, Bool, true, false, List, [], ◌∷◌, ◌++◌, map, refl, sym, ◌∙◌, ap, subst, Option, Some, None}
+use Rattle.std.proofs.Common.{◌≡◌, ℕ, true, List, [], ◌∷◌, ◌++◌, map, refl, sym, ap, subst, Option}
 use Rattle.tla_values.specs.Order.{Layer}
-use Rattle.tla_values.specs.declared.value.Value.{Value, out-Value}
+use Rattle.tla_values.specs.declared.value.Value.{Value}
 use Rattle.tla_values.specs.declared.value.Value.TheVariants as value
 use Rattle.tla_values.specs.declared.value.Value.TheOpen as vlayer
 use Rattle.tla_meaning.specs.declared.actions.Assignable.{Assignable}
 use Rattle.tla_meaning.specs.declared.expr.Expr.{Expr, out-Expr}
 use Rattle.tla_meaning.specs.declared.expr.Expr.TheFolds.{fold_out-Expr}
 use Rattle.tla_meaning.specs.declared.op.Op.{Op}
-use Rattle.tla_meaning.specs.declared.op.Op.TheVariants as op
 use Rattle.tla_meaning.specs.declared.place.Place.{Place}
 use Rattle.tla_meaning.proofs.Views.{false≢true}
 use Rattle.snowcat_rows.specs.declared.types.Ty.{Ty}

@@ -1,38 +1,32 @@
 -- Nodes of the operators that the kernel has, too, and of binders: by the types of their children they are sound.
-use Rattle.std.proofs.Common.{◌≡◌, ℕ, zero, suc, ◌+◌, Bool, true, false, not, ◌&&◌, ◌||◌, List, [], ◌∷◌, ◌++◌, map, zip, length, refl, sym, ◌∙◌, ap, subst, Option, Some, None, arith, if◌then◌else◌}
-use Rattle.std.specs.Prelude.{nat_eq, option_map, replicate}
-use Rattle.std.proofs.lemmas.Bool.{eqb-true}
-use Rattle.tla_values.specs.declared.value.Value.TheVariants as value
+use Rattle.std.proofs.Common.{◌≡◌, ℕ, zero, suc, Bool, true, false, not, ◌&&◌, ◌||◌, List, [], ◌∷◌, length, refl, sym, ◌∙◌, ap, subst, Option, Some, None, arith, if◌then◌else◌}
+use Rattle.std.specs.Prelude.{replicate}
 use Rattle.tla_meaning.specs.declared.expr.Expr.{Expr}
-use Rattle.tla_meaning.specs.declared.op.Op.{Op}
 use Rattle.tla_meaning.specs.declared.op.Op.TheVariants as op
 use Rattle.tla_meaning.specs.declared.place.Place.{Place}
 use Rattle.tla_meaning.proofs.Views.{and_both, false≢true}
-use Rattle.tla_meaning.proofs.Laws.{none≢some}
 use Rattle.snowcat_rows.specs.Types.{Term, mean, con, StrHead, NamedHead}
-use Rattle.snowcat_rows.specs.declared.types.Ty.{Ty, out-Ty, Str, Named}
+use Rattle.snowcat_rows.specs.declared.types.Ty.{Ty}
 use Rattle.snowcat_rows.specs.LiteralTypes.{literal_type, type_of_parts, last_of, is_word, is_type_name}
-use Rattle.snowcat_types.specs.TypeForms.{bool_type, int_type, set_type, seq_type, fun_type}
-use Rattle.snowcat_types.specs.Rows.{Operand, Signature, Context as TypeContext, from_type, sets_of, over, argument_type, first_type, noted_row, gives, plain as plain_operand}
+use Rattle.snowcat_types.specs.TypeForms.{bool_type, set_type, seq_type, fun_type}
+use Rattle.snowcat_types.specs.Rows.{Context as TypeContext, from_type, sets_of, over, argument_type, first_type, noted_row, gives}
 use Rattle.kernel_trees.specs.declared.kernel.Ker.{Ker}
 use Rattle.kernel_trees.specs.declared.kernel.KerOp.{KerOp}
 use Rattle.kernel_trees.specs.declared.kernel.KerOp.TheVariants as ker
 use Rattle.kernel_trees.specs.Trees.{op_of}
-use Rattle.kernel_trees.specs.TypeKinds.{Kind, Truth, Number, Word, Set, Seq, Fun, kind_of, same, members}
+use Rattle.kernel_trees.specs.TypeKinds.{Kind, Truth, Word, Set, Fun, kind_of, same}
 use Rattle.kernel_trees.specs.Sound as sound
 use Rattle.kernel_trees.specs.Sound.{Context, Part, row, plain, binder, binder_row, sound_at, is_literal, argument_kind}
 use Rattle.kernel_trees.proofs.SoundTrees.{Child}
-use Rattle.kernel_trees.proofs.TypeLaws.{kind-Str, kind-Named}
 use Rattle.kera_reducer.specs.Infinite.{is_infinite, form_child}
 use Rattle.kera_reducer.specs.inner.Builds.{is_same, is_binder}
-use Rattle.kera_reducer.specs.inner.BuildsTyped.{is_chosen}
-use Rattle.kera_reducer.specs.inner.Rows.{tree, node}
-use Rattle.kera_reducer.proofs.SoundMade.{Is, same_self, fold_is}
-use Rattle.kera_reducer.proofs.KindsOf.{Of, AreOf, no_more, and_of, same_of, has_bool, has_int, has_str, has_set, has_seq, has_fun, is_truth, is_number, of_set, of_seq, IsWord, of_name}
-use Rattle.kera_reducer.proofs.SameRows.{signature, types_of, is_direct, direct_row}
-use Rattle.kera_reducer.proofs.SoundForms.{AllAt, anywhere, plain_at, made_at, binder_at}
-use Rattle.kera_reducer.proofs.BuiltParts.{Met, types_at, as_many, is_none, all_plain, plain_map}
-use Rattle.kera_reducer.proofs.RowsDone.{Out, All, argument_done}
+use Rattle.kera_reducer.specs.inner.Rows.{node}
+use Rattle.kera_reducer.proofs.SoundMade.{same_self}
+use Rattle.kera_reducer.proofs.KindsOf.{Of, AreOf, no_more, and_of, same_of, has_str, has_set, has_fun, is_truth, of_seq, IsWord, of_name}
+use Rattle.kera_reducer.proofs.SameRows.{signature, is_direct}
+use Rattle.kera_reducer.proofs.SoundForms.{AllAt, plain_at}
+use Rattle.kera_reducer.proofs.BuiltParts.{Met, all_plain, plain_map}
+use Rattle.kera_reducer.proofs.RowsDone.{argument_done}
 
 -- ---- the same operator
 

@@ -1,26 +1,23 @@
 -- The trees that rows make, of children of the kinds that the type table asks: with the types that they carry they are
 -- sound.
-use Rattle.std.proofs.Common.{◌≡◌, ℕ, zero, suc, Bool, true, false, not, ◌&&◌, ◌||◌, List, [], ◌∷◌, ◌++◌, map, zip, length, refl, sym, ◌∙◌, ap, subst, Option, Some, None, pos}
+use Rattle.std.proofs.Common.{◌≡◌, ℕ, zero, suc, Bool, true, false, not, List, [], ◌∷◌, map, refl, sym, ◌∙◌, ap, subst, Some}
 use Rattle.std.specs.Prelude.{nat_eq, option_map, option_and_then}
-use Rattle.tla_values.specs.declared.value.Value.TheVariants as value
 use Rattle.tla_meaning.specs.declared.place.Place.{Place}
-use Rattle.tla_meaning.proofs.Views.{and_both, false≢true}
 use Rattle.snowcat_rows.specs.Types.{Term}
-use Rattle.snowcat_rows.specs.declared.types.Ty.{Ty, Bool as bool_ty, Int, Set as set_ty, Seq as seq_ty, Tup as tup_ty}
-use Rattle.snowcat_types.specs.TypeForms.{bool_type, int_type, set_type, seq_type, fun_type, tuple_type}
-use Rattle.snowcat_types.specs.Rows.{branches, argument_type, first_type, plain as plain_operand}
+use Rattle.snowcat_rows.specs.declared.types.Ty.{Ty, Bool as bool_ty, Int, Set as set_ty}
+use Rattle.snowcat_types.specs.TypeForms.{bool_type, int_type}
+use Rattle.snowcat_types.specs.Rows.{branches, argument_type, plain as plain_operand}
 use Rattle.kernel_trees.specs.declared.kernel.Ker.{Ker}
-use Rattle.kernel_trees.specs.declared.kernel.KerOp.{KerOp}
 use Rattle.kernel_trees.specs.declared.kernel.KerOp.TheVariants as ker
-use Rattle.kernel_trees.specs.TypeKinds.{Kind, Truth, Number, Word, Set, Seq, Fun, Tup, kinds, kind_of, same, each_is}
-use Rattle.kernel_trees.specs.Sound.{Context, row, argument_kind}
+use Rattle.kernel_trees.specs.TypeKinds.{Kind, Truth, Number, Set, Seq, Fun, Tup, kinds, kind_of, same}
+use Rattle.kernel_trees.specs.Sound.{Context, argument_kind}
 use Rattle.kernel_trees.proofs.SoundTrees.{Child}
 use Rattle.kernel_trees.proofs.TypeLaws.{kind-Bool, kind-Int, kind-Set, kind-Seq, kind-Tup}
 use Rattle.kera_reducer.specs.inner.Making.{pair_type, let_of}
-use Rattle.kera_reducer.specs.inner.Rows.{tree, node, number, truth, negation, type_of, implication, equivalence, single, small_power, large_power, nested_ifs, guard_of}
-use Rattle.kera_reducer.proofs.SoundMade.{Is, AllAre, same_self, plain_is, number_is, truth_is, negation_is, implication_is, IsLetOf, finite_is, equivalence_is, single_is}
-use Rattle.kera_reducer.proofs.SoundChanges.{small_power_is, large_power_is, ArmsAre, nested_ifs_are, guard_is}
-use Rattle.kera_reducer.proofs.KindsOf.{Of, AreOf, no_more, and_of, same_of, has_bool, has_int, has_tuple, is_truth, is_number, of_set}
+use Rattle.kera_reducer.specs.inner.Rows.{node, number, truth, type_of, equivalence, single, small_power, large_power}
+use Rattle.kera_reducer.proofs.SoundMade.{Is, same_self, plain_is, number_is, truth_is, IsLetOf, equivalence_is, single_is}
+use Rattle.kera_reducer.proofs.SoundChanges.{small_power_is, large_power_is, ArmsAre}
+use Rattle.kera_reducer.proofs.KindsOf.{Of, AreOf, no_more, and_of, same_of, has_bool, has_tuple, is_truth, is_number}
 use Rattle.kera_reducer.proofs.SameRows.{types_of}
 use Rattle.kera_reducer.proofs.SoundForms.{AllAt, anywhere, plain_at}
 

@@ -1,5 +1,5 @@
 -- The rows of the operators that the kernel has, too, all of them.
-use Rattle.std.proofs.Common.{◌≡◌, ℕ, zero, suc, ◌+◌, Bool, true, false, not, ◌&&◌, ◌||◌, List, [], ◌∷◌, ◌++◌, map, zip, length, refl, sym, ◌∙◌, ap, subst, Option, Some, None, arith}
+use Rattle.std.proofs.Common.{◌≡◌, ℕ, zero, suc, ◌+◌, Bool, true, false, not, List, [], ◌∷◌, map, length, refl, sym, ◌∙◌, ap, subst, Some}
 use Rattle.std.specs.Prelude.{nat_eq}
 use Rattle.std.proofs.lemmas.Bool.{eqb-true}
 use Rattle.tla_meaning.specs.declared.expr.Expr.{Expr}
@@ -16,7 +16,7 @@ use Rattle.kernel_trees.specs.declared.kernel.Ker.{Ker}
 use Rattle.kernel_trees.specs.declared.kernel.KerOp.{KerOp}
 use Rattle.kernel_trees.specs.declared.kernel.KerOp.TheVariants as ker
 use Rattle.kernel_trees.specs.Trees.{op_of}
-use Rattle.kernel_trees.specs.TypeKinds.{Kind, kind_of, is_kind, field_kind}
+use Rattle.kernel_trees.specs.TypeKinds.{Kind, kind_of, is_kind}
 use Rattle.kernel_trees.specs.Sound.{Context, row}
 use Rattle.kera_reducer.specs.Infinite.{form_child}
 use Rattle.kera_reducer.specs.inner.Builds.{is_same}
@@ -27,7 +27,7 @@ use Rattle.kera_reducer.proofs.KindsOf.{Of, AreOf, no_more, and_of, same_of, of_
 use Rattle.kera_reducer.proofs.SameRows.{signature, types_of, direct_row, sets_there}
 use Rattle.kera_reducer.proofs.SoundForms.{AllAt}
 use Rattle.kera_reducer.proofs.BuiltParts.{Met, types_at}
-use Rattle.kera_reducer.proofs.ChoiceRows.{tup, rec, kind_form, form_of, tuple_form, record_form, field_found, plus_none, at_row, dom_row, plain_types, Tupled, a_sequence, tuple_row, seq_of_row, tup_of_row, rec_of_row, rec_form_row}
+use Rattle.kera_reducer.proofs.ChoiceRows.{form_of, tuple_form, record_form, field_found, plus_none, at_row, dom_row, plain_types, Tupled, a_sequence, tuple_row, seq_of_row, tup_of_row, rec_of_row, rec_form_row}
 
 from_long : (s : ℕ → Term) (i n : ℕ) → length (from_type s i n) ≡ n
 from_long s i zero = refl

@@ -1,7 +1,7 @@
 -- The rows of operators that the kernel has, too: where the types of a node and of its children meet the row of the type
 -- table, their kinds meet that of the kernel's.
-use Rattle.std.proofs.Common.{◌≡◌, ℕ, zero, suc, Bool, true, false, ◌&&◌, List, [], ◌∷◌, map, zip, refl, sym, ◌∙◌, ap, subst, Option, Some, None, length}
-use Rattle.std.specs.Prelude.{replicate, ◌==◌, option_map}
+use Rattle.std.proofs.Common.{◌≡◌, ℕ, zero, suc, Bool, true, false, ◌&&◌, List, [], ◌∷◌, map, refl, ◌∙◌, ap, Some}
+use Rattle.std.specs.Prelude.{replicate, option_map}
 use Rattle.tla_meaning.proofs.Views.{and_both, false≢true}
 use Rattle.tla_meaning.specs.declared.op.Op.{Op}
 use Rattle.snowcat_rows.specs.Types.{Term}
@@ -10,7 +10,7 @@ use Rattle.snowcat_types.specs.Rows.{Operand, Signature, Context, row_of, from_t
 use Rattle.kernel_trees.specs.declared.kernel.KerOp.{KerOp}
 use Rattle.kernel_trees.specs.declared.kernel.KerOp.TheVariants as ker
 use Rattle.kernel_trees.specs.Trees.{op_of}
-use Rattle.kernel_trees.specs.TypeKinds.{Kind, Truth, Number, Word, Set, Seq, Fun, Tup, Rec, kinds, same, all_same, each_is, members}
+use Rattle.kernel_trees.specs.TypeKinds.{Kind, Truth, Number, Word, Set, Seq, Fun, Tup, kinds, same, all_same, each_is, members}
 use Rattle.kernel_trees.specs.Sound.{row, passes}
 use Rattle.kera_reducer.proofs.SoundMade.{same_self, all_self}
 use Rattle.kera_reducer.proofs.KindsOf.{Of, AreOf, no_more, and_of, same_of, has_bool, has_int, has_str, has_set, has_seq, has_fun, is_truth, is_number, of_set, of_seq, of_fun, has_tuple}

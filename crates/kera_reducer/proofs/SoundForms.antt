@@ -1,10 +1,10 @@
 -- A tree that is sound where it stands in no form position is sound in one; and nodes that bind nothing, or numbers that
 -- stand for members, are sound in either.
-use Rattle.std.proofs.Common.{◌≡◌, ℕ, zero, suc, Bool, true, false, not, ◌&&◌, ◌||◌, List, [], ◌∷◌, ◌++◌, zip, take, drop, length, map, refl, sym, ◌∙◌, ap, subst, Option, Some, None, arith}
+use Rattle.std.proofs.Common.{◌≡◌, ℕ, zero, suc, Bool, true, false, not, ◌&&◌, ◌||◌, List, [], ◌∷◌, ◌++◌, zip, take, drop, length, refl, sym, ◌∙◌, ap, subst, Some, arith}
 use Rattle.std.specs.Prelude.{option_map, option_and_then}
 use Rattle.std.specs.List.{list_all}
 use Rattle.tla_meaning.specs.declared.place.Place.{Place}
-use Rattle.tla_meaning.proofs.Views.{and_left, and_right, and_both, false≢true}
+use Rattle.tla_meaning.proofs.Views.{and_both}
 use Rattle.snowcat_rows.specs.declared.types.Ty.{Ty}
 use Rattle.kernel_trees.specs.declared.kernel.Ker.{Ker, out-roll-Ker}
 use Rattle.kernel_trees.specs.declared.kernel.Ker.TheOpen.{Ker-F}

@@ -1,5 +1,5 @@
 -- Each part of a job's kernel is sound.
-use Rattle.std.proofs.Common.{◌≡◌, ℕ, zero, suc, ◌<◌, Bool, true, false, not, ◌&&◌, ◌||◌, List, [], ◌∷◌, ◌++◌, map, length, refl, sym, ◌∙◌, ap, subst, Option, Some, None, option_map, option_and_then, IsTrue, arith}
+use Rattle.std.proofs.Common.{◌≡◌, ℕ, zero, suc, ◌<◌, Bool, true, false, ◌&&◌, List, [], ◌∷◌, ◌++◌, map, length, refl, sym, ◌∙◌, ap, subst, Option, Some, None, option_map, option_and_then, arith}
 use Rattle.std.specs.Prelude.{nat_lt, slice_get, is_some}
 use Rattle.std.specs.List.{list_all}
 use Rattle.std.proofs.lemmas.Bool.{ltb-true, lt-ltb}
@@ -16,7 +16,7 @@ use Rattle.snowcat_rows.specs.declared.types.Ty.TheOpen as layer
 use Rattle.snowcat_rows.specs.declared.types.Typed.{Typed}
 use Rattle.snowcat_rows.proofs.Means.{mean_out}
 use Rattle.snowcat_types.specs.TypeForms.{bool_type, int_type}
-use Rattle.snowcat_types.specs.Answers.{AllHaveTypes, MeetsRows, outside_of, types_of_names}
+use Rattle.snowcat_types.specs.Answers.{AllHaveTypes, outside_of, types_of_names}
 use Rattle.snowcat_types.specs.Judgement.{HasTypes}
 use Rattle.snowcat_types.specs.Rows.{Context as TypeContext, or_type}
 use Rattle.snowcat_types.specs.Systems.{parts_of}
@@ -24,9 +24,8 @@ use Rattle.kernel_trees.specs.declared.kernel.Ker.{Ker}
 use Rattle.kernel_trees.specs.declared.system.KerJob.{KerJob}
 use Rattle.kernel_trees.specs.Sound.{kind_at, passes, sound}
 use Rattle.kernel_trees.specs.Systems.{parts}
-use Rattle.kernel_trees.specs.TypeKinds.{Kind, Truth, kind_of, is_kind, same, all_there}
+use Rattle.kernel_trees.specs.TypeKinds.{Kind, Truth, kind_of, is_kind, all_there}
 use Rattle.kernel_trees.proofs.TypeLaws.{same_is}
-use Rattle.kernel_trees.proofs.SoundTrees.{Child}
 use Rattle.kera_reducer.specs.Infinite.{infinite_in, all_infinite}
 use Rattle.kera_reducer.specs.Whole.{is_whole}
 use Rattle.kera_reducer.specs.inner.BuildsTyped.{BuildsTyped}
@@ -34,8 +33,7 @@ use Rattle.kera_reducer.specs.SoundLaws.{has_kind, is_truth_first, is_sound_trut
 use Rattle.kera_reducer.proofs.KindsOf.{Opened, Of, is_truth, split_there}
 use Rattle.kera_reducer.proofs.KindTies.{Ties}
 use Rattle.kera_reducer.proofs.ChoiceRows.{type_form, truth, form_of}
-use Rattle.kera_reducer.proofs.BuiltParts.{Fine, Have, Reads}
-use Rattle.kera_reducer.proofs.RowsDone.{Out}
+use Rattle.kera_reducer.proofs.BuiltParts.{Fine, Have}
 use Rattle.kera_reducer.proofs.BuiltSound.{Knows, InAction, tree_sound}
 
 no_ties : Ties [] [] []

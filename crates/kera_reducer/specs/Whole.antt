@@ -1,6 +1,6 @@
 -- Trees that are whole: what the types of a tree do not say of its nodes. Source: Specifying Systems, section 16.1, for the
 -- operands of operators.
-use Rattle.std.specs.Prelude.{ℕ, Bool, true, false, ◌&&◌, List, [], nat_eq, nat_lt, length, None}
+use Rattle.std.specs.Prelude.{ℕ, Bool, true, ◌&&◌, List, [], nat_eq, nat_lt, length, None}
 use Rattle.std.specs.List.{list_all}
 use Rattle.tla_meaning.specs.declared.expr.Expr.{Expr}
 use Rattle.tla_meaning.specs.declared.expr.Expr.TheOpen.{Expr-F}
