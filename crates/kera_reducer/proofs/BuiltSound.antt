@@ -40,23 +40,12 @@ use Rattle.kera_reducer.proofs.KindTies.{Ties, tie_all, tie_nil}
 use Rattle.kera_reducer.proofs.SameRows.{signature, types_of, direct_row, sets_there}
 use Rattle.kera_reducer.proofs.SoundForms.{AllAt, anywhere, plain_at, made_at, binder_at}
 use Rattle.kera_reducer.proofs.BuiltParts.{Fine, AllFine, fine_at, fine_take, fine_drop, Reads, AllOf, all_of, of_left, is_none, all_plain, plain_map, front_of, none_of, parted, less, kinds_of_operands, Met, types_at, as_many}
+use Rattle.kera_reducer.proofs.Lengths.{cons_first, cons_rest, none_long, some_long, is_nothing, more_than, take_long, drop_long, sets_long, from_long, joined_long, fresh_long, are_long, types_long, member_forms, bool_of}
 use Rattle.kera_reducer.proofs.RowsDone.{Out, truth_out, as_truth, as_number, equal_done, less_done, minus_done, truths_done, equivalence_done, single_done, power_done, high_power_done, arms_done, let_types, pair_kind}
 use Rattle.kera_reducer.proofs.LiteralRoots.{Tells, second_told}
 use Rattle.kera_reducer.proofs.ChoiceRows.{plus_none, form_of, form_tuple, form_record, item_row, field_row}
 use Rattle.kera_reducer.proofs.SameDone.{row_of_same}
 use Rattle.kera_reducer.proofs.NodeRows.{same_operands, same_done, along, constant_done, word_of_text, body_of, result_of, over_is, binder_plain, no_forms, row_of_binder, two_kinds, noted_says}
-
-cons_first : {X : Type 0} {x y : X} {xs ys : List X} → x ∷ xs ≡ y ∷ ys → x ≡ y
-cons_first e = cc
-
-cons_rest : {X : Type 0} {x y : X} {xs ys : List X} → x ∷ xs ≡ y ∷ ys → xs ≡ ys
-cons_rest e = cc
-
-none_long : (n : ℕ) → 0 ≡ suc n → ⊥
-none_long n e = omega (arith, e)
-
-some_long : (n : ℕ) → suc n ≡ 0 → ⊥
-some_long n e = omega (arith, e)
 
 module _ (names : List Kind) where
   abbrev pub Knows : TypeContext → Type 0
@@ -78,10 +67,6 @@ module _ (names : List Kind) where
   abbrev AllTie : Numbering → Scope → Context → List Operand → Type 0
   AllTie ρ bs c [] = Unit {0}
   AllTie ρ bs c (o ∷ os) = Ties ρ (bs ++ o.under) c × AllTie ρ bs c os
-
-  is_nothing : {X : Type 0} (xs : List X) → is_none xs ≡ true → xs ≡ []
-  is_nothing [] h = refl
-  is_nothing (x ∷ xs) h = absurd (false≢true h)
 
   plain_tie : (ρ : Numbering) (bs : Scope) (c : Context) (os : List Operand) → all_plain os ≡ true → Ties ρ bs c →
       AllTie ρ bs c os
@@ -144,16 +129,8 @@ module _ (names : List Kind) where
   fine_along f g e n (x ∷ es) h =
       (subst (λ z. Fine (length names) z x) (e n) h.0, fine_along f g e (suc n) es h.1)
 
-  member_forms : (n : ℕ) (b : Bool) → form_child op.NotIn n b ≡ sound_child ker.Member n false
-  member_forms zero b = refl
-  member_forms (suc zero) b = refl
-  member_forms (suc (suc n)) b = refl
-
   number_out : (c : Context) (b : Bool) (x : Term) (k : Ker) → x ≡ int_type → Is names c Number k → Out names c b x k
   number_out c b x k e h = (Number, subst (λ z. Of z Number) (sym e) has_int, anywhere names c b Number k h)
-
-  bool_of : (x : Term) (a : Kind) → x ≡ bool_type → Of x a → Of bool_type a
-  bool_of x a e h = subst (λ z. Of z a) e h
 
   fold_done : (c : Context) (p : Place) (t : Ty) (e : Ker) (ks : List Ker) (ns : List ℕ) (a b : Kind)
       (x y : Term) (as' : List Kind) → kind_of t ≡ Some a → length ns ≡ 2 → Of x a → Of y b →
@@ -172,53 +149,12 @@ module _ (names : List Kind) where
   fold_done c p t e (f ∷ s ∷ z ∷ ks) (m ∷ n ∷ []) a b x y _ q l h g (and_of _ a1 _ _ h1 (and_of _ b1 _ _ g1 no_more)) w k =
       absurd w.1.1
 
-  -- n and k more
-  abbrev more_than : ℕ → ℕ → ℕ
-  more_than zero k = k
-  more_than (suc n) k = suc (more_than n k)
-
-  take_long : {X : Type 0} (n k : ℕ) (xs : List X) → more_than n k ≡ length xs → n ≡ length (take n xs)
-  take_long zero k xs h = refl
-  take_long (suc n) k [] h = absurd (some_long (more_than n k) h)
-  take_long (suc n) k (x ∷ xs) h = ap suc (take_long n k xs (less (more_than n k) (length xs) h))
-
-  drop_long : {X : Type 0} (n k : ℕ) (xs : List X) → more_than n k ≡ length xs → k ≡ length (drop n xs)
-  drop_long zero k xs h = h
-  drop_long (suc n) k [] h = absurd (some_long (more_than n k) h)
-  drop_long (suc n) k (x ∷ xs) h = drop_long n k xs (less (more_than n k) (length xs) h)
-
-  sets_long : (s : ℕ → Term) (i n : ℕ) → length (map plain_operand (sets_of (from_type s i n))) ≡ n
-  sets_long s i zero = refl
-  sets_long s i (suc n) = ap suc (sets_long s (i + 1) n)
-
-  from_long : (s : ℕ → Term) (i n : ℕ) → length (from_type s i n) ≡ n
-  from_long s i zero = refl
-  from_long s i (suc n) = ap suc (from_long s (i + 1) n)
-
-  joined_long : (os : List Operand) (o : Operand) → length (os ++ o ∷ []) ≡ more_than (length os) 1
-  joined_long [] o = refl
-  joined_long (p ∷ os) o = ap suc (joined_long os o)
-
-  fresh_long : (xs : List (List ℕ)) (ns : List ℕ) (ρ : Numbering) → all_fresh xs ns ρ ≡ true → length ns ≡ length xs
-  fresh_long [] [] ρ h = refl
-  fresh_long [] (n ∷ ns) ρ h = absurd (false≢true h)
-  fresh_long (x ∷ xs) [] ρ h = absurd (false≢true h)
-  fresh_long (x ∷ xs) (n ∷ ns) ρ h = ap suc (fresh_long xs ns (ρ ++ (x, n) ∷ []) (and_right _ _ h))
-
   all_long : (f : ℕ → Bool) (n : ℕ) (c : Context) (as' : List Kind) (ks : List Ker) → AllAt names f n c as' ks →
       length as' ≡ length ks
   all_long f n c [] [] h = refl
   all_long f n c [] (k ∷ ks) h = absurd h
   all_long f n c (a ∷ as') [] h = absurd h
   all_long f n c (a ∷ as') (k ∷ ks) h = ap suc (all_long f (suc n) c as' ks h.1)
-
-  are_long : (xs : List Term) (as' : List Kind) → AreOf xs as' → length as' ≡ length xs
-  are_long _ _ no_more = refl
-  are_long _ _ (and_of x a xs as' h g) = ap suc (are_long xs as' g)
-
-  types_long : (os : List Operand) → length (types_of os) ≡ length os
-  types_long [] = refl
-  types_long (o ∷ os) = ap suc (types_long os)
 
   -- what is said of several
   abbrev EachSays : Option Assignable → Numbering → List Expr → List Ty → List Ker → List Ty → Type 0

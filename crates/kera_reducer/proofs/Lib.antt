@@ -50,6 +50,7 @@ pub mod SameRows
 pub mod KindTies
 pub mod SoundForms
 pub mod BuiltParts
+pub mod Lengths
 pub mod RowsDone
 pub mod NodeRows
 pub mod ChoiceRows
