@@ -29,7 +29,7 @@ pub record Ties (ρ : Numbering) (bs : Scope) (c : Context) : Type 0 where
   pub bound : (x : List ℕ) (n : ℕ) → find_last x ρ ≡ Some n → Named bs c x n
   pub new : (n : ℕ) → fresh n ρ ≡ true → kind_in c n ≡ None
 
-apart_turned : (m n : ℕ) → nat_eq m n ≡ false → nat_eq n m ≡ false
+pub apart_turned : (m n : ℕ) → nat_eq m n ≡ false → nat_eq n m ≡ false
 apart_turned m n h = by (nat_eq n m) refl
   where
     by : (b : Bool) → nat_eq n m ≡ b → b ≡ false
@@ -37,7 +37,7 @@ apart_turned m n h = by (nat_eq n m) refl
     by true q =
         absurd (false≢true (sym h ∙ ap (λ k. nat_eq m k) (eqb-true n m q) ∙ nat_same m))
 
-fresh_front : (m : ℕ) (ρ : Numbering) (x : List ℕ) (n : ℕ) → fresh m (ρ ++ (x, n) ∷ []) ≡ true →
+pub fresh_front : (m : ℕ) (ρ : Numbering) (x : List ℕ) (n : ℕ) → fresh m (ρ ++ (x, n) ∷ []) ≡ true →
     (fresh m ρ ≡ true) × (nat_eq n m ≡ false)
 fresh_front m [] x n h = (refl, not_true (nat_eq n m) (and_left (not (nat_eq n m)) true h))
 fresh_front m (e ∷ ρ) x n h =

@@ -60,3 +60,4 @@ pub mod BuiltSound
 pub mod SoundJobs
 pub mod TypedBuilt
 pub mod SoundTexts
+pub mod ScopedMade
