@@ -61,3 +61,4 @@ pub mod SoundJobs
 pub mod TypedBuilt
 pub mod SoundTexts
 pub mod ScopedMade
+pub mod ScopedBuilt
