@@ -57,8 +57,8 @@ pub mod ChoiceRows
 pub mod SameDone
 pub mod LiteralRoots
 pub mod BuiltSound
-pub mod SoundJobs
 pub mod TypedBuilt
 pub mod SoundTexts
 pub mod ScopedMade
 pub mod ScopedBuilt
+pub mod SoundJobs

@@ -22,8 +22,8 @@ use Rattle.snowcat_types.specs.Rows.{Context as TypeContext, or_type}
 use Rattle.snowcat_types.specs.Systems.{parts_of}
 use Rattle.kernel_trees.specs.declared.kernel.Ker.{Ker}
 use Rattle.kernel_trees.specs.declared.system.KerJob.{KerJob}
-use Rattle.kernel_trees.specs.Sound.{kind_at, passes, sound}
-use Rattle.kernel_trees.specs.Systems.{parts}
+use Rattle.kernel_trees.specs.Sound.{bound_in, kind_at, passes, sound, sound_tree}
+use Rattle.kernel_trees.specs.Systems.{parts, sound_part, texts_within}
 use Rattle.kernel_trees.specs.TypeKinds.{Kind, Truth, kind_of, is_kind, all_there}
 use Rattle.kernel_trees.proofs.TypeLaws.{same_is}
 use Rattle.kera_reducer.specs.Infinite.{infinite_in, all_infinite}
@@ -34,10 +34,17 @@ use Rattle.kera_reducer.proofs.KindsOf.{Opened, Of, is_truth, split_there}
 use Rattle.kera_reducer.proofs.KindTies.{Ties}
 use Rattle.kera_reducer.proofs.ChoiceRows.{type_form, truth, form_of}
 use Rattle.kera_reducer.proofs.BuiltParts.{Fine, Have}
+use Rattle.kernel_trees.specs.Scoped.{scoped}
+use Rattle.kera_reducer.proofs.ScopedMade.{Covers}
+use Rattle.kera_reducer.proofs.ScopedBuilt.{tree_scoped}
+use Rattle.kera_reducer.proofs.SoundTexts.{texts_are_within}
 use Rattle.kera_reducer.proofs.BuiltSound.{Knows, InAction, tree_sound}
 
 no_ties : Ties [] [] []
 no_ties = record { bound = λ x n q. absurd (none≢some q); new = λ n h. refl }
+
+no_names : Covers [] (bound_in [])
+no_names = record { bound = λ x n q. absurd (none≢some q); new = λ n h. refl }
 
 some_kind : (o : Option Kind) → is_some o ≡ true → (a : Kind) × (o ≡ Some a)
 some_kind None h = absurd (false≢true h)
@@ -112,7 +119,9 @@ part_sound names g kn gb i e (t ∷ ts) k d fine h f types =
     (map mean ts) [] types (in_action i (mean t) names x)
     (sym (append-nil (map mean (t ∷ ts))), all_have (t ∷ ts) h) in
     let w : r.1.0 ≡ Truth = is_truth r.1.0 (subst (λ z. Of z r.1.0) x r.1.1) in
-    and_both (is_kind Truth (kind_at k)) (sound names k [] false) (ap (is_kind Truth) (r.1.2.0 ∙ ap Some w)) r.1.2.1
+    and_both (is_kind Truth (kind_at k)) (sound_tree names k [] false) (ap (is_kind Truth) (r.1.2.0 ∙ ap Some w))
+    (and_both (sound names k [] false) (scoped k (bound_in [])) r.1.2.1
+    (tree_scoped (length names) d (bound_in []) no_names false fine))
 
 nil_left : (xs ys : List Place) → xs ++ ys ≡ [] → (xs ≡ []) × (ys ≡ [])
 nil_left [] ys h = (refl, h)
@@ -145,13 +154,23 @@ long_there [] as' h = ap length (some_of h)
 long_there (t ∷ ts) as' h =
     let v = split_there (kind_of t) (map kind_of ts) as' h in ap suc (long_there ts v.1 v.4) ∙ ap length (sym v.2)
 
+all_both : (f g : Ker → Bool) (ks : List Ker) → list_all f ks ≡ true → list_all g ks ≡ true →
+    list_all (λ k. f k && g k) ks ≡ true
+all_both f g [] h q = refl
+all_both f g (k ∷ ks) h q =
+    and_both (f k && g k) (list_all (λ k. f k && g k) ks)
+    (and_both (f k) (g k) (and_left (f k) (list_all f ks) h) (and_left (g k) (list_all g ks) q))
+    (all_both f g ks (and_right (f k) (list_all f ks) h) (and_right (g k) (list_all g ks) q))
+
 pub parts_are_sound : (job : Job) (t : Typed) (k : KerJob) → PartsAreSound job t k
-parts_are_sound job t k whole finite kinded meets named built =
+parts_are_sound job t k whole finite kinded meets texts named built =
     let all : Bool = list_all (λ ts. list_all has_kind ts && is_truth_first ts) t.parts in
     let n = kinds_there t.names (and_left (list_all has_kind t.names) all kinded) in
     let l : length t.names ≡ length n.0 = long_there t.names n.0 n.1 in
-    ap (λ z. passes (λ names. list_all (is_sound_truth names) (parts k)) (all_there (map kind_of z))) named
-    ∙ ap (passes (λ names. list_all (is_sound_truth names) (parts k))) n.1
-    ∙ all_sound n.0 (outside_of meets.annotations (types_of_names t)) (knows_names t.names n.0 n.1) refl
-    (positions job) (parts_of job) t.parts (parts k) built (subst (λ z. list_all (is_whole z) (parts_of job) ≡ true) l whole) finite
-    (and_right (list_all has_kind t.names) all kinded) meets.parts
+    ap (λ z. passes (λ names. list_all (sound_part names k.texts) (parts k)) (all_there (map kind_of z))) named
+    ∙ ap (passes (λ names. list_all (sound_part names k.texts) (parts k))) n.1
+    ∙ all_both (is_sound_truth n.0) (texts_within k.texts) (parts k)
+    (all_sound n.0 (outside_of meets.annotations (types_of_names t)) (knows_names t.names n.0 n.1) refl (positions job)
+    (parts_of job) t.parts (parts k) built (subst (λ z. list_all (is_whole z) (parts_of job) ≡ true) l whole) finite
+    (and_right (list_all has_kind t.names) all kinded) meets.parts)
+    (texts_are_within job t k texts built)

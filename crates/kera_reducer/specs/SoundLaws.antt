@@ -13,8 +13,8 @@ use Rattle.snowcat_types.specs.Answers.{MeetsRows}
 use Rattle.snowcat_types.specs.Systems.{parts_of}
 use Rattle.kernel_trees.specs.declared.kernel.Ker.{Ker}
 use Rattle.kernel_trees.specs.declared.system.KerJob.{KerJob}
-use Rattle.kernel_trees.specs.Sound.{kind_at, passes, sound}
-use Rattle.kernel_trees.specs.Systems.{kinds_of_names, parts, texts_within}
+use Rattle.kernel_trees.specs.Sound.{kind_at, passes, sound_tree}
+use Rattle.kernel_trees.specs.Systems.{kinds_of_names, parts, sound_part, texts_within}
 use Rattle.kernel_trees.specs.TypeKinds.{Kind, Truth, is_kind, kind_of}
 use Rattle.kera_reducer.specs.Infinite.{infinite_places}
 use Rattle.kera_reducer.specs.Origins.{has_node}
@@ -55,15 +55,7 @@ AllBuilt (i ∷ is) (e ∷ es) (ts ∷ tss) (k ∷ ks) = BuildsTyped i [] e ts k
 AllBuilt is es tss ks = ⊥
 
 abbrev pub is_sound_truth : List Kind → Ker → Bool
-is_sound_truth names p = is_kind Truth (kind_at p) && sound names p [] false
-
--- of a job whose trees are whole, with no infinite set outside a form position, and whose types have kinds and meet the
--- rows of the type table: each part of its kernel is a truth value and sound over the kinds of the names
-abbrev pub PartsAreSound : Job → Typed → KerJob → Type 0
-PartsAreSound job t k =
-    IsTrue (is_whole_job (length t.names) job) → infinite_places job ≡ [] → IsTrue (are_kinded t) → MeetsRows job t →
-    k.names ≡ t.names → AllBuilt (positions job) (parts_of job) t.parts (parts k) →
-    IsTrue (passes (λ names. list_all (is_sound_truth names) (parts k)) (kinds_of_names k))
+is_sound_truth names p = is_kind Truth (kind_at p) && sound_tree names p [] false
 
 -- ---- texts
 
@@ -79,3 +71,15 @@ abbrev pub TextsAreWithin : Job → Typed → KerJob → Type 0
 TextsAreWithin job t k =
     IsTrue (list_all (texts_among k.texts) (parts_of job)) →
     AllBuilt (positions job) (parts_of job) t.parts (parts k) → IsTrue (list_all (texts_within k.texts) (parts k))
+
+-- ---- the law
+
+-- of a job whose trees are whole, with no infinite set outside a form position, and whose types have kinds and meet the
+-- rows of the type table, where each of its texts is one of the kernel's: each part of its kernel is sound over the kinds
+-- of the names
+abbrev pub PartsAreSound : Job → Typed → KerJob → Type 0
+PartsAreSound job t k =
+    IsTrue (is_whole_job (length t.names) job) → infinite_places job ≡ [] → IsTrue (are_kinded t) → MeetsRows job t →
+    IsTrue (list_all (texts_among k.texts) (parts_of job)) → k.names ≡ t.names →
+    AllBuilt (positions job) (parts_of job) t.parts (parts k) →
+    IsTrue (passes (λ names. list_all (sound_part names k.texts) (parts k)) (kinds_of_names k))
