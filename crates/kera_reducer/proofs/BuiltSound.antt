@@ -1,5 +1,5 @@
 -- What is built of an expression whose nodes have types by the rows of the type table is sound.
-use Rattle.std.proofs.Common.{◌≡◌, ℕ, zero, suc, ◌+◌, Bool, true, false, List, [], ◌∷◌, ◌++◌, map, zip, take, drop, length, refl, sym, ◌∙◌, ap, subst, Option, Some, None, arith, pos}
+use Rattle.std.proofs.Common.{◌≡◌, ℕ, zero, suc, ◌+◌, Bool, true, false, List, [], ◌∷◌, ◌++◌, map, zip, take, drop, length, refl, sym, ◌∙◌, ap, subst, Option, Some, None, pos}
 use Rattle.std.specs.Prelude.{nat_lt, replicate, slice_get}
 use Rattle.std.proofs.lemmas.Bool.{eqb-true}
 use Rattle.std.proofs.lemmas.List.{append_assoc}
@@ -10,7 +10,7 @@ use Rattle.tla_meaning.specs.declared.expr.Expr.{Expr, out-Expr}
 use Rattle.tla_meaning.specs.declared.op.Op.{Op}
 use Rattle.tla_meaning.specs.declared.op.Op.TheVariants as op
 use Rattle.tla_meaning.specs.declared.place.Place.{Place}
-use Rattle.tla_meaning.proofs.Views.{and_left, and_right, false≢true}
+use Rattle.tla_meaning.proofs.Views.{and_left, and_right}
 use Rattle.snowcat_rows.specs.Types.{Term, mean}
 use Rattle.snowcat_rows.specs.declared.types.Ty.{Ty, out-Ty, Bool as bool_ty}
 use Rattle.snowcat_types.specs.TypeForms.{bool_type, int_type, set_type, seq_type, fun_type}

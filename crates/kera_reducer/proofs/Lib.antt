@@ -62,3 +62,4 @@ pub mod SoundTexts
 pub mod ScopedMade
 pub mod ScopedBuilt
 pub mod SoundJobs
+pub mod WholeExamples

@@ -1,32 +1,32 @@
 -- What is built with types binds no number again.
-use Rattle.std.proofs.Common.{◌≡◌, ℕ, zero, suc, Bool, true, false, not, ◌&&◌, ◌||◌, List, [], ◌∷◌, ◌++◌, map, replicate, take, drop, length, refl, sym, ◌∙◌, ap, subst, Option, Some, None, arith}
+use Rattle.std.proofs.Common.{◌≡◌, ℕ, zero, suc, Bool, true, false, not, ◌&&◌, ◌||◌, List, [], ◌∷◌, ◌++◌, replicate, drop, length, refl, sym, ◌∙◌, ap, subst, Option}
 use Rattle.std.specs.Prelude.{nat_eq}
 use Rattle.tla_values.specs.declared.value.Value.TheVariants as value
 use Rattle.tla_meaning.specs.declared.actions.Assignable.{Assignable}
-use Rattle.tla_meaning.specs.declared.expr.Expr.{Expr, out-Expr}
+use Rattle.tla_meaning.specs.declared.expr.Expr.{Expr}
 use Rattle.tla_meaning.specs.declared.op.Op.{Op}
 use Rattle.tla_meaning.specs.declared.op.Op.TheVariants as op
 use Rattle.tla_meaning.specs.declared.place.Place.{Place}
 use Rattle.tla_meaning.specs.FreeNames.{marks, with_names}
 use Rattle.tla_meaning.specs.Meaning.{role}
 use Rattle.tla_meaning.specs.Scopes.{same_text}
-use Rattle.tla_meaning.proofs.Views.{and_left, and_right, and_both, false≢true}
+use Rattle.tla_meaning.proofs.Views.{and_left, and_right, false≢true}
 use Rattle.snowcat_rows.specs.declared.types.Ty.{Ty}
 use Rattle.snowcat_rows.specs.declared.types.Ty.TheVariants as ty
 use Rattle.snowcat_types.specs.TypeForms.{bool_type}
 use Rattle.kernel_trees.specs.declared.kernel.Ker.{Ker}
 use Rattle.kernel_trees.specs.declared.kernel.KerOp.{KerOp}
 use Rattle.kernel_trees.specs.declared.kernel.KerOp.TheVariants as ker
-use Rattle.kernel_trees.specs.Scoped.{Names, reads_in, outside, scoped}
+use Rattle.kernel_trees.specs.Scoped.{Names, reads_in}
 use Rattle.kernel_trees.specs.Trees.{number_name, names_of, op_of}
-use Rattle.kera_reducer.specs.Reduction.{Numbering, fresh, are_fresh, numbered, all_fresh}
+use Rattle.kera_reducer.specs.Reduction.{Numbering, fresh, are_fresh, all_fresh}
 use Rattle.kera_reducer.specs.Infinite.{form_child}
 use Rattle.kera_reducer.specs.Whole.{nowhere, operand_count}
 use Rattle.kera_reducer.specs.inner.Builds.{is_same, is_binder}
 use Rattle.kera_reducer.specs.inner.BuildsTyped as typed
 use Rattle.kera_reducer.specs.inner.BuildsTyped.{BuildsTyped, EachTyped, ArmsTyped, TypedNode}
-use Rattle.kera_reducer.specs.inner.Making.{pair_type, let_of}
-use Rattle.kera_reducer.specs.inner.Rows.{tree, node, number, truth, pair, type_of, Let, single, named_first, named_second, negation}
+use Rattle.kera_reducer.specs.inner.Making.{let_of}
+use Rattle.kera_reducer.specs.inner.Rows.{tree, node, number, truth, pair, Let, single, named_first, named_second}
 use Rattle.kera_reducer.proofs.Tying.{not_true, names_apart}
 use Rattle.kera_reducer.proofs.KindTies.{apart_turned}
 use Rattle.kera_reducer.proofs.BuiltParts.{Fine, AllFine, NodeFine, fine_at, fine_take}

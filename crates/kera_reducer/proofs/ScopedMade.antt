@@ -1,7 +1,7 @@
 -- The trees that rows make bind no number again, where their operands do not and the numbers that are made are new.
 use Rattle.std.proofs.Common.{◌≡◌, ℕ, zero, suc, Bool, true, false, not, ◌&&◌, ◌||◌, List, [], ◌∷◌, ◌++◌, map, replicate, length, refl, sym, ◌∙◌, ap, subst, Option, Some, None, arith, pos, if◌then◌else◌}
 use Rattle.std.specs.Prelude.{nat_eq}
-use Rattle.std.specs.List.{list_any, list_all}
+use Rattle.std.specs.List.{list_any}
 use Rattle.tla_values.specs.Order.{Layer}
 use Rattle.tla_values.specs.declared.value.Value.{Value, out-Value}
 use Rattle.tla_values.specs.declared.value.Value.TheVariants as value
@@ -22,10 +22,9 @@ use Rattle.kernel_trees.specs.Trees.{number_name, names_of, op_of, constant}
 use Rattle.kernel_trees.proofs.Scopes.{scoped-roll}
 use Rattle.kernel_trees.proofs.Steps.{same_text_same}
 use Rattle.kera_reducer.specs.Reduction.{Numbering, fresh, numbered, all_fresh}
-use Rattle.kera_reducer.specs.inner.Rows.{tree, node, number, truth, bound, negation, item, pair, place_of, type_of, op_at, Let, let_in, named_one, named_first, named_second, implication, equivalence, single, item_by_let, product, tested, power_body, small_power, large_power, nested_ifs, twice_negated, case_branches, split_case, guard_of, may_assign}
-use Rattle.kera_reducer.specs.inner.Builds.{is_let}
+use Rattle.kera_reducer.specs.inner.Rows.{tree, node, number, bound, negation, item, pair, place_of, type_of, op_at, Let, let_in, named_one, named_first, named_second, implication, equivalence, item_by_let, product, tested, power_body, small_power, large_power, nested_ifs, twice_negated, case_branches, split_case, guard_of, may_assign}
 use Rattle.kera_reducer.proofs.KindTies.{fresh_front, apart_turned}
-use Rattle.kera_reducer.proofs.Tying.{not_true, names_apart, some_same}
+use Rattle.kera_reducer.proofs.Tying.{names_apart, some_same}
 
 abbrev pub In : Names → Ker → Type 0
 In B k = scoped k B ≡ true
@@ -142,14 +141,16 @@ named_in l B =
 pub let_is_in : (p : Place) (l : Let) (d e : Ker) (B : Names) → NewLet l B → In B d → In (inside l B) e →
     In B (let_in p l d e)
 let_is_in p l d e B n h g =
-    node_in p l.type ker.First _ B refl refl
-    (fold_in p l.wholes (node p l.wholes ker.Push (bound p l.wholes l.unread ∷ e ∷ []))
-    (node p l.wholes ker.SeqOf [] ∷ node p l.items ker.SeqOf (d ∷ []) ∷ []) (l.unread ∷ l.named ∷ []) B
-    (ap (λ z. not (z || false) && true) n.apart)
-    ((λ i. not (n.unread i) && (not (n.named i) && true)))
-    (node_in p l.wholes ker.SeqOf [] B refl refl tt, (node_in p l.items ker.SeqOf (d ∷ []) B refl refl (h, tt), tt))
-    (node_in p l.wholes ker.Push (bound p l.wholes l.unread ∷ e ∷ []) (inside l B) refl refl
-    (bound_in p l.wholes l.unread (inside l B) (unread_in l B), (g, tt))), tt)
+    node_in p l.type ker.First _ B refl refl (
+      fold_in p l.wholes (node p l.wholes ker.Push (bound p l.wholes l.unread ∷ e ∷ []))
+          (node p l.wholes ker.SeqOf [] ∷ node p l.items ker.SeqOf (d ∷ []) ∷ []) (l.unread ∷ l.named ∷ []) B
+          (ap (λ z. not (z || false) && true) n.apart)
+          ((λ i. not (n.unread i) && (not (n.named i) && true)))
+          (node_in p l.wholes ker.SeqOf [] B refl refl tt, (node_in p l.items ker.SeqOf (d ∷ []) B refl refl (h, tt), tt))
+          (node_in p l.wholes ker.Push (bound p l.wholes l.unread ∷ e ∷ []) (inside l B) refl refl
+          (bound_in p l.wholes l.unread (inside l B) (unread_in l B), (g, tt))),
+      tt,
+    )
 
 pub pair_in : (p : Place) (t : Ty) (k m : Ker) (B : Names) → In B k → In B m → In B (pair p t k m)
 pair_in p t k m B h g = node_in p t ker.TupOf (k ∷ m ∷ []) B refl refl (h, (g, tt))
@@ -167,9 +168,10 @@ pub equivalence_in : (p : Place) (l : Let) (t : Ty) (k m : Ker) (B : Names) → 
     In B (equivalence p l t k m)
 equivalence_in p l t k m B n h g =
     let_is_in p l (pair p t k m) _ B n (pair_in p t k m B h g)
-    (node_in p l.type ker.Equal _ (inside l B) refl refl
-    (negation_in p l.type (named_first l t k) (inside l B) (first_in l t k (inside l B) (named_in l B)),
-    (negation_in p l.type (named_second l t m) (inside l B) (second_in l t m (inside l B) (named_in l B)), tt)))
+    (node_in p l.type ker.Equal _ (inside l B) refl refl (
+      negation_in p l.type (named_first l t k) (inside l B) (first_in l t k (inside l B) (named_in l B)),
+      (negation_in p l.type (named_second l t m) (inside l B) (second_in l t m (inside l B) (named_in l B)), tt),
+    ))
 
 pub item_by_let_in : (p : Place) (l : Let) (t : Ty) (i : ℕ) (k m : Ker) (B : Names) → NewLet l B → In B k → In B m →
     In B (item_by_let p l t i k m)
