@@ -19,7 +19,7 @@ use Rattle.kernel_shapes.proofs.KernelNodes.{ker_parts, first_kinds, node_sizing
 use Rattle.kera_reducer.specs.Reduction.{Numbering, all_fresh, numbered}
 use Rattle.kera_reducer.specs.SizeLaws.{TiedShapes}
 use Rattle.kera_reducer.specs.Builds.{is_binder}
-use Rattle.kera_reducer.specs.inner.Fitting.{the_kind}
+use Rattle.kera_reducer.specs.Fitting.{the_kind}
 use Rattle.kera_reducer.specs.Rows.{tree}
 use Rattle.kera_reducer.proofs.Gists.{Gist, gist, bares, bare, bare_shapes, gist_at, no_gist, ranks, own, View, node_gist, step_of, steps_rank}
 use Rattle.kera_reducer.proofs.GistNodes.{Gists, gist_outside, gist_under, view_at, node_at, operand_gists, ker_gist, ker_gists, ker_node, whole, Whole}

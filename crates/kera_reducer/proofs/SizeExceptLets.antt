@@ -23,7 +23,7 @@ use Rattle.kernel_shapes.proofs.KernelNodes.{ker_sized-roll}
 use Rattle.kera_reducer.specs.Reduction.{Numbering, fresh, are_fresh}
 use Rattle.kera_reducer.specs.SizeLaws.{TiedShapes}
 use Rattle.kera_reducer.specs.Builds.{is_let, is_except_let}
-use Rattle.kera_reducer.specs.inner.Fitting.{LetTypes, PairTypes}
+use Rattle.kera_reducer.specs.Fitting.{LetTypes, PairTypes}
 use Rattle.kera_reducer.specs.Rows.{pairs, item, bound, behind, operand_at, read_levels, read_changes, is_nil, is_literal, is_literal_op, place_of, type_of, Let, Level, Change, all_levels, all_plain, indexes, level_numbers, changed, except_by_let}
 use Rattle.kera_reducer.proofs.Ranks.{either_none, same_sum, nothing, one, both}
 use Rattle.kera_reducer.proofs.Tying.{not_true}

@@ -18,7 +18,7 @@ use Rattle.kernel_shapes.proofs.KernelNodes.{ker_parts, first_kinds, node_sizing
 use Rattle.kera_reducer.specs.Reduction.{Numbering}
 use Rattle.kera_reducer.specs.SizeLaws.{TiedShapes}
 use Rattle.kera_reducer.specs.Builds.{is_same}
-use Rattle.kera_reducer.specs.inner.Fitting.{the_kind}
+use Rattle.kera_reducer.specs.Fitting.{the_kind}
 use Rattle.kera_reducer.specs.Rows.{node}
 use Rattle.kera_reducer.proofs.Gists.{Gist, gist_at, node_gist}
 use Rattle.kera_reducer.proofs.GistNodes.{Gists, gist_outside, node_at, ker_gist, ker_gists, operand_gists, ker_node, whole}

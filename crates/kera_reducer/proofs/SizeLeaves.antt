@@ -13,7 +13,7 @@ use Rattle.kernel_shapes.specs.Shape.{Atom}
 use Rattle.kernel_shapes.specs.Rows.{no_literal}
 use Rattle.kernel_shapes.specs.Counts.{Rank}
 use Rattle.kernel_shapes.specs.Sized.{Extent, walked}
-use Rattle.kera_reducer.specs.inner.Fitting.{the_kind}
+use Rattle.kera_reducer.specs.Fitting.{the_kind}
 use Rattle.kera_reducer.specs.Rows.{bound, truth, constant as constant_at}
 use Rattle.kera_reducer.proofs.Gists.{Gist}
 use Rattle.kera_reducer.proofs.GistNodes.{node_at, ker_gist, ker_node, whole}

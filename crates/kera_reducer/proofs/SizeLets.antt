@@ -19,7 +19,7 @@ use Rattle.kernel_shapes.specs.Trees.{family_with}
 use Rattle.kernel_shapes.specs.Kernel.{ker_sized}
 use Rattle.kernel_shapes.proofs.KernelNodes.{ker_parts, first_kinds, ker_sized-roll}
 use Rattle.kera_reducer.specs.Builds.{is_let}
-use Rattle.kera_reducer.specs.inner.Fitting.{the_kind, IsSequenceType, IsTupleType}
+use Rattle.kera_reducer.specs.Fitting.{the_kind, IsSequenceType, IsTupleType}
 use Rattle.kera_reducer.specs.Rows.{node, bound, item, pair, Let, let_in}
 use Rattle.kera_reducer.proofs.Joins.{join_empty}
 use Rattle.kera_reducer.proofs.Ranks.{same_sum, nothing, one, both}

@@ -28,7 +28,7 @@ use Rattle.kernel_shapes.proofs.Refusals.{either_same, rank_append}
 use Rattle.kera_reducer.specs.Reduction.{Numbering}
 use Rattle.kera_reducer.specs.SizeLaws.{TiedShapes}
 use Rattle.kera_reducer.specs.Builds.{is_let}
-use Rattle.kera_reducer.specs.inner.Fitting.{the_kind, IsTupleType, LetTypes}
+use Rattle.kera_reducer.specs.Fitting.{the_kind, IsTupleType, LetTypes}
 use Rattle.kera_reducer.specs.Rows.{node, bound, item, negation, pair, Let, let_in, place_of, type_of, op_at, number as number_of, named_one, named_first, named_second, equivalence, single, item_by_let, product, tested, power_body, small_power, large_power}
 use Rattle.kera_reducer.proofs.Joins.{join_empty, join_self, small_interval, own_over}
 use Rattle.kera_reducer.proofs.Ranks.{either_none, below_left, same_sum, nothing, one, both}

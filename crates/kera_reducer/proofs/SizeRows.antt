@@ -18,7 +18,7 @@ use Rattle.kernel_shapes.specs.Kernel.{ker_sized}
 use Rattle.kernel_shapes.proofs.Refusals.{either_same}
 use Rattle.kernel_shapes.proofs.KernelNodes.{ker_sized-roll}
 use Rattle.kera_reducer.specs.Reduction.{Numbering}
-use Rattle.kera_reducer.specs.inner.Fitting.{the_kind}
+use Rattle.kera_reducer.specs.Fitting.{the_kind}
 use Rattle.kera_reducer.specs.Rows.{node, bound, number, truth, negation, implication, nested_ifs}
 use Rattle.kera_reducer.specs.Builds.{has_arm}
 use Rattle.kera_reducer.proofs.Joins.{join_empty, own_join, zero_minus}

@@ -25,7 +25,7 @@ use Rattle.kera_reducer.specs.SizeLaws.{is_apart, KeepsPartSizes, KeepsSizes}
 use Rattle.kera_reducer.specs.Laws.{IsSilent}
 use Rattle.kera_reducer.specs.Builds as rows
 use Rattle.kera_reducer.specs.Builds.{Builds, BuildsEach, BuildsNode, BuildsPath, BuildsChanges, is_same}
-use Rattle.kera_reducer.specs.inner.Fitting.{the_kind, SameTable, Fitting, FittingEach, FittingPath, FittingChanges, FittingNode, behind}
+use Rattle.kera_reducer.specs.Fitting.{the_kind, SameTable, Fitting, FittingEach, FittingPath, FittingChanges, FittingNode, behind}
 use Rattle.kera_reducer.specs.Rows.{node, tree, Level, Change, level_numbers}
 use Rattle.kera_reducer.proofs.Apart.{AllApart, NoneGoOn, apart_drop, apart_take, children_apart, no_parts, none_drop, none_take, rights_apart}
 use Rattle.kera_reducer.proofs.Gists.{Gist, NoParts}

@@ -20,7 +20,7 @@ use Rattle.kera_reducer.specs.JobPaths.{below_notes}
 use Rattle.kera_reducer.specs.Laws.{IsSilent}
 use Rattle.kera_reducer.specs.Reduction.{Numbering}
 use Rattle.kera_reducer.specs.Builds.{Builds}
-use Rattle.kera_reducer.specs.inner.Fitting.{Fitting}
+use Rattle.kera_reducer.specs.Fitting.{Fitting}
 
 -- each name that has a number has its shape; other names may have any
 abbrev pub TiedBound : Numbering → List (List ℕ × Shape) → List (List ℕ × Shape) → Type 0

@@ -7,6 +7,7 @@
 mod finite;
 mod path_theorems;
 mod size_theorems;
+mod sound_theorems;
 mod texts;
 mod theorems;
 
@@ -17,5 +18,6 @@ pub use path_theorems::{
     built_trees_keep_places_and_names,
 };
 pub use size_theorems::built_trees_keep_shapes_and_refusals;
+pub use sound_theorems::built_jobs_are_sound;
 pub use texts::texts_of;
 pub use theorems::what_is_built_keeps_its_outcomes;
