@@ -1,16 +1,14 @@
 -- A form that is built has its infinite parts at the places of those of its expression.
-use Rattle.std.proofs.Common.{◌≡◌, ℕ, Bool, true, false, List, [], ◌∷◌, ◌++◌, map, take, drop, flat_map, true≢false, refl, sym, ◌∙◌, ap, ap₂, subst, Option}
+use Rattle.std.proofs.Common.{◌≡◌, ℕ, true, List, [], ◌∷◌, ◌++◌, map, flat_map, refl, sym, ◌∙◌, ap, ap₂, Option}
 use Rattle.tla_meaning.specs.declared.actions.Assignable.{Assignable}
 use Rattle.tla_meaning.specs.declared.expr.Expr.{Expr, roll-Expr, out-Expr, roll-out-Expr}
 use Rattle.tla_meaning.specs.declared.expr.Expr.TheOpen.{Expr-F}
 use Rattle.tla_meaning.specs.declared.expr.Expr.TheFolds.{fold-roll-Expr}
 use Rattle.tla_meaning.specs.declared.op.Op.{Op}
-use Rattle.tla_meaning.specs.declared.op.Op.TheVariants as op
 use Rattle.tla_meaning.specs.declared.place.Place.{Place}
 use Rattle.tla_meaning.proofs.Views.{false≢true}
 use Rattle.snowcat_rows.specs.declared.types.Ty.{Ty}
 use Rattle.kernel_trees.specs.declared.kernel.Ker.{Ker, out-Ker, roll-out-Ker}
-use Rattle.kernel_trees.specs.declared.kernel.Ker.TheOpen.{Ker-F}
 use Rattle.kernel_trees.specs.declared.kernel.KerOp.{KerOp}
 use Rattle.kernel_trees.specs.declared.kernel.KerOp.TheVariants as ker
 use Rattle.kernel_trees.specs.Sound.{infinite_at, infinite_places}
@@ -18,7 +16,7 @@ use Rattle.kernel_trees.specs.Trees.{op_of}
 use Rattle.kernel_trees.proofs.SoundNodes.{infinite-roll}
 use Rattle.kera_reducer.specs.JobPaths.{infinite_form, infinite_form_at}
 use Rattle.kera_reducer.specs.Reduction.{Numbering}
-use Rattle.kera_reducer.specs.Builds.{Builds, BuildsEach, BuildsNode, at_node, none_left, one_more, same, binder, noted, except, except_let, cases, as_value, has_arm, is_same, is_binder, bound_name}
+use Rattle.kera_reducer.specs.Builds.{Builds, BuildsEach, BuildsNode, at_node, none_left, one_more, same, binder, noted, except, cases, as_value, has_arm, is_same, is_binder}
 use Rattle.kera_reducer.specs.Rows.{nested_ifs, tree}
 use Rattle.kera_reducer.proofs.Roots.{first_changed}
 

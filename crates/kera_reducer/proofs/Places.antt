@@ -1,12 +1,12 @@
 -- The places of infinite sets in a tree, by its operator, and the least of some places.
-use Rattle.std.proofs.Common.{◌≡◌, inl, inr, ℕ, zero, suc, ◌+◌, ◌<◌, Bool, List, [], ◌∷◌, ◌++◌, map, flat_map, length, take, get_or, ◌≤◌, not, ◌&&◌, refl, sym, ◌∙◌, ap, subst, append_assoc, length-take, false, true, true≢false, Option, Some, None, arith}
+use Rattle.std.proofs.Common.{◌≡◌, inl, inr, ℕ, suc, ◌+◌, ◌<◌, Bool, List, [], ◌∷◌, ◌++◌, map, length, take, get_or, ◌≤◌, not, ◌&&◌, refl, sym, ◌∙◌, ap, subst, append_assoc, length-take, false, true, Option, Some, None, arith}
 use Rattle.std.specs.Prelude.{Contains, slice_index_or, if◌then◌else◌}
 use Rattle.std.proofs.lemmas.List.{append-nil}
 use Rattle.std.proofs.lemmas.List.Elements.{Contains-append_cases, Contains-append_left, Contains-append_right}
 use Rattle.tla_meaning.specs.declared.place.Place.{Place}
 use Rattle.tla_meaning.specs.declared.expr.Expr.{Expr, out-Expr, roll-Expr, roll-out-Expr}
 use Rattle.tla_meaning.specs.declared.expr.Expr.TheOpen.{Expr-F}
-use Rattle.tla_meaning.specs.declared.expr.Expr.TheFolds.{fold-Expr, fold-roll-Expr}
+use Rattle.tla_meaning.specs.declared.expr.Expr.TheFolds.{fold-roll-Expr}
 use Rattle.tla_meaning.specs.declared.job.Job.{Job}
 use Rattle.tla_meaning.specs.declared.op.Op.{Op}
 use Rattle.kera_reducer.specs.Infinite.{form_child, infinite_below, infinite_here, infinite_in, infinite_node, infinite_places, all_infinite, is_infinite, IsLeastIfAny}

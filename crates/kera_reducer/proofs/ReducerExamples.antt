@@ -1,5 +1,5 @@
 -- Infinite sets and text literals in small trees, by computing.
-use Rattle.std.proofs.Common.{◌≡◌, ◌++◌, ℕ, Bool, true, false, List, [], ◌∷◌, codes, pos, refl}
+use Rattle.std.proofs.Common.{◌≡◌, ℕ, true, false, List, [], ◌∷◌, codes, pos, refl}
 use Rattle.tla_meaning.specs.declared.expr.Expr.{Expr, roll-Expr}
 use Rattle.tla_meaning.specs.declared.op.Op.{Op}
 use Rattle.tla_meaning.specs.declared.op.Op.TheVariants as op

@@ -1,7 +1,6 @@
 -- The text literals of a job. Source: Specifying Systems, section 16.1.10, on strings.
-use Rattle.std.specs.Prelude.{◌++◌, ℕ, Bool, not, List, [], ◌∷◌, filter, flat_map}
+use Rattle.std.specs.Prelude.{◌++◌, ℕ, not, List, [], ◌∷◌, filter, flat_map}
 use Rattle.tla_meaning.specs.declared.expr.Expr.{Expr}
-use Rattle.tla_meaning.specs.declared.expr.Expr.TheOpen.{Expr-F}
 use Rattle.tla_meaning.specs.declared.expr.Expr.TheFolds.{fold-Expr}
 use Rattle.tla_meaning.specs.declared.job.Job.{Job}
 use Rattle.tla_meaning.specs.declared.op.Op.{Op}

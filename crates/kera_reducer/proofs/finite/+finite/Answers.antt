@@ -1,6 +1,4 @@
-use Rattle.std.proofs.Common.{◌++◌, List, take, arith, sym}
-use Rattle.tla_meaning.specs.declared.place.Place.{Place}
-use Rattle.kera_reducer.specs.Infinite.{infinite_here}
+use Rattle.std.proofs.Common.{◌++◌, take, arith}
 use Rattle.kera_reducer.proofs.Places.{all, init, so_far, step}
 use Rattle.kera_reducer.proofs.finite.+finite.Goals as goal
 
