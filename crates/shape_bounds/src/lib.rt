@@ -1,0 +1,11 @@
+//! Shapes computed: of kernel trees, of names at each level, and what is past a limit.
+#![tactic(auto, using(crate::proofs::Means::means))]
+
+mod intervals;
+mod joins;
+mod limits;
+mod making;
+mod numbers;
+mod parts;
+mod records;
+mod rows;
