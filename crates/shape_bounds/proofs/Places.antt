@@ -54,7 +54,7 @@ field_here x (g ∷ fs) zero f h e s =
     ap (λ (y : List ℕ × Code). mean y.1) e ∙ same_head x g _ (s ∙ ap (λ (y : List ℕ × Code). y.0) e)
 field_here x (g ∷ fs) (suc i) f h e s = field_here x fs i f (omega (arith, h)) e s
 
-not_same : (b : Bool) → (IsTrue b → ⊥) → b ≡ false
+pub not_same : (b : Bool) → (IsTrue b → ⊥) → b ≡ false
 not_same true h = absurd (h refl)
 not_same false h = refl
 

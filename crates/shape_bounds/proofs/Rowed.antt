@@ -1,13 +1,15 @@
 -- Rows of the table by lists of operands.
-use Rattle.std.proofs.Common.{◌≡◌, ℕ, zero, suc, ◌+◌, ◌*◌, ◌^◌, ◌<◌, ◌≤◌, max, List, [], ◌∷◌, map, length, get_or, IfOk, Ok, Err, Result, refl, sym, ◌∙◌, ap, ap₂, subst, arith}
+use Rattle.std.proofs.Common.{◌≡◌, ◌⊎◌, inl, inr, ◌++◌, ℕ, zero, suc, ◌+◌, ◌*◌, ◌^◌, ◌<◌, ◌≤◌, max, List, [], ◌∷◌, map, length, get_or, IfOk, Ok, Err, Result, refl, sym, ◌∙◌, ap, ap₂, subst, arith}
 use Rattle.std.specs.declared.alloc.AllocError.{AllocError}
 use Rattle.kernel_trees.specs.declared.kernel.KerOp.{KerOp}
 use Rattle.kernel_shapes.specs.declared.bounds.Shape.{Shape as Code}
 use Rattle.kernel_shapes.specs.Codes.{mean}
-use Rattle.kernel_shapes.specs.Rows.{Row, Literal, no_literal, a_choice, a_range, the_subsets, the_functions, a_big_union, branches_of, set_of_interval}
-use Rattle.kernel_shapes.specs.Shape.{Shape, Set, Fun, Empty, count, inside, join, join_all}
+use Rattle.kernel_shapes.specs.Rows.{Row, Literal, no_literal, a_choice, a_range, the_subsets, the_functions, a_big_union, branches_of, set_of_interval, a_map, a_function, but_last, last_of, product_of, argument_of, insides}
+use Rattle.kernel_shapes.specs.Shape.{Shape, Set, Fun, Tup, Empty, shapes, count, inside, join, join_all}
 use Rattle.shape_bounds.specs.inner.Kept.{kept, kept_top}
-use Rattle.shape_bounds.specs.inner.Table.{row_kept, row_of}
+use Rattle.shape_bounds.specs.inner.Nodes.{binder_row}
+use Rattle.shape_bounds.specs.inner.Plain.{row_of}
+use Rattle.shape_bounds.specs.inner.Table.{row_kept}
 use Rattle.shape_bounds.proofs.Sums.{kept_exponent, kept_power, kept_product, kept_twice}
 
 -- a row that does not ask for the width
@@ -82,3 +84,40 @@ ok_each (Err e) x y f h = tt
 pub ok_same : (res : Result Code AllocError) (x y : Shape) → x ≡ y → IfOk res (λ s. mean s ≡ x) → IfOk res (λ s. mean s ≡ y)
 ok_same (Ok s) x y f h = h ∙ f
 ok_same (Err e) x y f h = tt
+
+-- ---- binders
+
+but_last_of : (as' : List Shape) (b : Shape) → but_last (as' ++ b ∷ []) ≡ as'
+but_last_of [] b = refl
+but_last_of (a ∷ []) b = refl
+but_last_of (a ∷ c ∷ as') b = ap (λ (bs : List Shape). a ∷ bs) (but_last_of (c ∷ as') b)
+
+last_is : (as' : List Shape) (b : Shape) → last_of (as' ++ b ∷ []) ≡ b
+last_is [] b = refl
+last_is (a ∷ []) b = refl
+last_is (a ∷ c ∷ as') b = last_is (c ∷ as') b
+
+pub map_kept : (w m n : ℕ) (as' : List Shape) (b : Shape) → n ≡ kept (product_of as') → Set n b ≡ row_kept w (a_map m) no_literal (as' ++ b ∷ [])
+map_kept w m n as' b e =
+    ap₂ Set (e ∙ ap (λ (cs : List Shape). kept (product_of cs)) (sym (but_last_of as' b))) (sym (last_is as' b))
+
+pub function_kept : (w m n : ℕ) (as' : List Shape) (a b : Shape) → n ≡ kept (product_of as') → a ≡ argument_of as' →
+    Fun n a b ≡ row_kept w (a_function m) no_literal (as' ++ b ∷ [])
+function_kept w m n as' a b e f =
+    ap₂ (λ (k : ℕ) (c : Shape). Fun k c b) (e ∙ ap (λ (cs : List Shape). kept (product_of cs)) (sym (but_last_of as' b))) (f ∙ ap argument_of (sym (but_last_of as' b)))
+    ∙ ap (λ (c : Shape). Fun (kept (product_of (but_last (as' ++ b ∷ [])))) (argument_of (but_last (as' ++ b ∷ []))) c) (sym (last_is as' b))
+
+pub many_arguments : (xs : List Code) → (length xs < 1) ⊎ (2 ≤ length xs) → Tup (shapes (insides (map mean xs))) ≡ argument_of (map mean xs)
+many_arguments [] h = refl
+many_arguments (x ∷ []) (inl h) = absurd (omega (arith, h))
+many_arguments (x ∷ []) (inr h) = absurd (omega (arith, h))
+many_arguments (x ∷ y ∷ xs) h = refl
+
+pub binder_at : (o : KerOp) (n : ℕ) (r : Row) (as' : List Shape) (b : Shape) (res : Result Code AllocError) → binder_row o n ≡ r →
+    IfOk res (λ s. (v : ℕ) (x : Shape) → mean s ≡ row_kept v r no_literal (as' ++ x ∷ [])) → IfOk res (λ s. (v : ℕ) → mean s ≡ row_kept v (binder_row o n) no_literal (as' ++ b ∷ []))
+binder_at o n r as' b (Ok s) e h = λ v. h v b ∙ ap (λ (q : Row). row_kept v q no_literal (as' ++ b ∷ [])) (sym e)
+binder_at o n r as' b (Err s) e h = tt
+
+pub ok_copy : (res : Result Code AllocError) (a : Code) (y : Shape) → mean a ≡ y → IfOk res (λ s. s ≡ a) → IfOk res (λ s. mean s ≡ y)
+ok_copy (Ok s) a y f h = ap mean h ∙ f
+ok_copy (Err e) a y f h = tt

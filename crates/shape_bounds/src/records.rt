@@ -61,7 +61,7 @@ fn place_of(fields: &[(Text, Shape)], name: &Text) -> usize
 }
 
 // The shapes of the members of each set.
-fn insides(alloc: Global, sets: &[Shape]) -> Result<Vec<Shape>, AllocError>
+pub(crate) fn insides(alloc: Global, sets: &[Shape]) -> Result<Vec<Shape>, AllocError>
     ensures { IfOk result (λ r. map mean r.items ≡ insides (map mean sets.now)) }
 {
     let mut members = Vec::new(alloc);

@@ -1,9 +1,10 @@
 // The table of shapes: a row for each operator that walks all its children.
 ghost use Rattle.std.specs.Prelude.{ℕ, [], ◌+◌, ◌-ℤ◌, ◌∷◌, ◌≡◌, IfOk, if◌then◌else◌, int_le, map, nat_abs};
 ghost use Rattle.kernel_shapes.specs.Codes.{mean};
-ghost use Rattle.kernel_shapes.specs.Rows.{a_big_union, a_choice, a_head, a_merge, a_shorter, an_application, an_enumeration, no_literal, set_of_interval};
+ghost use Rattle.kernel_shapes.specs.Rows.{a_big_union, a_choice, a_head, a_merge, a_shorter, an_application, an_enumeration, no_literal, set_of_interval, the_functions, the_subsets};
 ghost use Rattle.shape_bounds.specs.inner.Kept.{IsWidth, kept, kept_top};
-ghost use Rattle.shape_bounds.specs.inner.Table.{literal, row_kept, row_of};
+ghost use Rattle.shape_bounds.specs.inner.Plain.{row_of};
+ghost use Rattle.shape_bounds.specs.inner.Table.{literal, row_kept};
 
 use crate::intervals::{Arithmetic, ends, over_both, quotient, remainder, up_to};
 use crate::joins::{join, join_all, join_parts};
@@ -90,7 +91,7 @@ fn part(alloc: Global, op: &KerOp, operands: &[Shape]) -> Result<Shape, AllocErr
 }
 
 // The numbers from the least of one interval to the greatest of another.
-fn range(alloc: Global, a: &Shape, b: &Shape) -> Result<Shape, AllocError>
+pub(crate) fn range(alloc: Global, a: &Shape, b: &Shape) -> Result<Shape, AllocError>
     ensures { IfOk result (λ r. (w : ℕ) → mean r
         ≡ kept_top (set_of_interval w (mean a.now) (mean b.now))) }
 {
@@ -148,21 +149,32 @@ fn sets(alloc: Global, op: &KerOp, operands: &[Shape]) -> Result<Shape, AllocErr
         ≡ row_kept w (row_of op.now) no_literal (map mean operands.now)) }
 {
     match (op, operands) {
-        (KerOp::Subsets, [a]) => {
-            let most = count(a);
-            let inner = copy_part(alloc, inside(a))?;
-            let member = set(alloc, most, inner)?;
-            set(alloc, power(2, most), member)
-        }
-        (KerOp::Functions, [a, b]) => {
-            let arguments = count(a);
-            let argument = copy_part(alloc, inside(a))?;
-            let value = copy_part(alloc, inside(b))?;
-            let member = function(alloc, arguments, argument, value)?;
-            set(alloc, power(count(b), arguments).max(1), member)
-        }
+        (KerOp::Subsets, [a]) => subsets_of(alloc, a),
+        (KerOp::Functions, [a, b]) => functions_of(alloc, a, b),
         _ => Err(AllocError),
     }
+}
+
+// The set of all subsets of a set.
+pub(crate) fn subsets_of(alloc: Global, a: &Shape) -> Result<Shape, AllocError>
+    ensures { IfOk result (λ r. (w : ℕ) → mean r ≡ row_kept w the_subsets no_literal (mean a.now ∷ [])) }
+{
+    let most = count(a);
+    let inner = copy_part(alloc, inside(a))?;
+    let member = set(alloc, most, inner)?;
+    set(alloc, power(2, most), member)
+}
+
+// The set of all functions from one set to another.
+pub(crate) fn functions_of(alloc: Global, a: &Shape, b: &Shape) -> Result<Shape, AllocError>
+    ensures { IfOk result (λ r. (w : ℕ) → mean r
+        ≡ row_kept w the_functions no_literal (mean a.now ∷ mean b.now ∷ [])) }
+{
+    let arguments = count(a);
+    let argument = copy_part(alloc, inside(a))?;
+    let value = copy_part(alloc, inside(b))?;
+    let member = function(alloc, arguments, argument, value)?;
+    set(alloc, power(count(b), arguments).max(1), member)
 }
 
 // The value at an index.

@@ -1,5 +1,5 @@
 use Rattle.std.proofs.Common.{ap}
-use Rattle.shape_bounds.specs.inner.Table.{row_of}
+use Rattle.shape_bounds.specs.inner.Plain.{row_of}
 use Rattle.shape_bounds.proofs.Rowed.{by_row, two_are}
 use Rattle.kernel_shapes.specs.Rows.{a_range}
 use Rattle.shape_bounds.proofs.rows.part.Goals as goal

@@ -1,0 +1,300 @@
+// The shape of a kernel tree by those of the names that it reads, and which number in it is past its limit.
+ghost use Rattle.std.specs.Prelude.{◌≡◌, IfOk, map, true};
+ghost use Rattle.kernel_trees.specs.declared.kernel.Ker.{out-Ker};
+ghost use Rattle.kernel_trees.specs.declared.kernel.KerOp.TheVariants as ker;
+ghost use Rattle.kernel_shapes.specs.Kernel.{ker_sized};
+ghost use Rattle.kernel_shapes.specs.Codes.{mean};
+ghost use Rattle.kernel_shapes.specs.Sized.{Position, operand};
+ghost use Rattle.shape_bounds.specs.inner.Kept.{IsWidth};
+ghost use Rattle.shape_bounds.specs.inner.Nodes.{is_binder, is_endless, is_membership, is_product, second_of, subset_operand};
+ghost use Rattle.shape_bounds.specs.inner.Sizes.{Sizes, SizesEach, SizesUnder, stands};
+ghost use Rattle.shape_bounds.specs.inner.Table.{literal};
+
+use crate::names::{Names, Site};
+use crate::nodes::{binder_shape, constant, is_plain, literal_of};
+use crate::parts::{Literal, applied, copy_part};
+use crate::records::insides;
+use crate::rows::{functions_of, range, row, subsets_of};
+use kernel_shapes::Shape;
+use kernel_trees::{Ker, KerOp};
+use std::alloc::AllocError;
+
+impl Names {
+    // The shape of a tree. Each node's number is held against its limit.
+    #[cycle(size)]
+    pub(crate) fn size(&mut self, k: &Ker, at: Site) -> Result<Shape, AllocError>
+        requires sized { IsWidth self.old.width }
+        ensures { IfOk result (λ r.
+            Sizes self.old self.new (ker_sized self.old.width k.now) (stands at) r) }
+    {
+        match &k.op {
+            KerOp::Const(value) => Ok(constant(value, self.width)),
+            KerOp::Name(i, primed) => self.name(k, *i, *primed),
+            KerOp::Bound(n) => self.bound_name(k, *n),
+            KerOp::Filter | KerOp::MapOver | KerOp::FunOf => self.binder(k),
+            KerOp::Some | KerOp::Every => self.binder(k),
+            KerOp::Member | KerOp::Included => self.membership(k),
+            KerOp::Subsets => self.subsets(k, at),
+            KerOp::Functions => self.functions(k, at),
+            KerOp::RecForm(_) | KerOp::TupForm => self.product(k, at),
+            KerOp::IntForm | KerOp::NatForm => self.endless(k),
+            KerOp::TextForm | KerOp::SeqForm => self.endless(k),
+            KerOp::Range => self.range(k),
+            KerOp::Item(i) => self.item(k, *i),
+            KerOp::NoCase => Ok(Shape::Empty),
+            _ => self.plain(k),
+        }
+    }
+
+    // A declared name.
+    fn name(&mut self, k: &Ker, i: usize, primed: bool) -> Result<Shape, AllocError>
+        requires sized { IsWidth self.old.width }
+        requires named { (out-Ker k.now).op ≡ ker.Name i primed }
+        ensures { IfOk result (λ r. (q : Position) →
+            Sizes self.old self.new (ker_sized self.old.width k.now) q r) }
+    {
+        let shape = self.declared(i, primed)?;
+        self.count(k.place, &shape);
+        Ok(shape)
+    }
+
+    // What is bound under a number.
+    fn bound_name(&mut self, k: &Ker, n: u32) -> Result<Shape, AllocError>
+        requires sized { IsWidth self.old.width }
+        requires named { (out-Ker k.now).op ≡ ker.Bound n }
+        ensures { IfOk result (λ r. (q : Position) →
+            Sizes self.old self.new (ker_sized self.old.width k.now) q r) }
+    {
+        let shape = self.bound_to(n)?;
+        self.count(k.place, &shape);
+        Ok(shape)
+    }
+
+    // The shapes of several trees.
+    #[cycle(size)]
+    fn sizes(&mut self, ks: &[Ker], at: Site) -> Result<Vec<Shape>, AllocError>
+        requires sized { IsWidth self.old.width }
+        ensures { IfOk result (λ rs. SizesEach self.old self.new
+            (map (ker_sized self.old.width) ks.now) (stands at) rs.items) }
+    {
+        let mut shapes = Vec::new(self.alloc);
+        for k in ks {
+            let shape = self.size(k, at)?;
+            shapes.push(shape)?;
+        }
+        Ok(shapes)
+    }
+
+    // Of an operator that walks all its children.
+    #[cycle(size)]
+    fn plain(&mut self, k: &Ker) -> Result<Shape, AllocError>
+        requires sized { IsWidth self.old.width }
+        ensures { IfOk result (λ r. (q : Position) →
+            Sizes self.old self.new (ker_sized self.old.width k.now) q r) }
+    {
+        if !is_plain(&k.op) {
+            return Err(AllocError);
+        }
+        let args = k.args.as_slice();
+        let operands = self.sizes(args, Site::Walked)?;
+        let shapes = operands.as_slice();
+        let shape = row(self.alloc, &k.op, second_literal(args), shapes, self.width)?;
+        self.count(k.place, &shape);
+        Ok(shape)
+    }
+
+    // A membership or an inclusion.
+    #[cycle(size)]
+    fn membership(&mut self, k: &Ker) -> Result<Shape, AllocError>
+        requires sized { IsWidth self.old.width }
+        requires kind { is_membership (out-Ker k.now).op ≡ true }
+        ensures { IfOk result (λ r. (q : Position) →
+            Sizes self.old self.new (ker_sized self.old.width k.now) q r) }
+    {
+        match k.args.as_slice() {
+            [member, set] => {
+                self.size(member, Site::Walked)?;
+                self.size(set, Site::Form)?;
+                Ok(Shape::Atom)
+            }
+            _ => Err(AllocError),
+        }
+    }
+
+    // A tree where further numbers have these shapes.
+    #[cycle(size)]
+    fn under(
+        &mut self,
+        numbers: &[u32],
+        shapes: &[Shape],
+        k: &Ker,
+    ) -> Result<Shape, AllocError>
+        requires sized { IsWidth self.old.width }
+        ensures { IfOk result (λ r. SizesUnder self.old self.new
+            (ker_sized self.old.width k.now) numbers.now (map mean shapes.now) r) }
+    {
+        let before = self.bound.len();
+        self.bind(numbers, shapes)?;
+        let shape = self.size(k, Site::Walked)?;
+        self.bound.truncate(before);
+        Ok(shape)
+    }
+
+    // A node that binds numbers over sets.
+    #[cycle(size)]
+    fn binder(&mut self, k: &Ker) -> Result<Shape, AllocError>
+        requires sized { IsWidth self.old.width }
+        requires kind { is_binder (out-Ker k.now).op ≡ true }
+        ensures { IfOk result (λ r. (q : Position) →
+            Sizes self.old self.new (ker_sized self.old.width k.now) q r) }
+    {
+        let args = k.args.as_slice();
+        let numbers = k.binds.as_slice();
+        if args.is_empty() || args.len() - 1 != numbers.len() {
+            return Err(AllocError);
+        }
+        let sets = self.sizes(&args[..numbers.len()], Site::Walked)?;
+        let members = insides(self.alloc, sets.as_slice())?;
+        let body = self.under(numbers, members.as_slice(), &args[numbers.len()])?;
+        let shape = binder_shape(self.alloc, &k.op, sets.as_slice(), body)?;
+        self.count(k.place, &shape);
+        Ok(shape)
+    }
+
+    // The set of all subsets.
+    #[cycle(size)]
+    fn subsets(&mut self, k: &Ker, at: Site) -> Result<Shape, AllocError>
+        requires sized { IsWidth self.old.width }
+        requires kind { (out-Ker k.now).op ≡ ker.Subsets }
+        ensures { IfOk result (λ r.
+            Sizes self.old self.new (ker_sized self.old.width k.now) (stands at) r) }
+    {
+        match k.args.as_slice() {
+            [set] => {
+                let operand = self.size(set, set_site(at))?;
+                let shape = subsets_of(self.alloc, &operand)?;
+                self.count_walked(k.place, &shape, at);
+                Ok(shape)
+            }
+            _ => Err(AllocError),
+        }
+    }
+
+    // The set of all functions.
+    #[cycle(size)]
+    fn functions(&mut self, k: &Ker, at: Site) -> Result<Shape, AllocError>
+        requires sized { IsWidth self.old.width }
+        requires kind { (out-Ker k.now).op ≡ ker.Functions }
+        ensures { IfOk result (λ r.
+            Sizes self.old self.new (ker_sized self.old.width k.now) (stands at) r) }
+    {
+        match k.args.as_slice() {
+            [arguments, values] => {
+                let a = self.size(arguments, Site::Walked)?;
+                let b = self.size(values, operand_site(at))?;
+                let shape = functions_of(self.alloc, &a, &b)?;
+                self.count_walked(k.place, &shape, at);
+                Ok(shape)
+            }
+            _ => Err(AllocError),
+        }
+    }
+
+    // The set of all records, or of all tuples.
+    #[cycle(size)]
+    fn product(&mut self, k: &Ker, at: Site) -> Result<Shape, AllocError>
+        requires sized { IsWidth self.old.width }
+        requires kind { is_product (out-Ker k.now).op ≡ true }
+        ensures { IfOk result (λ r.
+            Sizes self.old self.new (ker_sized self.old.width k.now) (stands at) r) }
+    {
+        let operands = self.sizes(k.args.as_slice(), operand_site(at))?;
+        let shapes = operands.as_slice();
+        let shape = row(self.alloc, &k.op, Literal::None, shapes, self.width)?;
+        self.count_walked(k.place, &shape, at);
+        Ok(shape)
+    }
+
+    // An infinite set.
+    #[cycle(size)]
+    fn endless(&mut self, k: &Ker) -> Result<Shape, AllocError>
+        requires sized { IsWidth self.old.width }
+        requires kind { is_endless (out-Ker k.now).op ≡ true }
+        ensures { IfOk result (λ r. (q : Position) →
+            Sizes self.old self.new (ker_sized self.old.width k.now) q r) }
+    {
+        self.sizes(k.args.as_slice(), Site::Form)?;
+        Ok(Shape::Empty)
+    }
+
+    // The numbers from one to another; bounds that stand behind are not read.
+    #[cycle(size)]
+    fn range(&mut self, k: &Ker) -> Result<Shape, AllocError>
+        requires sized { IsWidth self.old.width }
+        requires kind { (out-Ker k.now).op ≡ ker.Range }
+        ensures { IfOk result (λ r. (q : Position) →
+            Sizes self.old self.new (ker_sized self.old.width k.now) q r) }
+    {
+        match k.args.as_slice() {
+            [low, high, ..] => {
+                let a = self.size(low, Site::Walked)?;
+                let b = self.size(high, Site::Walked)?;
+                let shape = range(self.alloc, &a, &b)?;
+                self.count(k.place, &shape);
+                Ok(shape)
+            }
+            _ => Err(AllocError),
+        }
+    }
+
+    // An item of a tuple.
+    #[cycle(size)]
+    fn item(&mut self, k: &Ker, i: usize) -> Result<Shape, AllocError>
+        requires sized { IsWidth self.old.width }
+        requires kind { (out-Ker k.now).op ≡ ker.Item i }
+        ensures { IfOk result (λ r. (q : Position) →
+            Sizes self.old self.new (ker_sized self.old.width k.now) q r) }
+    {
+        match k.args.as_slice() {
+            [whole] => {
+                let a = self.size(whole, Site::Walked)?;
+                let shape = copy_part(self.alloc, applied(&a, Literal::Number(i as i128)))?;
+                self.count(k.place, &shape);
+                Ok(shape)
+            }
+            _ => Err(AllocError),
+        }
+    }
+}
+
+// The literal that stands second.
+fn second_literal(ks: &[Ker]) -> Literal
+    ensures { literal result ≡ second_of ks.now }
+{
+    match ks {
+        [] => Literal::None,
+        [_] => Literal::None,
+        [_, k, ..] => literal_of(k),
+    }
+}
+
+// Where the operand of a set of subsets stands.
+fn set_site(at: Site) -> Site
+    ensures { stands result ≡ subset_operand (stands at) }
+{
+    match at {
+        Site::Form => Site::Form,
+        Site::Walked | Site::Assigned | Site::Picked => Site::Walked,
+    }
+}
+
+// Where the operands of a set of functions, records or tuples stand.
+fn operand_site(at: Site) -> Site
+    ensures { stands result ≡ operand (stands at) }
+{
+    match at {
+        Site::Form => Site::Form,
+        Site::Assigned => Site::Assigned,
+        Site::Walked | Site::Picked => Site::Walked,
+    }
+}
