@@ -34,9 +34,3 @@ two_children (x ∷ []) a b h l e f = absurd (omega (arith, h))
 two_children (x ∷ y ∷ []) a b h l e f = ap₂ (λ (z u : Ker). z ∷ u ∷ []) (sym e) (sym f)
 two_children (x ∷ y ∷ z ∷ ks) a b h l e f = absurd (omega (arith, l))
 
--- ---- memberships
-
-either_member : (o : KerOp) → IsTrue (is_membership o) → (o ≡ ker.Member) ⊎ (o ≡ ker.Included)
-either_member ker.Member h = inl refl
-either_member ker.Included h = inr refl
-either_member o h = absurd (false≢true h)

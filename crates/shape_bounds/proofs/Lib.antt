@@ -13,3 +13,4 @@ pub mod Families
 pub mod NodeShapes
 pub mod BinderShapes
 pub mod Keeping
+pub mod RowsKept
