@@ -14,3 +14,4 @@ pub mod NodeShapes
 pub mod BinderShapes
 pub mod Keeping
 pub mod RowsKept
+pub mod Visits

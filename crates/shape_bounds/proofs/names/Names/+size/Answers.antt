@@ -1,127 +1,128 @@
-use Rattle.std.proofs.Common.{rules, ◌≡◌, IfOk, map, true, ℕ, ◌+◌, ◌-◌, ◌*◌, ◌<◌, ◌≤◌, length, ◌/◌, ◌%◌, Bool, false, nat_eq, nat_lt, List, [], ◌∷◌, ◌++◌, slice_index_or, slice_set, bit_and, bit_or, Fits, w8, w32, w64, Bor, MutBor, ℤ, pos, ◌+ℤ◌, ◌-ℤ◌, ◌*ℤ◌, ◌≤ℤ◌, ◌<ℤ◌, FitsSigned, to_z, of_z}
+use Rattle.std.proofs.Common.{◌∙◌, ap, arith, inl, inr, refl, subst, sym, take, Ok}
+use Rattle.std.proofs.lemmas.Grind.{common_steps}
 use Rattle.kernel_trees.specs.declared.kernel.Ker.{out-Ker}
-use Rattle.kernel_trees.specs.declared.kernel.KerOp.TheVariants as ker
 use Rattle.kernel_shapes.specs.Kernel.{ker_sized}
-use Rattle.kernel_shapes.specs.Codes.{mean}
-use Rattle.kernel_shapes.specs.Sized.{Position, operand}
-use Rattle.shape_bounds.specs.inner.Kept.{IsWidth}
-use Rattle.shape_bounds.specs.inner.Nodes.{is_binder, is_endless, is_membership, is_product, second_of, subset_operand}
-use Rattle.shape_bounds.specs.inner.Sizes.{Sizes, SizesEach, SizesUnder, stands}
-use Rattle.shape_bounds.specs.inner.Table.{literal}
+use Rattle.shape_bounds.specs.inner.Sizes.{stands}
+use Rattle.shape_bounds.proofs.Families.{any_site, bound_width, constant_sized, each_next, each_start, each_whole, functions_sized, item_sized, member_sized, no_case_sized, one_child, range_sized, subsets_sized, two_children, two_first, under_sized, width_same}
+use Rattle.shape_bounds.proofs.Visits.{binder_visited, endless_visited, most-take, plain_visited, product_visited}
 use Rattle.shape_bounds.proofs.names.Names.+size.Goals as goal
 
--- src/sizing.rt:156:20
 pub binder-sizes-requires : goal.binder-sizes-requires
-binder-sizes-requires t c = ?
+binder-sizes-requires t c = (grind (arith, most-take, common_steps), c.requires.sized)
 
--- src/sizing.rt:158:20
 pub binder-under-requires : goal.binder-under-requires
-binder-under-requires t c = ?
+binder-under-requires t c = (grind (arith, common_steps), width_same _ _ c.in_ok-sets.ensures.same c.requires.sized)
 
--- src/sizing.rt:144:5
 pub binder-returns : goal.binder-returns
-binder-returns t c = ?
+binder-returns t c =
+    binder_visited c.args.self.now c.sizes.new.self c.under.new.self c.count.new.self c.args.k.now c.as_slice-args.result.now c.as_slice-numbers.result.now c.index-args-numbers.result
+    c.in_ok-sets.sets.items c.as_slice.result.now c.in_ok-members.members.items c.as_slice-2.result.now c.as_slice-3.result.now c.in_ok-body.body c.in_ok-shape.shape
+    c.requires.sized c.requires.kind c.as_slice-args.ensures c.as_slice-numbers.ensures (sym c.if-is_empty.false ∙ c.is_empty.ensures) c.if-args-numbers.false c.index-args-numbers.is
+    c.in_ok-sets.ensures c.as_slice.ensures.value c.in_ok-members.ensures c.as_slice-2.ensures.value c.in_ok-body.ensures c.as_slice-3.ensures.value c.in_ok-shape.ensures c.count.ensures
 
--- src/sizing.rt:219:5
 pub endless-returns : goal.endless-returns
-endless-returns t c = ?
+endless-returns t c = endless_visited c.args.self.now c.sizes.new.self c.args.k.now c.as_slice.result.now _ c.as_slice.ensures c.requires.kind c.in_ok-sizes.ensures
 
--- src/sizing.rt:184:5
 pub functions-returns-in_ok-shape-in-len2 : goal.functions-returns-in_ok-shape-in-len2
-functions-returns-in_ok-shape-in-len2 t c = ?
+functions-returns-in_ok-shape-in-len2 t c =
+    functions_sized c.args.self.now c.size.new.self c.size-in-len2.new.self c.count_walked.new.self c.args.k.now c.arguments-item.result c.values-item.result
+    (stands c.args.at) (stands c.operand_site.result) c.in_ok-a-in-len2.a c.in_ok-b-in-len2.b c.in_ok-shape-in-len2.shape c.requires.sized c.requires.kind
+    (sym c.as_slice.ensures ∙ two_children c.as_slice.result.now _ _ c.in-len2.len_at_least c.in-len2.len_below c.arguments-item.is c.values-item.is)
+    c.operand_site.ensures c.in_ok-a-in-len2.ensures c.in_ok-b-in-len2.ensures c.in_ok-shape-in-len2.ensures c.count_walked.ensures
 
--- src/sizing.rt:251:5
 pub item-returns-in_ok-shape-in-len1 : goal.item-returns-in_ok-shape-in-len1
-item-returns-in_ok-shape-in-len1 t c = ?
+item-returns-in_ok-shape-in-len1 t c =
+    item_sized c.args.self.now c.size.new.self c.count.new.self c.args.k.now c.whole-item.result c.args.i c.in_ok-a-in-len1.a c.in_ok-shape-in-len1.shape c.requires.kind
+    (sym c.as_slice.ensures ∙ one_child c.as_slice.result.now _ c.in-len1.len_at_least c.in-len1.len_below c.whole-item.is)
+    c.in_ok-a-in-len1.ensures (c.in_ok-shape-in-len1.ensures ∙ c.applied.ensures) c.count.ensures
 
--- src/sizing.rt:107:5
 pub membership-returns-in_ok-size-in-len2-2 : goal.membership-returns-in_ok-size-in-len2-2
-membership-returns-in_ok-size-in-len2-2 t c = ?
+membership-returns-in_ok-size-in-len2-2 t c =
+    member_sized c.args.self.now c.size.new.self c.size-in-len2.new.self c.args.k.now c.member-item.result c.set-item.result _ _ c.requires.kind
+    (sym c.as_slice.ensures ∙ two_children c.as_slice.result.now _ _ c.in-len2.len_at_least c.in-len2.len_below c.member-item.is c.set-item.is)
+    c.in_ok-size-in-len2.ensures c.in_ok-size-in-len2-2.ensures
 
--- src/sizing.rt:89:5
 pub plain-returns : goal.plain-returns
-plain-returns t c = ?
+plain-returns t c =
+    plain_visited c.args.self.now c.sizes.new.self c.count.new.self c.args.k.now c.as_slice-args.result.now c.in_ok-operands.operands.items c.as_slice-shapes.result.now c.in_ok-shape.shape
+    c.requires.sized c.as_slice-args.ensures c.as_slice-shapes.ensures.value _ (c.is_plain.ensures c.if-not-is_plain.false)
+    c.in_ok-operands.ensures c.second_literal.ensures c.in_ok-shape.ensures c.count.ensures
 
--- src/sizing.rt:204:5
 pub product-returns : goal.product-returns
-product-returns t c = ?
+product-returns t c =
+    product_visited c.args.self.now c.sizes.new.self c.count_walked.new.self c.args.k.now c.as_slice.result.now c.in_ok-operands.operands.items c.as_slice-shapes.result.now c.in_ok-shape.shape
+    c.requires.sized c.as_slice.ensures c.as_slice-shapes.ensures.value (stands c.args.at) (stands c.operand_site.result) c.requires.kind
+    c.operand_site.ensures c.in_ok-operands.ensures c.in_ok-shape.ensures c.count_walked.ensures
 
--- src/sizing.rt:231:5
 pub range-returns-in_ok-shape-in-len2-up : goal.range-returns-in_ok-shape-in-len2-up
-range-returns-in_ok-shape-in-len2-up t c = ?
+range-returns-in_ok-shape-in-len2-up t c =
+    range_sized c.args.self.now c.size.new.self c.size-in-len2-up.new.self c.count.new.self c.args.k.now c.low-item.result c.high-item.result _
+    c.in_ok-a-in-len2-up.a c.in_ok-b-in-len2-up.b c.in_ok-shape-in-len2-up.shape c.requires.sized c.requires.kind
+    (sym c.as_slice.ensures ∙ two_first c.as_slice.result.now _ _ c.in-len2-up.len_at_least c.low-item.is c.high-item.is)
+    c.in_ok-a-in-len2-up.ensures c.in_ok-b-in-len2-up.ensures c.in_ok-shape-in-len2-up.ensures c.count.ensures
 
--- src/sizing.rt:24:5
 pub size-returns-in-Const : goal.size-returns-in-Const
-size-returns-in-Const t c = ?
+size-returns-in-Const t c = constant_sized c.args.self.now c.args.k.now c.in-Const.value.now c.constant.result c.in-Const.is c.constant.ensures (stands c.args.at)
 
--- src/sizing.rt:24:5
-pub size-returns-in-Name : goal.size-returns-in-Name
-size-returns-in-Name t c = ?
-
--- src/sizing.rt:24:5
-pub size-returns-in-Bound : goal.size-returns-in-Bound
-size-returns-in-Bound t c = ?
-
--- src/sizing.rt:24:5
-pub size-returns-in-Range : goal.size-returns-in-Range
-size-returns-in-Range t c = ?
-
--- src/sizing.rt:24:5
-pub size-returns-in-Item : goal.size-returns-in-Item
-size-returns-in-Item t c = ?
-
--- src/sizing.rt:24:5
 pub size-returns-in-NoCase : goal.size-returns-in-NoCase
-size-returns-in-NoCase t c = ?
+size-returns-in-NoCase t c = no_case_sized c.args.self.now c.args.k.now c.in-NoCase.is (stands c.args.at)
 
--- src/sizing.rt:24:5
+pub size-returns-in-Name : goal.size-returns-in-Name
+size-returns-in-Name t c = any_site c.args.self.now c.name.new.self (ker_sized c.args.self.now.width c.args.k.now) (stands c.args.at) c.name.result c.name.ensures
+
+pub size-returns-in-Bound : goal.size-returns-in-Bound
+size-returns-in-Bound t c = any_site c.args.self.now c.bound_name.new.self (ker_sized c.args.self.now.width c.args.k.now) (stands c.args.at) c.bound_name.result c.bound_name.ensures
+
+pub size-returns-in-Range : goal.size-returns-in-Range
+size-returns-in-Range t c = any_site c.args.self.now c.range.new.self (ker_sized c.args.self.now.width c.args.k.now) (stands c.args.at) c.range.result c.range.ensures
+
+pub size-returns-in-Item : goal.size-returns-in-Item
+size-returns-in-Item t c = any_site c.args.self.now c.item.new.self (ker_sized c.args.self.now.width c.args.k.now) (stands c.args.at) c.item.result c.item.ensures
+
 pub size-returns-in_default : goal.size-returns-in_default
-size-returns-in_default t c = ?
+size-returns-in_default t c = any_site c.args.self.now c.plain.new.self (ker_sized c.args.self.now.width c.args.k.now) (stands c.args.at) c.plain.result c.plain.ensures
 
--- src/sizing.rt:24:5
 pub size-returns-in-TextForm : goal.size-returns-in-TextForm
-size-returns-in-TextForm t c = ?
+size-returns-in-TextForm t c = any_site c.args.self.now c.endless.new.self (ker_sized c.args.self.now.width c.args.k.now) (stands c.args.at) c.endless.result c.endless.ensures
 
--- src/sizing.rt:24:5
 pub size-returns-in-IntForm : goal.size-returns-in-IntForm
-size-returns-in-IntForm t c = ?
+size-returns-in-IntForm t c = any_site c.args.self.now c.endless-in-IntForm.new.self (ker_sized c.args.self.now.width c.args.k.now) (stands c.args.at) c.endless-in-IntForm.result c.endless-in-IntForm.ensures
 
--- src/sizing.rt:24:5
 pub size-returns-in-Member : goal.size-returns-in-Member
-size-returns-in-Member t c = ?
+size-returns-in-Member t c = any_site c.args.self.now c.membership.new.self (ker_sized c.args.self.now.width c.args.k.now) (stands c.args.at) c.membership.result c.membership.ensures
 
--- src/sizing.rt:24:5
 pub size-returns-in-Some : goal.size-returns-in-Some
-size-returns-in-Some t c = ?
+size-returns-in-Some t c = any_site c.args.self.now c.binder.new.self (ker_sized c.args.self.now.width c.args.k.now) (stands c.args.at) c.binder.result c.binder.ensures
 
--- src/sizing.rt:24:5
 pub size-returns-in-Filter : goal.size-returns-in-Filter
-size-returns-in-Filter t c = ?
+size-returns-in-Filter t c = any_site c.args.self.now c.binder-in-Filter.new.self (ker_sized c.args.self.now.width c.args.k.now) (stands c.args.at) c.binder-in-Filter.result c.binder-in-Filter.ensures
 
--- src/sizing.rt:81:9
 pub sizes-loop-k-init : goal.sizes-loop-k-init
-sizes-loop-k-init t c = ?
+sizes-loop-k-init t c = each_start c.args.self.now (stands c.args.at) c.new-shapes.result.items c.new-shapes.ensures.items
 
--- src/sizing.rt:82:25
 pub sizes-size-requires : goal.sizes-size-requires
-sizes-size-requires t c = ?
+sizes-size-requires t c = (grind (arith, common_steps), width_same _ _ c.loop-k.invariant.same c.requires.sized)
 
--- src/sizing.rt:81:9
 pub sizes-loop-k-preserved : goal.sizes-loop-k-preserved
-sizes-loop-k-preserved t c = ?
+sizes-loop-k-preserved t c =
+    each_next c.args.self.now c.loop-k.self c.size.new.self c.args.ks.now c.loop-k.k-index c.k-item.result (stands c.args.at) c.loop-k.shapes.items c.push.new.self.items c.in_ok-shape.shape
+    c.loop-k.invariant c.loop-k-test.true c.k-item.is c.in_ok-shape.ensures c.in_ok-push.ensures.items
 
--- src/sizing.rt:74:5
 pub sizes-returns : goal.sizes-returns
-sizes-returns t c = ?
+sizes-returns t c =
+    each_whole c.args.self.now c.loop-k.self c.args.ks.now c.loop-k.k-index (stands c.args.at) c.loop-k.shapes.items c.loop-k.invariant (omega (arith, c.loop-k-test.false))
 
--- src/sizing.rt:165:5
 pub subsets-returns-in_ok-shape-in-len1 : goal.subsets-returns-in_ok-shape-in-len1
-subsets-returns-in_ok-shape-in-len1 t c = ?
+subsets-returns-in_ok-shape-in-len1 t c =
+    subsets_sized c.args.self.now c.size.new.self c.count_walked.new.self c.args.k.now c.set-item.result (stands c.args.at) (stands c.set_site.result)
+    c.in_ok-operand-in-len1.operand c.in_ok-shape-in-len1.shape c.requires.sized c.requires.kind
+    (sym c.as_slice.ensures ∙ one_child c.as_slice.result.now _ c.in-len1.len_at_least c.in-len1.len_below c.set-item.is)
+    c.set_site.ensures c.in_ok-operand-in-len1.ensures c.in_ok-shape-in-len1.ensures c.count_walked.ensures
 
--- src/sizing.rt:138:21
 pub under-size-requires : goal.under-size-requires
-under-size-requires t c = ?
+under-size-requires t c = (grind (arith, common_steps), bound_width _ _ _ _ c.in_ok-bind.ensures c.requires.sized)
 
--- src/sizing.rt:125:5
 pub under-returns : goal.under-returns
-under-returns t c = ?
+under-returns t c =
+    under_sized c.args.self.now c.bind.new.self c.size.new.self _ c.args.k.now c.args.numbers.now _ c.in_ok-shape.shape c.in_ok-bind.ensures c.in_ok-shape.ensures
+    refl refl refl refl (c.truncate.ensures.items ∙ ap (λ n. take n c.size.new.self.bound.items) c.len-before.ensures)
