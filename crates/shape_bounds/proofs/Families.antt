@@ -398,17 +398,17 @@ under_finds : (old mid late new : Names) (cs : List Count) → mid.first ≡ old
 under_finds old mid late new cs e f h =
     ap (option_map rank_of) f ∙ h ∙ ap (λ (o : Option Excess). either_rank (option_map rank_of o) (first_rank cs)) e
 
-pub under_sized : (old mid late new : Names) (k : Ker) (xs : List ℕ) (as' : List Shape) (r : Code) → IsBound old mid xs as' → Sizes mid late (ker_sized mid.width k) walked r →
+pub under_sized : (old mid late new : Names) (n : ℕ) (k : Ker) (xs : List ℕ) (as' : List Shape) (r : Code) → IsBound old mid xs as' → Sizes mid late (ker_sized mid.width k) walked r →
     new.width ≡ late.width → new.state ≡ late.state → new.next ≡ late.next → new.first ≡ late.first →
-    new.bound.items ≡ take (length old.bound.items) late.bound.items → SizesUnder old new (ker_sized old.width k) xs as' r
-under_sized old mid late new k xs as' r h s ew es en ef eb =
+    new.bound.items ≡ take n late.bound.items → n ≡ length old.bound.items → SizesUnder old new (ker_sized old.width k) xs as' r
+under_sized old mid late new n k xs as' r h s ew es en ef eb nb =
     let t : Sizes mid late (ker_sized old.width k) walked r = subst (λ (w : ℕ). Sizes mid late (ker_sized w k) walked r) h.width s in
     record {
       same = record {
         width = ew ∙ s.same.width ∙ h.width;
         state = es ∙ s.same.state ∙ h.state;
         next = en ∙ s.same.next ∙ h.next;
-        bound = eb ∙ ap (take (length old.bound.items)) s.same.bound ∙ h.front;
+        bound = eb ∙ ap (λ (m : ℕ). take m late.bound.items) nb ∙ ap (take (length old.bound.items)) s.same.bound ∙ h.front;
       };
       shape = λ g bs l e. t.shape (bind_shapes (names_of xs) bs g) (reads_bound old mid xs as' bs g h l e);
       finds = λ g bs l e. under_finds old mid late new ((ker_sized old.width k (bind_shapes (names_of xs) bs g)).counts walked) h.first ef (t.finds (bind_shapes (names_of xs) bs g) (reads_bound old mid xs as' bs g h l e));

@@ -15,3 +15,4 @@ pub mod BinderShapes
 pub mod Keeping
 pub mod RowsKept
 pub mod Visits
+pub mod Binding

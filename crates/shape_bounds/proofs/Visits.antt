@@ -18,26 +18,30 @@ use Rattle.shape_bounds.specs.inner.Sizes.{IsCounted, Sizes, SizesEach, SizesUnd
 use Rattle.shape_bounds.specs.inner.Table.{row_kept}
 use Rattle.shape_bounds.proofs.Families.{plain_sized, product_sized, endless_sized, binder_sized, front_and_last, front_length}
 
+whole : (ks : List Ker) → take (length ks) ks ≡ ks
+whole [] = refl
+whole (k ∷ ks) = ap (λ (js : List Ker). k ∷ js) (whole ks)
+
 module _ (old mid new : Names) (k : Ker) (args : List Ker) (rs ss : List Code) (r : Code) (i : IsWidth old.width) (e : args ≡ (out-Ker k).args) (f : ss ≡ rs) where
-  pub plain_visited : (l : Literal) → IsTrue (is_plain (out-Ker k).op) → SizesEach old mid (map (ker_sized old.width) args) walked rs →
+  pub plain_visited : (l : Literal) → IsTrue (is_plain (out-Ker k).op) → SizesEach old mid (map (ker_sized old.width) (take (length args) args)) walked rs →
       l ≡ second_of args → mean r ≡ row_kept mid.width (row_of (out-Ker k).op) l (map mean ss) →
       IsCounted mid new (count_at (out-Ker k).place (mean r)) → (q : Position) → Sizes old new (ker_sized old.width k) q r
   plain_visited l h s g m c q =
       plain_sized old mid new k rs r i h
-      (subst (λ (ks : List Ker). SizesEach old mid (map (ker_sized old.width) ks) walked rs) e s)
+      (subst (λ (ks : List Ker). SizesEach old mid (map (ker_sized old.width) ks) walked rs) (whole args ∙ e) s)
       (m ∙ ap₂ (λ (j : Literal) (us : List Code). row_kept mid.width (row_of (out-Ker k).op) j (map mean us)) (g ∙ ap second_of e) f) c q
 
-  pub product_visited : (q u : Position) → is_product (out-Ker k).op ≡ true → u ≡ operand q → SizesEach old mid (map (ker_sized old.width) args) u rs →
+  pub product_visited : (q u : Position) → is_product (out-Ker k).op ≡ true → u ≡ operand q → SizesEach old mid (map (ker_sized old.width) (take (length args) args)) u rs →
       mean r ≡ row_kept mid.width (row_of (out-Ker k).op) no_literal (map mean ss) →
       IsCounted mid new (walked_count q (out-Ker k).place (mean r)) → Sizes old new (ker_sized old.width k) q r
   product_visited q u h at s m c =
       product_sized old mid new k q u rs r i h at
-      (subst (λ (ks : List Ker). SizesEach old mid (map (ker_sized old.width) ks) u rs) e s)
+      (subst (λ (ks : List Ker). SizesEach old mid (map (ker_sized old.width) ks) u rs) (whole args ∙ e) s)
       (m ∙ ap (λ (us : List Code). row_kept mid.width (row_of (out-Ker k).op) no_literal (map mean us)) f) c
 
 pub endless_visited : (old new : Names) (k : Ker) (args : List Ker) (rs : List Code) → args ≡ (out-Ker k).args → is_endless (out-Ker k).op ≡ true →
-    SizesEach old new (map (ker_sized old.width) args) as_form rs → (q : Position) → Sizes old new (ker_sized old.width k) q empty
-endless_visited old new k args rs e h s q = endless_sized old new k rs h (subst (λ (ks : List Ker). SizesEach old new (map (ker_sized old.width) ks) as_form rs) e s) q
+    SizesEach old new (map (ker_sized old.width) (take (length args) args)) as_form rs → (q : Position) → Sizes old new (ker_sized old.width k) q empty
+endless_visited old new k args rs e h s q = endless_sized old new k rs h (subst (λ (ks : List Ker). SizesEach old new (map (ker_sized old.width) ks) as_form rs) (whole args ∙ e) s) q
 
 some_more : (ks : List Ker) (n : ℕ) → false ≡ nat_eq (length ks) 0 → length ks - 1 ≡ n → length ks ≡ suc n
 some_more [] n h e = absurd (false≢true h)
@@ -64,3 +68,9 @@ pub most-take : {X : Type 0} (f : X → ℕ) (n : ℕ) (xs : List X) → most f 
 most-take f zero xs = omega arith
 most-take f (suc n) [] = omega arith
 most-take f (suc n) (x ∷ xs) = omega (arith, most-take f n xs)
+
+-- an item is no deeper than the list
+pub most-item : {X : Type 0} (f : X → ℕ) (xs : List X) (n : ℕ) (x : X) → n < length xs → x ≡ get_or xs n x → f x ≤ most f xs
+most-item f [] n x h e = absurd (omega (arith, h))
+most-item f (y ∷ xs) zero x h e = let g : f x ≡ f y = ap f e in omega (arith, g)
+most-item f (y ∷ xs) (suc n) x h e = let g = most-item f xs n x (omega (arith, h)) e in omega (arith, g)

@@ -1,5 +1,5 @@
 // The shape of a kernel tree by those of the names that it reads, and which number in it is past its limit.
-ghost use Rattle.std.specs.Prelude.{◌≡◌, IfOk, map, true};
+ghost use Rattle.std.specs.Prelude.{◌≡◌, IfOk, map, take, true};
 ghost use Rattle.kernel_trees.specs.declared.kernel.Ker.{out-Ker};
 ghost use Rattle.kernel_trees.specs.declared.kernel.KerOp.TheVariants as ker;
 ghost use Rattle.kernel_shapes.specs.Kernel.{ker_sized};
@@ -7,7 +7,7 @@ ghost use Rattle.kernel_shapes.specs.Codes.{mean};
 ghost use Rattle.kernel_shapes.specs.Sized.{Position, operand};
 ghost use Rattle.shape_bounds.specs.inner.Kept.{IsWidth};
 ghost use Rattle.shape_bounds.specs.inner.Nodes.{is_binder, is_endless, is_membership, is_product, second_of, subset_operand};
-ghost use Rattle.shape_bounds.specs.inner.Sizes.{Sizes, SizesEach, SizesUnder, stands};
+ghost use Rattle.shape_bounds.specs.inner.Sizes.{Sizes, SizesEach, stands};
 ghost use Rattle.shape_bounds.specs.inner.Table.{literal};
 
 use crate::names::{Names, Site};
@@ -70,15 +70,19 @@ impl Names {
         Ok(shape)
     }
 
-    // The shapes of several trees.
+    // The shapes of the first trees, so many.
     #[cycle(size)]
-    fn sizes(&mut self, ks: &[Ker], at: Site) -> Result<Vec<Shape>, AllocError>
+    fn sizes(&mut self, ks: &[Ker], number: usize, at: Site) -> Result<Vec<Shape>, AllocError>
         requires sized { IsWidth self.old.width }
         ensures { IfOk result (λ rs. SizesEach self.old self.new
-            (map (ker_sized self.old.width) ks.now) (stands at) rs.items) }
+            (map (ker_sized self.old.width) (take number ks.now)) (stands at) rs.items) }
     {
+        if number > ks.len() {
+            return Err(AllocError);
+        }
         let mut shapes = Vec::new(self.alloc);
-        for k in ks {
+        for i in 0..number {
+            let k = &ks[i];
             let shape = self.size(k, at)?;
             shapes.push(shape)?;
         }
@@ -96,7 +100,7 @@ impl Names {
             return Err(AllocError);
         }
         let args = k.args.as_slice();
-        let operands = self.sizes(args, Site::Walked)?;
+        let operands = self.sizes(args, args.len(), Site::Walked)?;
         let shapes = operands.as_slice();
         let shape = row(self.alloc, &k.op, second_literal(args), shapes, self.width)?;
         self.count(k.place, &shape);
@@ -121,25 +125,6 @@ impl Names {
         }
     }
 
-    // A tree where further numbers have these shapes.
-    #[cycle(size)]
-    fn under(
-        &mut self,
-        numbers: &[u32],
-        shapes: &[Shape],
-        k: &Ker,
-    ) -> Result<Shape, AllocError>
-        requires sized { IsWidth self.old.width }
-        ensures { IfOk result (λ r. SizesUnder self.old self.new
-            (ker_sized self.old.width k.now) numbers.now (map mean shapes.now) r) }
-    {
-        let before = self.bound.len();
-        self.bind(numbers, shapes)?;
-        let shape = self.size(k, Site::Walked)?;
-        self.bound.truncate(before);
-        Ok(shape)
-    }
-
     // A node that binds numbers over sets.
     #[cycle(size)]
     fn binder(&mut self, k: &Ker) -> Result<Shape, AllocError>
@@ -153,9 +138,13 @@ impl Names {
         if args.is_empty() || args.len() - 1 != numbers.len() {
             return Err(AllocError);
         }
-        let sets = self.sizes(&args[..numbers.len()], Site::Walked)?;
+        let sets = self.sizes(args, numbers.len(), Site::Walked)?;
         let members = insides(self.alloc, sets.as_slice())?;
-        let body = self.under(numbers, members.as_slice(), &args[numbers.len()])?;
+        let bound = self.bound.as_slice();
+        let before = bound.len();
+        self.bind(numbers, members.as_slice())?;
+        let body = self.size(&args[numbers.len()], Site::Walked)?;
+        self.bound.truncate(before);
         let shape = binder_shape(self.alloc, &k.op, sets.as_slice(), body)?;
         self.count(k.place, &shape);
         Ok(shape)
@@ -208,7 +197,8 @@ impl Names {
         ensures { IfOk result (λ r.
             Sizes self.old self.new (ker_sized self.old.width k.now) (stands at) r) }
     {
-        let operands = self.sizes(k.args.as_slice(), operand_site(at))?;
+        let args = k.args.as_slice();
+        let operands = self.sizes(args, args.len(), operand_site(at))?;
         let shapes = operands.as_slice();
         let shape = row(self.alloc, &k.op, Literal::None, shapes, self.width)?;
         self.count_walked(k.place, &shape, at);
@@ -223,7 +213,8 @@ impl Names {
         ensures { IfOk result (λ r. (q : Position) →
             Sizes self.old self.new (ker_sized self.old.width k.now) q r) }
     {
-        self.sizes(k.args.as_slice(), Site::Form)?;
+        let args = k.args.as_slice();
+        self.sizes(args, args.len(), Site::Form)?;
         Ok(Shape::Empty)
     }
 

@@ -1,27 +1,27 @@
-use Rattle.std.proofs.Common.{◌∙◌, ap, arith, inl, inr, refl, subst, sym, take, Ok}
-use Rattle.std.proofs.lemmas.Grind.{common_steps}
+use Rattle.std.proofs.Common.{◌∙◌, ap, arith, length, refl, map, sym}
+use Rattle.std.proofs.lemmas.Int.{to_z-of_z}
+use Rattle.std.proofs.Common.{pos}
+use mir.Syntax.{w128}
+use Rattle.kernel_shapes.specs.Codes.{mean}
+use Rattle.kernel_shapes.specs.Rows.{applied_at, number}
 use Rattle.kernel_trees.specs.declared.kernel.Ker.{out-Ker}
 use Rattle.kernel_shapes.specs.Kernel.{ker_sized}
 use Rattle.shape_bounds.specs.inner.Sizes.{stands}
-use Rattle.shape_bounds.proofs.Families.{any_site, bound_width, constant_sized, each_next, each_start, each_whole, functions_sized, item_sized, member_sized, no_case_sized, one_child, range_sized, subsets_sized, two_children, two_first, under_sized, width_same}
-use Rattle.shape_bounds.proofs.Visits.{binder_visited, endless_visited, most-take, plain_visited, product_visited}
+use Rattle.shape_bounds.proofs.Families.{any_site, constant_sized, each_next, functions_sized, item_sized, member_sized, no_case_sized, one_child, range_sized, subsets_sized, two_children, two_first, under_sized}
+use Rattle.shape_bounds.proofs.Visits.{binder_visited, endless_visited, plain_visited, product_visited}
 use Rattle.shape_bounds.proofs.names.Names.+size.Goals as goal
-
-pub binder-sizes-requires : goal.binder-sizes-requires
-binder-sizes-requires t c = (grind (arith, most-take, common_steps), c.requires.sized)
-
-pub binder-under-requires : goal.binder-under-requires
-binder-under-requires t c = (grind (arith, common_steps), width_same _ _ c.in_ok-sets.ensures.same c.requires.sized)
 
 pub binder-returns : goal.binder-returns
 binder-returns t c =
-    binder_visited c.args.self.now c.sizes.new.self c.under.new.self c.count.new.self c.args.k.now c.as_slice-args.result.now c.as_slice-numbers.result.now c.index-args-numbers.result
+    let u = under_sized c.sizes.new.self c.bind.new.self c.size.new.self (record { alloc = c.size.new.self.alloc; width = c.size.new.self.width; state = c.size.new.self.state; next = c.size.new.self.next; bound = c.truncate.new.self; first = c.size.new.self.first }) _ c.index-args-numbers.result c.as_slice-numbers.result.now
+            (map mean c.as_slice-2.result.now) c.in_ok-body.body c.in_ok-bind.ensures c.in_ok-body.ensures refl refl refl refl c.truncate.ensures.items (ap length c.as_slice-bound.ensures.value) in
+    binder_visited c.args.self.now c.sizes.new.self _ c.count.new.self c.args.k.now c.as_slice-args.result.now c.as_slice-numbers.result.now c.index-args-numbers.result
     c.in_ok-sets.sets.items c.as_slice.result.now c.in_ok-members.members.items c.as_slice-2.result.now c.as_slice-3.result.now c.in_ok-body.body c.in_ok-shape.shape
     c.requires.sized c.requires.kind c.as_slice-args.ensures c.as_slice-numbers.ensures (sym c.if-is_empty.false ∙ c.is_empty.ensures) c.if-args-numbers.false c.index-args-numbers.is
-    c.in_ok-sets.ensures c.as_slice.ensures.value c.in_ok-members.ensures c.as_slice-2.ensures.value c.in_ok-body.ensures c.as_slice-3.ensures.value c.in_ok-shape.ensures c.count.ensures
+    c.in_ok-sets.ensures c.as_slice.ensures.value c.in_ok-members.ensures c.as_slice-2.ensures.value u c.as_slice-3.ensures.value c.in_ok-shape.ensures c.count.ensures
 
 pub endless-returns : goal.endless-returns
-endless-returns t c = endless_visited c.args.self.now c.sizes.new.self c.args.k.now c.as_slice.result.now _ c.as_slice.ensures c.requires.kind c.in_ok-sizes.ensures
+endless-returns t c = endless_visited c.args.self.now c.sizes.new.self c.args.k.now c.as_slice-args.result.now _ c.as_slice-args.ensures c.requires.kind c.in_ok-sizes.ensures
 
 pub functions-returns-in_ok-shape-in-len2 : goal.functions-returns-in_ok-shape-in-len2
 functions-returns-in_ok-shape-in-len2 t c =
@@ -34,7 +34,7 @@ pub item-returns-in_ok-shape-in-len1 : goal.item-returns-in_ok-shape-in-len1
 item-returns-in_ok-shape-in-len1 t c =
     item_sized c.args.self.now c.size.new.self c.count.new.self c.args.k.now c.whole-item.result c.args.i c.in_ok-a-in-len1.a c.in_ok-shape-in-len1.shape c.requires.kind
     (sym c.as_slice.ensures ∙ one_child c.as_slice.result.now _ c.in-len1.len_at_least c.in-len1.len_below c.whole-item.is)
-    c.in_ok-a-in-len1.ensures (c.in_ok-shape-in-len1.ensures ∙ c.applied.ensures) c.count.ensures
+    c.in_ok-a-in-len1.ensures (c.in_ok-shape-in-len1.ensures ∙ c.applied.ensures ∙ ap (λ z. applied_at (mean c.in_ok-a-in-len1.a) (number z)) (to_z-of_z w128 (pos c.args.i) (omega arith))) c.count.ensures
 
 pub membership-returns-in_ok-size-in-len2-2 : goal.membership-returns-in_ok-size-in-len2-2
 membership-returns-in_ok-size-in-len2-2 t c =
@@ -50,8 +50,8 @@ plain-returns t c =
 
 pub product-returns : goal.product-returns
 product-returns t c =
-    product_visited c.args.self.now c.sizes.new.self c.count_walked.new.self c.args.k.now c.as_slice.result.now c.in_ok-operands.operands.items c.as_slice-shapes.result.now c.in_ok-shape.shape
-    c.requires.sized c.as_slice.ensures c.as_slice-shapes.ensures.value (stands c.args.at) (stands c.operand_site.result) c.requires.kind
+    product_visited c.args.self.now c.sizes.new.self c.count_walked.new.self c.args.k.now c.as_slice-args.result.now c.in_ok-operands.operands.items c.as_slice-shapes.result.now c.in_ok-shape.shape
+    c.requires.sized c.as_slice-args.ensures c.as_slice-shapes.ensures.value (stands c.args.at) (stands c.operand_site.result) c.requires.kind
     c.operand_site.ensures c.in_ok-operands.ensures c.in_ok-shape.ensures c.count_walked.ensures
 
 pub range-returns-in_ok-shape-in-len2-up : goal.range-returns-in_ok-shape-in-len2-up
@@ -62,7 +62,7 @@ range-returns-in_ok-shape-in-len2-up t c =
     c.in_ok-a-in-len2-up.ensures c.in_ok-b-in-len2-up.ensures c.in_ok-shape-in-len2-up.ensures c.count.ensures
 
 pub size-returns-in-Const : goal.size-returns-in-Const
-size-returns-in-Const t c = constant_sized c.args.self.now c.args.k.now c.in-Const.value.now c.constant.result c.in-Const.is c.constant.ensures (stands c.args.at)
+size-returns-in-Const t c = constant_sized c.args.self.now c.args.k.now c.in-Const.value c.constant.result c.in-Const.is c.constant.ensures (stands c.args.at)
 
 pub size-returns-in-NoCase : goal.size-returns-in-NoCase
 size-returns-in-NoCase t c = no_case_sized c.args.self.now c.args.k.now c.in-NoCase.is (stands c.args.at)
@@ -97,21 +97,6 @@ size-returns-in-Some t c = any_site c.args.self.now c.binder.new.self (ker_sized
 pub size-returns-in-Filter : goal.size-returns-in-Filter
 size-returns-in-Filter t c = any_site c.args.self.now c.binder-in-Filter.new.self (ker_sized c.args.self.now.width c.args.k.now) (stands c.args.at) c.binder-in-Filter.result c.binder-in-Filter.ensures
 
-pub sizes-loop-k-init : goal.sizes-loop-k-init
-sizes-loop-k-init t c = each_start c.args.self.now (stands c.args.at) c.new-shapes.result.items c.new-shapes.ensures.items
-
-pub sizes-size-requires : goal.sizes-size-requires
-sizes-size-requires t c = (grind (arith, common_steps), width_same _ _ c.loop-k.invariant.same c.requires.sized)
-
-pub sizes-loop-k-preserved : goal.sizes-loop-k-preserved
-sizes-loop-k-preserved t c =
-    each_next c.args.self.now c.loop-k.self c.size.new.self c.args.ks.now c.loop-k.k-index c.k-item.result (stands c.args.at) c.loop-k.shapes.items c.push.new.self.items c.in_ok-shape.shape
-    c.loop-k.invariant c.loop-k-test.true c.k-item.is c.in_ok-shape.ensures c.in_ok-push.ensures.items
-
-pub sizes-returns : goal.sizes-returns
-sizes-returns t c =
-    each_whole c.args.self.now c.loop-k.self c.args.ks.now c.loop-k.k-index (stands c.args.at) c.loop-k.shapes.items c.loop-k.invariant (omega (arith, c.loop-k-test.false))
-
 pub subsets-returns-in_ok-shape-in-len1 : goal.subsets-returns-in_ok-shape-in-len1
 subsets-returns-in_ok-shape-in-len1 t c =
     subsets_sized c.args.self.now c.size.new.self c.count_walked.new.self c.args.k.now c.set-item.result (stands c.args.at) (stands c.set_site.result)
@@ -119,10 +104,7 @@ subsets-returns-in_ok-shape-in-len1 t c =
     (sym c.as_slice.ensures ∙ one_child c.as_slice.result.now _ c.in-len1.len_at_least c.in-len1.len_below c.set-item.is)
     c.set_site.ensures c.in_ok-operand-in-len1.ensures c.in_ok-shape-in-len1.ensures c.count_walked.ensures
 
-pub under-size-requires : goal.under-size-requires
-under-size-requires t c = (grind (arith, common_steps), bound_width _ _ _ _ c.in_ok-bind.ensures c.requires.sized)
-
-pub under-returns : goal.under-returns
-under-returns t c =
-    under_sized c.args.self.now c.bind.new.self c.size.new.self _ c.args.k.now c.args.numbers.now _ c.in_ok-shape.shape c.in_ok-bind.ensures c.in_ok-shape.ensures
-    refl refl refl refl (c.truncate.ensures.items ∙ ap (λ n. take n c.size.new.self.bound.items) c.len-before.ensures)
+pub sizes-loop-i-preserved : goal.sizes-loop-i-preserved
+sizes-loop-i-preserved t c =
+    each_next c.args.self.now c.loop-i.self c.size.new.self c.args.ks.now c.loop-i.i c.index-ks-i.result (stands c.args.at) c.loop-i.shapes.items c.push.new.self.items c.in_ok-shape.shape
+    c.loop-i.invariant (omega arith) c.index-ks-i.is c.in_ok-shape.ensures c.in_ok-push.ensures.items
