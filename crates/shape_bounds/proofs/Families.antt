@@ -283,9 +283,9 @@ functions_sized old one mid new k a b q u x y r i o e at s t f c =
     (λ g. ap (λ (j : Ker). (ker_sized old.width j g).counts q) (rebuilt k _ _ o e) ∙ functions_numbers old.width _ _ a b _ g q)
     (same_more old one mid s.same v.same)
     (λ g l. row_means old.width old.width i.narrow refl the_functions refl no_literal ((ker_sized old.width a g).shape ∷ (ker_sized old.width b g).shape ∷ []) (mean x ∷ mean y ∷ []) r
-        (ap₂ (λ (m n : Shape). m ∷ n ∷ []) (s.shape g l) (v.shape g (reads_same old one g s.same l))) (f old.width))
+    (ap₂ (λ (m n : Shape). m ∷ n ∷ []) (s.shape g l) (v.shape g (reads_same old one g s.same l))) (f old.width))
     (λ g l. finds_more old one mid ((ker_sized old.width a g).counts walked) ((ker_sized old.width b g).counts (operand q)) (s.finds g l)
-        (finds_same one mid _ _ (ap (λ (p : Position). (ker_sized old.width b g).counts p) at) (v.finds g (reads_same old one g s.same l)))) c
+    (finds_same one mid _ _ (ap (λ (p : Position). (ker_sized old.width b g).counts p) at) (v.finds g (reads_same old one g s.same l)))) c
 
 -- ---- intervals of numbers, items of tuples
 
@@ -301,7 +301,7 @@ range_sized old one mid new k a b js x y r i o e s t f c q =
     (λ g. ap (λ (j : Ker). (ker_sized old.width j g).counts q) (rebuilt k _ _ o e) ∙ NodeShapes.range_counts old.width _ _ _ g a b js q)
     (same_more old one mid s.same v.same)
     (λ g l. row_means old.width old.width i.narrow refl a_range refl (ker_sized old.width b g).literal ((ker_sized old.width a g).shape ∷ (ker_sized old.width b g).shape ∷ []) (mean x ∷ mean y ∷ []) r
-        (ap₂ (λ (m n : Shape). m ∷ n ∷ []) (s.shape g l) (v.shape g (reads_same old one g s.same l))) (f old.width))
+    (ap₂ (λ (m n : Shape). m ∷ n ∷ []) (s.shape g l) (v.shape g (reads_same old one g s.same l))) (f old.width))
     (λ g l. finds_more old one mid ((ker_sized old.width a g).counts walked) (((ker_sized old.width b g).counts walked) ++ []) (s.finds g l) (finds_more one mid mid ((ker_sized old.width b g).counts walked) [] (v.finds g (reads_same old one g s.same l)) (finds_none mid))) c
 
 pub item_sized : (old mid new : Names) (k a : Ker) (n : ℕ) (x r : Code) → (out-Ker k).op ≡ ker.Item n → (out-Ker k).args ≡ a ∷ [] →
@@ -481,16 +481,16 @@ pub binder_sized : (old one mid new : Names) (k : Ker) (ks : List Ker) (b : Ker)
 binder_sized old one mid new k ks b rs ms x r m i e n h s f u t c q =
     let w : ℕ = old.width in
     let v : SizesUnder one mid (ker_sized w b) (out-Ker k).binds (map mean ms) x =
-            subst (λ (y : ℕ). SizesUnder one mid (ker_sized y b) (out-Ker k).binds (map mean ms) x) s.same.width u in
+    subst (λ (y : ℕ). SizesUnder one mid (ker_sized y b) (out-Ker k).binds (map mean ms) x) s.same.width u in
     let o : KerOp = (out-Ker k).op in
     let p : ℕ = length (names_of (out-Ker k).binds) in
     let bs : (g : Extent) → List Shape = λ g. insides (shapes_of (all_at (map (ker_sized w) ks) g)) in
     let z : (g : Extent) → Reads old g → map capped (bs g) ≡ map mean ms =
-            λ g l. capped_insides (shapes_of (all_at (map (ker_sized w) ks) g)) ∙ ap insides (s.shapes g l) ∙ sym f in
+    λ g l. capped_insides (shapes_of (all_at (map (ker_sized w) ks) g)) ∙ ap insides (s.shapes g l) ∙ sym f in
     node_sized old mid new k r q _ (λ g. counts_of walked (all_at (map (ker_sized w) ks) g) ++ (in_body w k ks b e n h g).counts walked)
     (binder_is w k ks b e n h) (λ g. binder_numbers w k ks b e n h g q) (same_more old one mid s.same v.same)
     (λ g l. row_means w w i.narrow refl (binder_row o p) (binder_rows_are_kernel o p) no_literal (with_body w k ks b e n h g) (map mean rs ++ mean x ∷ []) r
-        (more_capped (shapes_of (all_at (map (ker_sized w) ks) g)) (in_body w k ks b e n h g).shape
-        ∙ ap₂ (λ (as' : List Shape) (y : Shape). as' ++ y ∷ []) (s.shapes g l) (v.shape g (bs g) (reads_same old one g s.same l) (z g l)))
-        (t w ∙ any_number w o m p (map mean rs ++ mean x ∷ [])))
+    (more_capped (shapes_of (all_at (map (ker_sized w) ks) g)) (in_body w k ks b e n h g).shape
+    ∙ ap₂ (λ (as' : List Shape) (y : Shape). as' ++ y ∷ []) (s.shapes g l) (v.shape g (bs g) (reads_same old one g s.same l) (z g l)))
+    (t w ∙ any_number w o m p (map mean rs ++ mean x ∷ [])))
     (λ g l. finds_more old one mid (counts_of walked (all_at (map (ker_sized w) ks) g)) ((in_body w k ks b e n h g).counts walked) (s.finds g l) (v.finds g (bs g) (reads_same old one g s.same l) (z g l))) c

@@ -78,7 +78,7 @@ module _ (old new : Names) (k : Ker) (r : Code) where
       IsCounted old new (count_at (out-Ker k).place (mean r)) → (q : Position) → Sizes old new (ker_sized old.width k) q r
   bound_sized n e h c q =
       let at : (g : Extent) → Reads old g → capped (found (find_last (number_name n) g.bound)) ≡ mean r = λ g l.
-              found_kept (find_last (number_name n) g.bound) ∙ ap found (last_kept (number_name n) g.bound ∙ ap (find_last (number_name n)) l.bound) ∙ sym h in
+      found_kept (find_last (number_name n) g.bound) ∙ ap found (last_kept (number_name n) g.bound ∙ ap (find_last (number_name n)) l.bound) ∙ sym h in
       record {
         same = c.same;
         shape = λ g l. ap (λ j. capped (ker_sized old.width j g).shape) (rebuilt k _ _ e refl) ∙ ap capped (bound_shape old.width _ _ _ g n _) ∙ at g l;

@@ -192,7 +192,7 @@ module _ (w : ℕ) (le : w ≤ 64) where
   row_capped the_functions h l (a ∷ []) = refl
   row_capped the_functions h l (a ∷ b ∷ as') =
       let e : kept (max 1 (count b ^ count a)) ≡ kept (max 1 (count (capped b) ^ count (capped a))) =
-              kept_max 1 (count b ^ count a) ∙ ap (max (kept 1)) (same_power (count b) (count (capped b)) (count a) (count (capped a)) (count_is b) (count_is a)) ∙ sym (kept_max 1 (count (capped b) ^ count (capped a))) in
+      kept_max 1 (count b ^ count a) ∙ ap (max (kept 1)) (same_power (count b) (count (capped b)) (count a) (count (capped a)) (count_is b) (count_is a)) ∙ sym (kept_max 1 (count (capped b) ^ count (capped a))) in
       ap₂ (λ (m n : ℕ). Set m (Fun n (capped (inside a)) (capped (inside b)))) e (count_is a)
       ∙ ap₂ (λ (x y : Shape). Set (kept (max 1 (count (capped b) ^ count (capped a)))) (Fun (kept (count (capped a))) x y)) (capped_inside a) (capped_inside b)
   row_capped (the_records xs) h l as' =

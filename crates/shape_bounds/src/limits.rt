@@ -33,7 +33,9 @@ impl Excess {
         let place = self.place.file.cmp(&other.place.file);
         let place = place.then(self.place.line.cmp(&other.place.line));
         let place = place.then(self.place.col.cmp(&other.place.col));
-        place.then(self.of_sequence.cmp(&other.of_sequence)).then(self.short().cmp(&other.short()))
+        place
+            .then(self.of_sequence.cmp(&other.of_sequence))
+            .then(self.short().cmp(&other.short()))
             == Ordering::Less
     }
 

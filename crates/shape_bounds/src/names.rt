@@ -100,11 +100,7 @@ fn shape_in(alloc: Global, shapes: &[Option<Shape>], i: usize) -> Result<Shape, 
     }
 }
 
-fn last_bound(
-    alloc: Global,
-    bound: &[(u32, Shape)],
-    number: u32,
-) -> Result<Shape, AllocError>
+fn last_bound(alloc: Global, bound: &[(u32, Shape)], number: u32) -> Result<Shape, AllocError>
     ensures { IfOk result (λ r. mean r
         ≡ found (find_last (number_name number) (map bound_name bound.now))) }
 {

@@ -28,9 +28,9 @@ join-returns-in_ok-items-in-Tup-b t c =
 pub join_items-loop-i-preserved : goal.join_items-loop-i-preserved
 join_items-loop-i-preserved t c = elim c.if-i-ys.branch [
   | join_items-then-i-ys+in_ok-item+in_ok-push w ↦
-    item_both mean c.args.xs.now c.args.ys.now _ _ w.in_ok-item.item w.index-xs-i.result w.index-ys-i.result c.loop-i.i c.loop-i.invariant (ap (λ v. v.items) w.items-is ∙ w.in_ok-push.ensures.items) w.in_ok-item.ensures c.loop-i-test.true w.if-i-ys.true w.index-xs-i.is w.index-ys-i.is
+      item_both mean c.args.xs.now c.args.ys.now _ _ w.in_ok-item.item w.index-xs-i.result w.index-ys-i.result c.loop-i.i c.loop-i.invariant (ap (λ v. v.items) w.items-is ∙ w.in_ok-push.ensures.items) w.in_ok-item.ensures c.loop-i-test.true w.if-i-ys.true w.index-xs-i.is w.index-ys-i.is
   | join_items-else-i-ys+in_ok-item-2+in_ok-push-2 w ↦
-    item_alone mean c.args.xs.now c.args.ys.now _ _ w.in_ok-item-2.item w.index-xs-i-else-i-ys.result c.loop-i.i c.loop-i.invariant (ap (λ v. v.items) w.items-is ∙ w.in_ok-push-2.ensures.items) (ap mean w.in_ok-item-2.ensures) c.loop-i-test.true w.if-i-ys.false w.index-xs-i-else-i-ys.is
+      item_alone mean c.args.xs.now c.args.ys.now _ _ w.in_ok-item-2.item w.index-xs-i-else-i-ys.result c.loop-i.i c.loop-i.invariant (ap (λ v. v.items) w.items-is ∙ w.in_ok-push-2.ensures.items) (ap mean w.in_ok-item-2.ensures) c.loop-i-test.true w.if-i-ys.false w.index-xs-i-else-i-ys.is
 ]
 
 pub join_items-returns : goal.join_items-returns
@@ -39,15 +39,15 @@ join_items-returns t c = ap (map mean) c.from_vec.ensures ∙ c.loop-i.invariant
 pub join_fields-loop-i-preserved : goal.join_fields-loop-i-preserved
 join_fields-loop-i-preserved t c = elim c.if-i-ys.branch [
   | join_fields-then-i-ys+in_ok-item+in_ok-push w ↦
-    let more = ap (λ v. v.items) w.fields-is ∙ w.in_ok-push.ensures.items in (
-      name_more c.args.xs.now _ _ c.index-xs-i.result c.in_ok-name.name w.in_ok-item.item c.loop-i.i c.loop-i.invariant.0 more (search rules) c.loop-i-test.true c.index-xs-i.is,
-      item_both (λ z. mean z.1) c.args.xs.now c.args.ys.now _ _ (c.in_ok-name.name, w.in_ok-item.item) w.index-xs-i-then-i-ys.result w.index-ys-i.result c.loop-i.i c.loop-i.invariant.1 more (search rules) c.loop-i-test.true w.if-i-ys.true w.index-xs-i-then-i-ys.is w.index-ys-i.is,
-    )
+      let more = ap (λ v. v.items) w.fields-is ∙ w.in_ok-push.ensures.items in (
+        name_more c.args.xs.now _ _ c.index-xs-i.result c.in_ok-name.name w.in_ok-item.item c.loop-i.i c.loop-i.invariant.0 more (search rules) c.loop-i-test.true c.index-xs-i.is,
+        item_both (λ z. mean z.1) c.args.xs.now c.args.ys.now _ _ (c.in_ok-name.name, w.in_ok-item.item) w.index-xs-i-then-i-ys.result w.index-ys-i.result c.loop-i.i c.loop-i.invariant.1 more (search rules) c.loop-i-test.true w.if-i-ys.true w.index-xs-i-then-i-ys.is w.index-ys-i.is,
+      )
   | join_fields-else-i-ys+in_ok-item-2+in_ok-push-2 w ↦
-    let more = ap (λ v. v.items) w.fields-is ∙ w.in_ok-push-2.ensures.items in (
-      name_more c.args.xs.now _ _ c.index-xs-i.result c.in_ok-name.name w.in_ok-item-2.item c.loop-i.i c.loop-i.invariant.0 more (search rules) c.loop-i-test.true c.index-xs-i.is,
-      item_alone (λ z. mean z.1) c.args.xs.now c.args.ys.now _ _ (c.in_ok-name.name, w.in_ok-item-2.item) w.index-xs-i-else-i-ys.result c.loop-i.i c.loop-i.invariant.1 more (search rules) c.loop-i-test.true w.if-i-ys.false w.index-xs-i-else-i-ys.is,
-    )
+      let more = ap (λ v. v.items) w.fields-is ∙ w.in_ok-push-2.ensures.items in (
+        name_more c.args.xs.now _ _ c.index-xs-i.result c.in_ok-name.name w.in_ok-item-2.item c.loop-i.i c.loop-i.invariant.0 more (search rules) c.loop-i-test.true c.index-xs-i.is,
+        item_alone (λ z. mean z.1) c.args.xs.now c.args.ys.now _ _ (c.in_ok-name.name, w.in_ok-item-2.item) w.index-xs-i-else-i-ys.result c.loop-i.i c.loop-i.invariant.1 more (search rules) c.loop-i-test.true w.if-i-ys.false w.index-xs-i-else-i-ys.is,
+      )
 ]
 
 pub join_fields-returns : goal.join_fields-returns

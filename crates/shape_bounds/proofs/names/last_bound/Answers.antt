@@ -17,8 +17,8 @@ returns-then-entry-number c =
     let one : c.loop-i.i ≡ suc (c.loop-i.i - 1) = omega arith in
     ok_copy c.copy_shape.result c.index-bound-i.result.1 _
     (sym (ap found (c.loop-i.invariant
-        ∙ ap (λ n. find_last (number_name c.args.number) (map bound_name (take n c.args.bound.now))) one
-        ∙ bound_hit c.args.number c.args.bound.now (c.loop-i.i - 1) c.index-bound-i.result (omega arith) c.index-bound-i.is (sym c.if-entry-number.true))))
+    ∙ ap (λ n. find_last (number_name c.args.number) (map bound_name (take n c.args.bound.now))) one
+    ∙ bound_hit c.args.number c.args.bound.now (c.loop-i.i - 1) c.index-bound-i.result (omega arith) c.index-bound-i.is (sym c.if-entry-number.true))))
     c.copy_shape.ensures
 
 pub loop-i-preserved : goal.loop-i-preserved

@@ -14,13 +14,13 @@ pub returns-in-MapOver : goal.returns-in-MapOver
 returns-in-MapOver c =
     ok_each _ (Set c.product_of.result (mean c.args.body)) _
     (λ w. map_kept w (length c.args.sets.now) c.product_of.result (map mean c.args.sets.now) (mean c.args.body) c.product_of.ensures
-        ∙ ap (λ r. row_kept w r no_literal (map mean c.args.sets.now ++ mean c.args.body ∷ [])) (sym (ap (λ o. binder_row o (length c.args.sets.now)) c.in-MapOver.is)))
+    ∙ ap (λ r. row_kept w r no_literal (map mean c.args.sets.now ++ mean c.args.body ∷ [])) (sym (ap (λ o. binder_row o (length c.args.sets.now)) c.in-MapOver.is)))
     c.set.ensures
 
 pub returns-in_ok-argument-in-FunOf : goal.returns-in_ok-argument-in-FunOf
 returns-in_ok-argument-in-FunOf c =
     ok_each _ (Fun c.product_of-in-FunOf.result (mean c.in_ok-argument-in-FunOf.argument) (mean c.args.body)) _
     (λ w. function_kept w (length c.args.sets.now) c.product_of-in-FunOf.result (map mean c.args.sets.now) (mean c.in_ok-argument-in-FunOf.argument) (mean c.args.body)
-        c.product_of-in-FunOf.ensures c.in_ok-argument-in-FunOf.ensures
-        ∙ ap (λ r. row_kept w r no_literal (map mean c.args.sets.now ++ mean c.args.body ∷ [])) (sym (ap (λ o. binder_row o (length c.args.sets.now)) c.in-FunOf.is)))
+    c.product_of-in-FunOf.ensures c.in_ok-argument-in-FunOf.ensures
+    ∙ ap (λ r. row_kept w r no_literal (map mean c.args.sets.now ++ mean c.args.body ∷ [])) (sym (ap (λ o. binder_row o (length c.args.sets.now)) c.in-FunOf.is)))
     c.function.ensures

@@ -10,9 +10,9 @@ use Rattle.shape_bounds.proofs.parts.item_at.Goals.{then-n-lt1-via-then-n-lt1, t
 pub returns-then-n-lt1 : goal.returns-then-n-lt1
 returns-then-n-lt1 c = elim c.then-n-lt1.branch [
   | then-n-lt1-via-then-n-lt1 w ↦
-    let h : c.args.n <ℤ pos 1 = grind (arith, ints) in item_low (shapes (map mean c.args.items.now)) c.args.n h
+      let h : c.args.n <ℤ pos 1 = grind (arith, ints) in item_low (shapes (map mean c.args.items.now)) c.args.n h
   | then-n-lt1-via-else-n-lt1+then-n-items w ↦
-    let h : pos (length c.args.items.now) <ℤ c.args.n = grind (arith, ints) in item_high c.args.items.now c.args.n h
+      let h : pos (length c.args.items.now) <ℤ c.args.n = grind (arith, ints) in item_high c.args.items.now c.args.n h
 ]
 
 pub returns : goal.returns

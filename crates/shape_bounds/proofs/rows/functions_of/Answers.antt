@@ -12,8 +12,8 @@ returns c =
     let n : c.max.result ≡ max 1 (kept (c.count.result ^ c.count-arguments.result)) = omega (arith, e, p) in
     ok_each _ (Set c.max.result (mean c.in_ok-member.member)) _
     (λ v.
-        ap (Set c.max.result) c.in_ok-member.ensures
-        ∙ functions_kept v c.max.result c.count.result c.count-arguments.result (mean c.args.a.now) (mean c.args.b.now)
-        (mean c.in_ok-argument.argument) (mean c.in_ok-value.value) n c.count.ensures c.count-arguments.ensures
-        (c.in_ok-argument.ensures ∙ c.inside.ensures) (c.in_ok-value.ensures ∙ c.inside-2.ensures))
+    ap (Set c.max.result) c.in_ok-member.ensures
+    ∙ functions_kept v c.max.result c.count.result c.count-arguments.result (mean c.args.a.now) (mean c.args.b.now)
+    (mean c.in_ok-argument.argument) (mean c.in_ok-value.value) n c.count.ensures c.count-arguments.ensures
+    (c.in_ok-argument.ensures ∙ c.inside.ensures) (c.in_ok-value.ensures ∙ c.inside-2.ensures))
     c.set.ensures

@@ -14,7 +14,7 @@ use Rattle.shape_bounds.proofs.names.Names.+size.Goals as goal
 pub binder-returns : goal.binder-returns
 binder-returns t c =
     let u = under_sized c.sizes.new.self c.bind.new.self c.size.new.self (record { alloc = c.size.new.self.alloc; width = c.size.new.self.width; state = c.size.new.self.state; next = c.size.new.self.next; bound = c.truncate.new.self; first = c.size.new.self.first }) _ c.index-args-numbers.result c.as_slice-numbers.result.now
-            (map mean c.as_slice-2.result.now) c.in_ok-body.body c.in_ok-bind.ensures c.in_ok-body.ensures refl refl refl refl c.truncate.ensures.items (ap length c.as_slice-bound.ensures.value) in
+    (map mean c.as_slice-2.result.now) c.in_ok-body.body c.in_ok-bind.ensures c.in_ok-body.ensures refl refl refl refl c.truncate.ensures.items (ap length c.as_slice-bound.ensures.value) in
     binder_visited c.args.self.now c.sizes.new.self _ c.count.new.self c.args.k.now c.as_slice-args.result.now c.as_slice-numbers.result.now c.index-args-numbers.result
     c.in_ok-sets.sets.items c.as_slice.result.now c.in_ok-members.members.items c.as_slice-2.result.now c.as_slice-3.result.now c.in_ok-body.body c.in_ok-shape.shape
     c.requires.sized c.requires.kind c.as_slice-args.ensures c.as_slice-numbers.ensures (sym c.if-is_empty.false ∙ c.is_empty.ensures) c.if-args-numbers.false c.index-args-numbers.is
