@@ -16,3 +16,5 @@ pub mod Keeping
 pub mod RowsKept
 pub mod Visits
 pub mod Binding
+pub mod KindTests
+pub mod TypeForms

@@ -38,7 +38,7 @@ module _ (w : ℕ) (le : w ≤ 64) where
   near : 2 ^ (w - 1) ≤ 9223372036854775808
   near = let k : 2 ^ (w - 1) ≤ 2 ^ 63 = pow_mono {i = w - 1} {j = 63} (omega arith) in omega (arith, k)
 
-  moved_kept : (n : ℕ) → moved w (pos (kept n)) ≡ moved w (pos n)
+  pub moved_kept : (n : ℕ) → moved w (pos (kept n)) ≡ moved w (pos n)
   moved_kept n = let k = near in omega (arith, ints, clamps, k)
 
   pub moved_count : (a : Shape) → moved w (pos (count a)) ≡ moved w (pos (count (capped a)))
@@ -192,7 +192,7 @@ module _ (w : ℕ) (le : w ≤ 64) where
   row_capped the_functions h l (a ∷ []) = refl
   row_capped the_functions h l (a ∷ b ∷ as') =
       let e : kept (max 1 (count b ^ count a)) ≡ kept (max 1 (count (capped b) ^ count (capped a))) =
-      kept_max 1 (count b ^ count a) ∙ ap (max (kept 1)) (same_power (count b) (count (capped b)) (count a) (count (capped a)) (count_is b) (count_is a)) ∙ sym (kept_max 1 (count (capped b) ^ count (capped a))) in
+              kept_max 1 (count b ^ count a) ∙ ap (max (kept 1)) (same_power (count b) (count (capped b)) (count a) (count (capped a)) (count_is b) (count_is a)) ∙ sym (kept_max 1 (count (capped b) ^ count (capped a))) in
       ap₂ (λ (m n : ℕ). Set m (Fun n (capped (inside a)) (capped (inside b)))) e (count_is a)
       ∙ ap₂ (λ (x y : Shape). Set (kept (max 1 (count (capped b) ^ count (capped a)))) (Fun (kept (count (capped a))) x y)) (capped_inside a) (capped_inside b)
   row_capped (the_records xs) h l as' =

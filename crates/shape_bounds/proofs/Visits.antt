@@ -6,17 +6,19 @@ use Rattle.kernel_trees.specs.declared.kernel.Ker.{Ker, out-Ker}
 use Rattle.kernel_shapes.specs.declared.bounds.Shape.{Shape as Code, Empty as empty}
 use Rattle.kernel_shapes.specs.Codes.{mean}
 use Rattle.kernel_shapes.specs.Counts.{count_at}
-use Rattle.kernel_shapes.specs.Kernel.{ker_sized}
+use Rattle.kernel_trees.specs.TypeKinds.{kind_of}
+use Rattle.kernel_shapes.specs.Kernel.{ker_sized, kind_or_truth}
+use Rattle.kernel_shapes.specs.Trees.{tuple_row}
 use Rattle.kernel_shapes.specs.Rows.{Literal, no_literal, row_shape, insides}
 use Rattle.kernel_shapes.specs.Shape.{Shape}
 use Rattle.kernel_shapes.specs.Sized.{Position, Sizing, walked, as_form, operand}
 use Rattle.shape_bounds.specs.declared.names.Names.{Names}
 use Rattle.shape_bounds.specs.inner.Kept.{IsWidth}
-use Rattle.shape_bounds.specs.inner.Nodes.{binder_row, is_binder, is_endless, is_product, second_of, walked_count}
+use Rattle.shape_bounds.specs.inner.Nodes.{binder_row, is_binder, is_endless, is_listed, is_product, second_of, walked_count}
 use Rattle.shape_bounds.specs.inner.Plain.{row_of, is_plain}
 use Rattle.shape_bounds.specs.inner.Sizes.{IsCounted, Sizes, SizesEach, SizesUnder}
 use Rattle.shape_bounds.specs.inner.Table.{row_kept}
-use Rattle.shape_bounds.proofs.Families.{plain_sized, product_sized, endless_sized, binder_sized, front_and_last, front_length}
+use Rattle.shape_bounds.proofs.Families.{plain_sized, product_sized, endless_sized, binder_sized, listed_sized, front_and_last, front_length}
 
 whole : (ks : List Ker) → take (length ks) ks ≡ ks
 whole [] = refl
@@ -74,3 +76,10 @@ pub most-item : {X : Type 0} (f : X → ℕ) (xs : List X) (n : ℕ) (x : X) →
 most-item f [] n x h e = absurd (omega (arith, h))
 most-item f (y ∷ xs) zero x h e = let g : f x ≡ f y = ap f e in omega (arith, g)
 most-item f (y ∷ xs) (suc n) x h e = let g = most-item f xs n x (omega (arith, h)) e in omega (arith, g)
+
+pub listed_visited : (old mid new : Names) (k : Ker) (args : List Ker) (rs : List Code) (r : Code) → IsWidth old.width → args ≡ (out-Ker k).args → is_listed (out-Ker k).op ≡ true →
+    SizesEach old mid (map (ker_sized old.width) (take (length args) args)) walked rs →
+    ((w : ℕ) → mean r ≡ row_kept w (tuple_row (kind_or_truth (kind_of (out-Ker k).ty))) no_literal (map mean rs)) →
+    IsCounted mid new (count_at (out-Ker k).place (mean r)) → (q : Position) → Sizes old new (ker_sized old.width k) q r
+listed_visited old mid new k args rs r i e h s m c q =
+    listed_sized old mid new k rs r i h (subst (λ (ks : List Ker). SizesEach old mid (map (ker_sized old.width) ks) walked rs) (whole args ∙ e) s) m c q

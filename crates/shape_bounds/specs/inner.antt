@@ -6,3 +6,4 @@ pub mod Table
 pub mod Joined
 pub mod Excesses
 pub mod Sizes
+pub mod Forms

@@ -3,6 +3,7 @@
 
 mod intervals;
 mod joins;
+mod kinds;
 mod limits;
 mod making;
 mod names;
@@ -12,3 +13,4 @@ mod parts;
 mod records;
 mod rows;
 mod sizing;
+mod typed;

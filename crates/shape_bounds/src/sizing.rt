@@ -6,7 +6,7 @@ ghost use Rattle.kernel_shapes.specs.Kernel.{ker_sized};
 ghost use Rattle.kernel_shapes.specs.Codes.{mean};
 ghost use Rattle.kernel_shapes.specs.Sized.{Position, operand};
 ghost use Rattle.shape_bounds.specs.inner.Kept.{IsWidth};
-ghost use Rattle.shape_bounds.specs.inner.Nodes.{is_binder, is_endless, is_membership, is_product, second_of, subset_operand};
+ghost use Rattle.shape_bounds.specs.inner.Nodes.{is_binder, is_endless, is_listed, is_membership, is_product, second_of, subset_operand};
 ghost use Rattle.shape_bounds.specs.inner.Sizes.{Sizes, SizesEach, stands};
 ghost use Rattle.shape_bounds.specs.inner.Table.{literal};
 
@@ -15,6 +15,7 @@ use crate::nodes::{binder_shape, constant, is_plain, literal_of};
 use crate::parts::{Literal, applied, copy_part};
 use crate::records::insides;
 use crate::rows::{functions_of, range, row, subsets_of};
+use crate::typed::{domain_of, items_of};
 use kernel_shapes::Shape;
 use kernel_trees::{Ker, KerOp};
 use std::alloc::AllocError;
@@ -42,6 +43,8 @@ impl Names {
             KerOp::Range => self.range(k),
             KerOp::Item(i) => self.item(k, *i),
             KerOp::NoCase => Ok(Shape::Empty),
+            KerOp::Domain => self.domain(k),
+            KerOp::TupOf | KerOp::SeqOf => self.listed(k),
             _ => self.plain(k),
         }
     }
@@ -255,6 +258,40 @@ impl Names {
             }
             _ => Err(AllocError),
         }
+    }
+
+    // The domain of a function, a sequence, a tuple or a record.
+    #[cycle(size)]
+    fn domain(&mut self, k: &Ker) -> Result<Shape, AllocError>
+        requires sized { IsWidth self.old.width }
+        requires kind { (out-Ker k.now).op ≡ ker.Domain }
+        ensures { IfOk result (λ r. (q : Position) →
+            Sizes self.old self.new (ker_sized self.old.width k.now) q r) }
+    {
+        match k.args.as_slice() {
+            [whole] => {
+                let a = self.size(whole, Site::Walked)?;
+                let shape = domain_of(self.alloc, &whole.ty, &a, self.width)?;
+                self.count(k.place, &shape);
+                Ok(shape)
+            }
+            _ => Err(AllocError),
+        }
+    }
+
+    // A tuple or a sequence of items.
+    #[cycle(size)]
+    fn listed(&mut self, k: &Ker) -> Result<Shape, AllocError>
+        requires sized { IsWidth self.old.width }
+        requires kind { is_listed (out-Ker k.now).op ≡ true }
+        ensures { IfOk result (λ r. (q : Position) →
+            Sizes self.old self.new (ker_sized self.old.width k.now) q r) }
+    {
+        let args = k.args.as_slice();
+        let items = self.sizes(args, args.len(), Site::Walked)?;
+        let shape = items_of(self.alloc, &k.ty, items)?;
+        self.count(k.place, &shape);
+        Ok(shape)
     }
 }
 

@@ -84,3 +84,9 @@ subset_operand q = walked
 abbrev pub walked_count : Position → Place → Shape → List Count
 walked_count walked p a = count_at p a
 walked_count q p a = []
+
+-- a tuple or a sequence of items
+abbrev pub is_listed : KerOp → Bool
+is_listed ker.TupOf = true
+is_listed ker.SeqOf = true
+is_listed o = false

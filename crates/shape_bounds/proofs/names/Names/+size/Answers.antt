@@ -7,8 +7,8 @@ use Rattle.kernel_shapes.specs.Rows.{applied_at, number}
 use Rattle.kernel_trees.specs.declared.kernel.Ker.{out-Ker}
 use Rattle.kernel_shapes.specs.Kernel.{ker_sized}
 use Rattle.shape_bounds.specs.inner.Sizes.{stands}
-use Rattle.shape_bounds.proofs.Families.{any_site, constant_sized, each_next, functions_sized, item_sized, member_sized, no_case_sized, one_child, range_sized, subsets_sized, two_children, two_first, under_sized}
-use Rattle.shape_bounds.proofs.Visits.{binder_visited, endless_visited, plain_visited, product_visited}
+use Rattle.shape_bounds.proofs.Families.{any_site, constant_sized, domain_sized, each_next, functions_sized, item_sized, member_sized, no_case_sized, one_child, range_sized, subsets_sized, two_children, two_first, under_sized}
+use Rattle.shape_bounds.proofs.Visits.{binder_visited, endless_visited, listed_visited, plain_visited, product_visited}
 use Rattle.shape_bounds.proofs.names.Names.+size.Goals as goal
 
 pub binder-returns : goal.binder-returns
@@ -108,3 +108,20 @@ pub sizes-loop-i-preserved : goal.sizes-loop-i-preserved
 sizes-loop-i-preserved t c =
     each_next c.args.self.now c.loop-i.self c.size.new.self c.args.ks.now c.loop-i.i c.index-ks-i.result (stands c.args.at) c.loop-i.shapes.items c.push.new.self.items c.in_ok-shape.shape
     c.loop-i.invariant (omega arith) c.index-ks-i.is c.in_ok-shape.ensures c.in_ok-push.ensures.items
+
+pub domain-returns-in_ok-shape-in-len1 : goal.domain-returns-in_ok-shape-in-len1
+domain-returns-in_ok-shape-in-len1 t c =
+    domain_sized c.args.self.now c.size.new.self c.count.new.self c.args.k.now c.whole-item.result c.in_ok-a-in-len1.a c.in_ok-shape-in-len1.shape c.requires.sized c.requires.kind
+    (sym c.as_slice.ensures ∙ one_child c.as_slice.result.now _ c.in-len1.len_at_least c.in-len1.len_below c.whole-item.is)
+    c.in_ok-a-in-len1.ensures c.in_ok-shape-in-len1.ensures c.count.ensures
+
+pub listed-returns : goal.listed-returns
+listed-returns t c =
+    listed_visited c.args.self.now c.sizes.new.self c.count.new.self c.args.k.now c.as_slice-args.result.now c.in_ok-items.items.items c.in_ok-shape.shape
+    c.requires.sized c.as_slice-args.ensures c.requires.kind c.in_ok-items.ensures c.in_ok-shape.ensures c.count.ensures
+
+pub size-returns-in-Domain : goal.size-returns-in-Domain
+size-returns-in-Domain t c = any_site c.args.self.now c.domain.new.self (ker_sized c.args.self.now.width c.args.k.now) (stands c.args.at) c.domain.result c.domain.ensures
+
+pub size-returns-in-TupOf : goal.size-returns-in-TupOf
+size-returns-in-TupOf t c = any_site c.args.self.now c.listed.new.self (ker_sized c.args.self.now.width c.args.k.now) (stands c.args.at) c.listed.result c.listed.ensures
