@@ -1,5 +1,5 @@
 -- What is computed of a node that binds numbers, by its sets and its body.
-use Rattle.std.proofs.Common.{◌≡◌, ℕ, zero, suc, Bool, true, false, List, [], ◌∷◌, ◌++◌, map, take, length, Option, None, refl, sym, ◌∙◌, ap, ap₂, arith, IsTrue}
+use Rattle.std.proofs.Common.{◌≡◌, ℕ, suc, List, [], ◌∷◌, ◌++◌, map, take, length, Option, None, refl, ◌∙◌, ap, ap₂, arith, IsTrue}
 use Rattle.tla_meaning.specs.declared.place.Place.{Place}
 use Rattle.tla_meaning.proofs.Views.{false≢true}
 use Rattle.snowcat_rows.specs.declared.types.Ty.{Ty}

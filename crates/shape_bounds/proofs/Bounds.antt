@@ -1,5 +1,5 @@
 -- The last of a number among bound names, and the shape of a declared name.
-use Rattle.std.proofs.Common.{◌≡◌, ℕ, zero, suc, ◌+◌, ◌<◌, ◌≤◌, Bool, true, false, List, [], ◌∷◌, map, take, length, get_or, Option, Some, None, slice_get, refl, sym, ◌∙◌, ap, ap₂, subst, arith, IsTrue, if◌then◌else◌}
+use Rattle.std.proofs.Common.{◌≡◌, ℕ, zero, suc, ◌<◌, ◌≤◌, Bool, true, false, List, [], ◌∷◌, map, take, length, get_or, Option, Some, None, slice_get, refl, sym, ◌∙◌, ap, subst, arith, if◌then◌else◌}
 use Rattle.tla_meaning.specs.Scopes.{find_last, or_else, same_text}
 use Rattle.kernel_trees.specs.Trees.{number_name}
 use Rattle.kernel_trees.proofs.Steps.{same_text_same}

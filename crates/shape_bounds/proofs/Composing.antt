@@ -1,10 +1,8 @@
 -- Walks over trees, one behind another.
-use Rattle.std.proofs.Common.{◌≡◌, ℕ, List, [], ◌∷◌, ◌++◌, map, Option, Some, None, option_map, refl, sym, ◌∙◌, ap, ap₂, subst}
-use Rattle.tla_meaning.specs.declared.place.Place.{Place}
-use Rattle.kernel_trees.specs.declared.kernel.Ker.{Ker}
+use Rattle.std.proofs.Common.{◌≡◌, List, [], ◌∷◌, ◌++◌, map, Option, Some, None, option_map, refl, sym, ◌∙◌, ap, ap₂}
 use Rattle.kernel_shapes.specs.declared.bounds.Shape.{Shape as Code}
 use Rattle.kernel_shapes.specs.Codes.{mean}
-use Rattle.kernel_shapes.specs.Counts.{Count, Rank, count_at, either_rank, first_rank}
+use Rattle.kernel_shapes.specs.Counts.{Count, Rank, either_rank, first_rank}
 use Rattle.kernel_shapes.specs.Shape.{Shape}
 use Rattle.kernel_shapes.specs.Sized.{Extent, Position, Sized, Sizing, counts_of, shapes_of}
 use Rattle.kernel_shapes.proofs.Refusals.{either_comm, either_assoc, rank_append}

@@ -1,10 +1,10 @@
 -- Ends of intervals, moved into a width.
-use Rattle.std.proofs.Common.{◌≡◌, ℕ, ◌+◌, ◌-◌, ◌^◌, ◌<◌, ◌≤◌, min, max, ℤ, pos, negsuc, ◌+ℤ◌, ◌-ℤ◌, neg_ℤ, nat_abs, refl, ap, ap₂, ◌∙◌, sym, arith, false, true≢false}
-use Rattle.std.proofs.lemmas.Int.{ints, clamps, to_z-of_z}
+use Rattle.std.proofs.Common.{◌≡◌, ℕ, ◌-◌, ◌^◌, ◌≤◌, min, max, ℤ, pos, negsuc, ◌-ℤ◌, neg_ℤ, nat_abs, refl, ap, ap₂, ◌∙◌, sym, arith, false, true≢false}
+use Rattle.std.proofs.lemmas.Int.{ints, clamps}
 use Rattle.std.proofs.Math.Pow.{pow_mono}
 use Rattle.std.specs.Int.{saturate_signed, int_min, int_max}
 use mir.Syntax.{w128}
-use Rattle.kernel_shapes.specs.Shape.{Shape, moved, lowest, highest, Num, hull_of, interval, join}
+use Rattle.kernel_shapes.specs.Shape.{Shape, moved, Num, hull_of, interval, join}
 use Rattle.kernel_shapes.specs.Rows.{quotient_shape}
 use Rattle.shape_bounds.specs.inner.Kept.{is_interval}
 

@@ -1,8 +1,8 @@
 -- A node's own number is held against its limit alike, whether it is kept or not.
-use Rattle.std.proofs.Common.{◌≡◌, ◌≤◌, ◌<◌, ℕ, ◌-◌, min, Bool, true, false, List, [], ◌∷◌, ◌++◌, Option, Some, None, option_map, nat_lt, refl, sym, ◌∙◌, ap, ap₂, arith, if◌then◌else◌}
+use Rattle.std.proofs.Common.{◌≡◌, ◌≤◌, ℕ, ◌-◌, min, Bool, true, false, List, [], ◌∷◌, ◌++◌, Some, None, option_map, nat_lt, refl, sym, ◌∙◌, ap, ap₂, arith, if◌then◌else◌}
 use Rattle.std.proofs.lemmas.Bool.{ltb-true, ltb-false, lt-ltb, le-ltb}
 use Rattle.tla_meaning.specs.declared.place.Place.{Place}
-use Rattle.kernel_shapes.specs.Counts.{Count, Rank, count_at, either_rank, first_rank, most_printed}
+use Rattle.kernel_shapes.specs.Counts.{Count, count_at, either_rank, first_rank, most_printed}
 use Rattle.kernel_shapes.specs.Shape.{Shape, Set, Fun, Seq}
 use Rattle.shape_bounds.specs.declared.names.Names.{Names}
 use Rattle.shape_bounds.specs.inner.Excesses.{rank_of}

@@ -1,5 +1,5 @@
 -- Nodes of the kernel, family by family, as a walk finds them.
-use Rattle.std.proofs.Common.{◌≡◌, ◌⊎◌, inl, inr, ◌≤◌, ◌<◌, ℕ, zero, suc, ◌+◌, ◌-◌, ℤ, Bool, true, false, List, [], ◌∷◌, ◌++◌, map, take, drop, length, get_or, IsTrue, pos, Option, Some, None, option_map, Result, Ok, Err, IfOk, refl, sym, ◌∙◌, ap, ap₂, subst, arith}
+use Rattle.std.proofs.Common.{◌≡◌, ◌≤◌, ◌<◌, ℕ, zero, suc, ◌+◌, true, List, [], ◌∷◌, ◌++◌, map, take, drop, length, get_or, IsTrue, pos, Option, option_map, Result, Ok, Err, IfOk, refl, sym, ◌∙◌, ap, ap₂, subst, arith}
 use Rattle.std.specs.declared.alloc.AllocError.{AllocError}
 use Rattle.tla_values.specs.Order.{Layer}
 use Rattle.tla_values.specs.declared.value.Value.{Value, out-Value}
@@ -10,7 +10,7 @@ use Rattle.snowcat_rows.specs.declared.types.Ty.{Ty}
 use Rattle.kernel_trees.specs.declared.kernel.Ker.{Ker, out-Ker}
 use Rattle.kernel_trees.specs.declared.kernel.KerOp.{KerOp}
 use Rattle.kernel_trees.specs.declared.kernel.KerOp.TheVariants as ker
-use Rattle.kernel_trees.specs.Trees.{names_of, number_name}
+use Rattle.kernel_trees.specs.Trees.{names_of}
 use Rattle.kernel_shapes.specs.declared.bounds.Shape.{Shape as Code, Atom as atom, Empty as empty}
 use Rattle.kernel_shapes.specs.Codes.{mean}
 use Rattle.kernel_shapes.specs.Counts.{Count, count_at, either_rank, first_rank}
@@ -21,16 +21,16 @@ use Rattle.kernel_trees.specs.TypeKinds as kind
 use Rattle.kernel_trees.specs.declared.kernel.Ker.TheFolds.{fold_out-Ker}
 use Rattle.shape_bounds.specs.inner.Nodes.{is_listed}
 use Rattle.kernel_shapes.specs.Rows.{Row, Literal, no_literal, number, applied_at, row_shape, insides, set_of_interval, a_range, the_subsets, the_functions}
-use Rattle.kernel_shapes.specs.Shape.{Shape, Atom, Num, Empty}
+use Rattle.kernel_shapes.specs.Shape.{Shape, Atom}
 use Rattle.kernel_shapes.specs.Sized.{Extent, Position, Sized, Sizing, walked, as_form, assigned_from, picked_from, operand, counts_of, shapes_of, outside, index_of, bind_shapes, bound_shapes}
 use Rattle.kernel_shapes.proofs.SoundBinders.{evaluated}
 use Rattle.shape_bounds.specs.declared.names.Names.{Names}
 use Rattle.shape_bounds.specs.declared.limits.Excess.{Excess}
 use Rattle.shape_bounds.specs.inner.Excesses.{rank_of}
 use Rattle.shape_bounds.specs.inner.Kept.{IsWidth, capped, kept_top}
-use Rattle.shape_bounds.specs.inner.Nodes.{binder_row, constant_shape, is_binder, is_endless, is_literal, is_membership, is_product, second_of, subset_operand, walked_count}
+use Rattle.shape_bounds.specs.inner.Nodes.{binder_row, constant_shape, is_binder, is_endless, is_membership, is_product, second_of, subset_operand, walked_count}
 use Rattle.shape_bounds.specs.inner.Plain.{row_of, is_plain}
-use Rattle.shape_bounds.specs.inner.Sizes.{Finds, IsCounted, IsBound, Reads, SameNames, Sizes, SizesEach, SizesUnder, all_at, bound_name, kept_name}
+use Rattle.shape_bounds.specs.inner.Sizes.{Finds, IsCounted, IsBound, Reads, SameNames, Sizes, SizesEach, SizesUnder, all_at, kept_name}
 use Rattle.shape_bounds.specs.inner.Table.{row_kept}
 use Rattle.shape_bounds.proofs.BinderShapes
 use Rattle.shape_bounds.proofs.Composing.{each_more, each_none, finds_more, finds_none, finds_own, finds_same, reads_same, same_more, same_self}
@@ -288,9 +288,9 @@ functions_sized old one mid new k a b q u x y r i o e at s t f c =
     (λ g. ap (λ (j : Ker). (ker_sized old.width j g).counts q) (rebuilt k _ _ o e) ∙ functions_numbers old.width _ _ a b _ g q)
     (same_more old one mid s.same v.same)
     (λ g l. row_means old.width old.width i.narrow refl the_functions refl no_literal ((ker_sized old.width a g).shape ∷ (ker_sized old.width b g).shape ∷ []) (mean x ∷ mean y ∷ []) r
-        (ap₂ (λ (m n : Shape). m ∷ n ∷ []) (s.shape g l) (v.shape g (reads_same old one g s.same l))) (f old.width))
+    (ap₂ (λ (m n : Shape). m ∷ n ∷ []) (s.shape g l) (v.shape g (reads_same old one g s.same l))) (f old.width))
     (λ g l. finds_more old one mid ((ker_sized old.width a g).counts walked) ((ker_sized old.width b g).counts (operand q)) (s.finds g l)
-        (finds_same one mid _ _ (ap (λ (p : Position). (ker_sized old.width b g).counts p) at) (v.finds g (reads_same old one g s.same l)))) c
+    (finds_same one mid _ _ (ap (λ (p : Position). (ker_sized old.width b g).counts p) at) (v.finds g (reads_same old one g s.same l)))) c
 
 -- ---- intervals of numbers, items of tuples
 
@@ -306,7 +306,7 @@ range_sized old one mid new k a b js x y r i o e s t f c q =
     (λ g. ap (λ (j : Ker). (ker_sized old.width j g).counts q) (rebuilt k _ _ o e) ∙ NodeShapes.range_counts old.width _ _ _ g a b js q)
     (same_more old one mid s.same v.same)
     (λ g l. row_means old.width old.width i.narrow refl a_range refl (ker_sized old.width b g).literal ((ker_sized old.width a g).shape ∷ (ker_sized old.width b g).shape ∷ []) (mean x ∷ mean y ∷ []) r
-        (ap₂ (λ (m n : Shape). m ∷ n ∷ []) (s.shape g l) (v.shape g (reads_same old one g s.same l))) (f old.width))
+    (ap₂ (λ (m n : Shape). m ∷ n ∷ []) (s.shape g l) (v.shape g (reads_same old one g s.same l))) (f old.width))
     (λ g l. finds_more old one mid ((ker_sized old.width a g).counts walked) (((ker_sized old.width b g).counts walked) ++ []) (s.finds g l) (finds_more one mid mid ((ker_sized old.width b g).counts walked) [] (v.finds g (reads_same old one g s.same l)) (finds_none mid))) c
 
 pub item_sized : (old mid new : Names) (k a : Ker) (n : ℕ) (x r : Code) → (out-Ker k).op ≡ ker.Item n → (out-Ker k).args ≡ a ∷ [] →
@@ -486,18 +486,18 @@ pub binder_sized : (old one mid new : Names) (k : Ker) (ks : List Ker) (b : Ker)
 binder_sized old one mid new k ks b rs ms x r m i e n h s f u t c q =
     let w : ℕ = old.width in
     let v : SizesUnder one mid (ker_sized w b) (out-Ker k).binds (map mean ms) x =
-            subst (λ (y : ℕ). SizesUnder one mid (ker_sized y b) (out-Ker k).binds (map mean ms) x) s.same.width u in
+    subst (λ (y : ℕ). SizesUnder one mid (ker_sized y b) (out-Ker k).binds (map mean ms) x) s.same.width u in
     let o : KerOp = (out-Ker k).op in
     let p : ℕ = length (names_of (out-Ker k).binds) in
     let bs : (g : Extent) → List Shape = λ g. insides (shapes_of (all_at (map (ker_sized w) ks) g)) in
     let z : (g : Extent) → Reads old g → map capped (bs g) ≡ map mean ms =
-            λ g l. capped_insides (shapes_of (all_at (map (ker_sized w) ks) g)) ∙ ap insides (s.shapes g l) ∙ sym f in
+    λ g l. capped_insides (shapes_of (all_at (map (ker_sized w) ks) g)) ∙ ap insides (s.shapes g l) ∙ sym f in
     node_sized old mid new k r q _ (λ g. counts_of walked (all_at (map (ker_sized w) ks) g) ++ (in_body w k ks b e n h g).counts walked)
     (binder_is w k ks b e n h) (λ g. binder_numbers w k ks b e n h g q) (same_more old one mid s.same v.same)
     (λ g l. row_means w w i.narrow refl (binder_row o p) (binder_rows_are_kernel o p) no_literal (with_body w k ks b e n h g) (map mean rs ++ mean x ∷ []) r
-        (more_capped (shapes_of (all_at (map (ker_sized w) ks) g)) (in_body w k ks b e n h g).shape
-        ∙ ap₂ (λ (as' : List Shape) (y : Shape). as' ++ y ∷ []) (s.shapes g l) (v.shape g (bs g) (reads_same old one g s.same l) (z g l)))
-        (t w ∙ any_number w o m p (map mean rs ++ mean x ∷ [])))
+    (more_capped (shapes_of (all_at (map (ker_sized w) ks) g)) (in_body w k ks b e n h g).shape
+    ∙ ap₂ (λ (as' : List Shape) (y : Shape). as' ++ y ∷ []) (s.shapes g l) (v.shape g (bs g) (reads_same old one g s.same l) (z g l)))
+    (t w ∙ any_number w o m p (map mean rs ++ mean x ∷ [])))
     (λ g l. finds_more old one mid (counts_of walked (all_at (map (ker_sized w) ks) g)) ((in_body w k ks b e n h g).counts walked) (s.finds g l) (v.finds g (bs g) (reads_same old one g s.same l) (z g l))) c
 
 -- ---- rows that go by a type
@@ -525,8 +525,8 @@ domain_sized old mid new k f x r i o e s m c q =
     (λ g. ap (λ (j : Ker). (ker_sized old.width j g).counts q) (rebuilt k _ _ o e) ∙ NodeShapes.domain_counts old.width _ _ _ g f q)
     s.same
     (λ g l. row_means old.width mid.width i.narrow s.same.width (domain_row (first_kind (kinds_in f))) (domain_rows_are_kernel (first_kind (kinds_in f))) no_literal
-        ((ker_sized old.width f g).shape ∷ []) (mean x ∷ []) r (ap (λ (y : Shape). y ∷ []) (s.shape g l))
-        (m ∙ ap (λ (d : Kind). row_kept mid.width (domain_row d) no_literal (mean x ∷ [])) (sym (first_is f))))
+    ((ker_sized old.width f g).shape ∷ []) (mean x ∷ []) r (ap (λ (y : Shape). y ∷ []) (s.shape g l))
+    (m ∙ ap (λ (d : Kind). row_kept mid.width (domain_row d) no_literal (mean x ∷ [])) (sym (first_is f))))
     (λ g l. finds_more old mid mid ((ker_sized old.width f g).counts walked) [] (s.finds g l) (finds_none mid)) c
 
 abbrev items_row : Ker → Row
@@ -559,11 +559,11 @@ listed_sized old mid new k rs r i h s e c q =
     let zs : List Sizing = map (ker_sized w) (out-Ker k).args in
     node_sized old mid new k r q (λ g. row_shape w (tuple_row d) no_literal (shapes_of (all_at zs g))) (λ g. counts_of walked (all_at zs g))
     (λ g. ap (λ (j : Ker). (ker_sized w j g).shape) (rebuilt k _ _ refl refl) ∙ listed_row w _ _ (out-Ker k).op (out-Ker k).args _ h g
-        ∙ ap (λ (as' : List Sized). row_shape w (tuple_row d) (index_of as') (shapes_of as')) (outside_all zs g)
-        ∙ any_literal w d (index_of (all_at zs g)) (shapes_of (all_at zs g)))
+    ∙ ap (λ (as' : List Sized). row_shape w (tuple_row d) (index_of as') (shapes_of as')) (outside_all zs g)
+    ∙ any_literal w d (index_of (all_at zs g)) (shapes_of (all_at zs g)))
     (λ g. ap (λ (j : Ker). (ker_sized w j g).counts q) (rebuilt k _ _ refl refl) ∙ listed_numbers w _ _ (out-Ker k).op (out-Ker k).args _ h g q
-        ∙ ap (λ (as' : List Sized). count_at (out-Ker k).place (row_shape w (tuple_row d) (index_of as') (shapes_of as')) ++ counts_of walked as') (outside_all zs g)
-        ∙ ap (λ (a : Shape). count_at (out-Ker k).place a ++ counts_of walked (all_at zs g)) (any_literal w d (index_of (all_at zs g)) (shapes_of (all_at zs g))))
+    ∙ ap (λ (as' : List Sized). count_at (out-Ker k).place (row_shape w (tuple_row d) (index_of as') (shapes_of as')) ++ counts_of walked as') (outside_all zs g)
+    ∙ ap (λ (a : Shape). count_at (out-Ker k).place a ++ counts_of walked (all_at zs g)) (any_literal w d (index_of (all_at zs g)) (shapes_of (all_at zs g))))
     s.same
     (λ g l. row_means w w i.narrow refl (tuple_row d) (tuple_rows_are_kernel d) no_literal (shapes_of (all_at zs g)) (map mean rs) r (s.shapes g l) (e w))
     (λ g l. s.finds g l) c

@@ -1,5 +1,5 @@
 -- Fields put in order, and what is taken from the end of a list.
-use Rattle.std.proofs.Common.{◌≡◌, ℕ, zero, suc, ◌+◌, ◌-◌, ◌*◌, ◌<◌, ◌≤◌, Bool, true, false, List, [], ◌∷◌, ◌++◌, map, take, drop, length, get_or, refl, sym, ◌∙◌, ap, ap₂, arith, if◌then◌else◌}
+use Rattle.std.proofs.Common.{◌≡◌, ℕ, zero, suc, ◌+◌, ◌*◌, ◌<◌, ◌≤◌, Bool, true, false, List, [], ◌∷◌, ◌++◌, map, take, drop, length, get_or, refl, sym, ◌∙◌, ap, ap₂, arith, if◌then◌else◌}
 use Rattle.std.proofs.Math.Seq.{drop-length}
 use Rattle.std.specs.Ordering.{is_lt}
 use Rattle.tla_values.specs.Order.{text_cmp}
@@ -12,7 +12,7 @@ use Rattle.kernel_shapes.specs.Shape.{Shape, Shapes, Rec, Tup, more_shapes, coun
 use Rattle.shape_bounds.specs.inner.Kept.{kept}
 use Rattle.shape_bounds.specs.inner.Table.{IsPlace, fields_of}
 use Rattle.shape_bounds.specs.inner.Joined.{IsJoined, joined_each}
-use Rattle.shape_bounds.proofs.Sums.{kept_product, kept_twice}
+use Rattle.shape_bounds.proofs.Sums.{kept_product}
 
 abbrev Field : Type 0
 Field = List ℕ × Code

@@ -1,10 +1,10 @@
 -- Rows of the table give shapes that are alike but for numbers past the greatest that is kept, if the operands are so.
-use Rattle.std.proofs.Common.{◌≡◌, ℕ, zero, suc, ◌+◌, ◌*◌, ◌^◌, max, Bool, true, false, List, [], ◌∷◌, map, length, refl, sym, ◌∙◌, ap, ap₂, if◌then◌else◌, arith}
+use Rattle.std.proofs.Common.{◌≡◌, ℕ, zero, suc, ◌+◌, ◌*◌, max, Bool, true, false, List, [], ◌∷◌, map, refl, sym, ◌∙◌, ap, ap₂, if◌then◌else◌}
 use Rattle.tla_meaning.specs.Scopes.{same_text}
-use Rattle.kernel_shapes.specs.Shape.{Shape, Atom, Num, Set, Fun, Rec, Tup, Seq, Empty, Shapes, no_shapes, more_shapes, shapes, field, item, count, inside, result, join, join_items, join_all}
+use Rattle.kernel_shapes.specs.Shape.{Shape, Num, Set, Fun, Rec, Tup, Seq, Empty, Shapes, no_shapes, more_shapes, shapes, field, item, count, inside, result, join, join_items, join_all}
 use Rattle.kernel_shapes.specs.Rows.{product_of, insides}
-use Rattle.shape_bounds.specs.inner.Kept.{greatest_kept, kept, capped, capped_items}
-use Rattle.shape_bounds.proofs.Sums.{kept_sum, kept_product, kept_twice, kept_max}
+use Rattle.shape_bounds.specs.inner.Kept.{kept, capped, capped_items}
+use Rattle.shape_bounds.proofs.Sums.{kept_product, kept_twice, kept_max}
 
 mutual
   pub capped_join : (a b : Shape) → capped (join a b) ≡ join (capped a) (capped b)

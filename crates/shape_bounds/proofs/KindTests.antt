@@ -1,5 +1,5 @@
 -- Types that have a kind.
-use Rattle.std.proofs.Common.{◌≡◌, ◌≤◌, ◌<◌, ℕ, zero, suc, ◌+◌, Bool, true, false, not, nat_eq, ◌&&◌, IsTrue, List, [], ◌∷◌, map, take, length, get_or, Option, Some, None, option_map, option_and_then, refl, sym, ◌∙◌, ap, ap₂, subst, arith}
+use Rattle.std.proofs.Common.{◌≡◌, ◌≤◌, ◌<◌, ℕ, zero, suc, ◌+◌, Bool, true, false, not, nat_eq, IsTrue, List, [], ◌∷◌, map, take, length, get_or, Option, Some, None, option_map, option_and_then, refl, sym, ◌∙◌, ap, subst, arith}
 use Rattle.std.specs.Prelude.{is_some, if◌then◌else◌}
 use Rattle.tla_meaning.proofs.Views.{and_left, false≢true}
 use Rattle.snowcat_rows.specs.declared.types.Ty.{Ty, out-Ty, Bool as bool_ty, Int, Str, Named, Set as set_ty, Seq as seq_ty, Fun as fun_ty, Tup as tup_ty, Rec as rec_ty}
@@ -8,7 +8,7 @@ use Rattle.snowcat_rows.specs.declared.types.Ty.TheOpen as layer
 use Rattle.snowcat_rows.specs.declared.types.Ty.TheFolds.{fold_out-Ty, map-Ty}
 use Rattle.snowcat_rows.specs.FieldNames.{names, names_differ, differ_layer}
 use Rattle.snowcat_rows.specs.TypeTexts.{are_distinct}
-use Rattle.kernel_trees.specs.TypeKinds.{Kind, Set, Seq, Fun, Tup, Rec, Kinds, kinds, fields, all_there, all_fields_there, word_kind, record_kind, kind_of}
+use Rattle.kernel_trees.specs.TypeKinds.{Kind, Set, Seq, Fun, Tup, Rec, kinds, fields, all_there, all_fields_there, word_kind, record_kind, kind_of}
 use Rattle.kernel_trees.proofs.TypeLaws.{kind-Bool, kind-Int, kind-Str, kind-Named, kind-Set, kind-Seq, kind-Fun, kind-Tup, kind-Rec}
 
 -- a type by its form

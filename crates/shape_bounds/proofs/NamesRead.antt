@@ -1,5 +1,5 @@
 -- Names as they are read, up to numbers past the greatest that is kept; nodes by their operator and children.
-use Rattle.std.proofs.Common.{◌≡◌, ℕ, zero, suc, Bool, true, false, List, [], ◌∷◌, ◌++◌, map, Option, Some, None, option_map, option_and_then, slice_get, refl, sym, ◌∙◌, ap, ap₂, if◌then◌else◌}
+use Rattle.std.proofs.Common.{◌≡◌, ℕ, zero, suc, Bool, true, false, List, [], ◌∷◌, map, Option, Some, None, option_map, option_and_then, slice_get, refl, sym, ◌∙◌, ap, ap₂, if◌then◌else◌}
 use Rattle.tla_meaning.specs.Scopes.{find_last, or_else, same_text}
 use Rattle.kernel_trees.specs.declared.kernel.Ker.{Ker, out-Ker, roll-Ker, roll-out-Ker}
 use Rattle.kernel_trees.specs.declared.kernel.KerOp.{KerOp}
@@ -7,13 +7,13 @@ use Rattle.kernel_trees.specs.declared.kernel.KerOp.TheVariants as ker
 use Rattle.kernel_trees.specs.Trees.{number_name}
 use Rattle.kernel_shapes.specs.declared.bounds.Shape.{Shape as Code}
 use Rattle.kernel_shapes.specs.Codes.{mean}
-use Rattle.kernel_shapes.specs.Counts.{Count, count_at}
+use Rattle.kernel_shapes.specs.Counts.{count_at}
 use Rattle.kernel_shapes.specs.Kernel.{ker_sized}
-use Rattle.kernel_shapes.specs.Shape.{Shape, Empty}
+use Rattle.kernel_shapes.specs.Shape.{Shape}
 use Rattle.kernel_shapes.specs.Sized.{Extent, Position, found}
 use Rattle.shape_bounds.specs.declared.names.Names.{Names}
 use Rattle.shape_bounds.specs.inner.Kept.{capped}
-use Rattle.shape_bounds.specs.inner.Sizes.{Finds, IsCounted, Reads, SameNames, Sizes, bound_name, kept_name, named_at, read_at}
+use Rattle.shape_bounds.specs.inner.Sizes.{IsCounted, Reads, Sizes, bound_name, kept_name, named_at, read_at}
 use Rattle.shape_bounds.proofs.Composing.{finds_none, finds_same}
 use Rattle.shape_bounds.proofs.Excesses.{finds_node}
 use Rattle.shape_bounds.proofs.NodeShapes.{made, name_shape, name_counts, bound_shape, bound_counts}

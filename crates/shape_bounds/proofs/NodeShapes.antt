@@ -1,21 +1,21 @@
 -- What is computed of a kernel tree, by its operator and its children.
-use Rattle.std.proofs.Common.{◌≡◌, ℕ, zero, suc, Bool, true, false, List, [], ◌∷◌, ◌++◌, map, take, drop, length, Option, Some, None, option_and_then, slice_get, refl, sym, ◌∙◌, ap, ap₂, IsTrue, if◌then◌else◌, pos}
+use Rattle.std.proofs.Common.{◌≡◌, ℕ, zero, suc, Bool, List, [], ◌∷◌, ◌++◌, map, drop, option_and_then, slice_get, refl, sym, ◌∙◌, ap, ap₂, IsTrue, if◌then◌else◌, pos}
 use Rattle.tla_values.specs.Order.{Layer}
 use Rattle.tla_values.specs.declared.value.Value.{Value, out-Value}
 use Rattle.tla_values.specs.declared.value.Value.TheOpen as layer
 use Rattle.tla_meaning.specs.declared.place.Place.{Place}
 use Rattle.tla_meaning.specs.Scopes.{find_last}
 use Rattle.snowcat_rows.specs.declared.types.Ty.{Ty}
-use Rattle.kernel_trees.specs.declared.kernel.Ker.{Ker, out-Ker, roll-Ker}
+use Rattle.kernel_trees.specs.declared.kernel.Ker.{Ker, roll-Ker}
 use Rattle.kernel_trees.specs.declared.kernel.KerOp.{KerOp}
 use Rattle.kernel_trees.specs.declared.kernel.KerOp.TheVariants as ker
 use Rattle.kernel_trees.specs.Trees.{constant, names_of, number_name, as_expr}
 use Rattle.kernel_trees.specs.TypeKinds.{Kind, kind_of}
 use Rattle.kernel_shapes.specs.Counts.{Count, count_at}
 use Rattle.kernel_shapes.specs.Kernel.{ker_sized, kind_or_truth, kinds_in}
-use Rattle.kernel_shapes.specs.Rows.{Literal, no_literal, number, text, a_truth, a_number, a_range, the_subsets, the_functions, the_tuples, the_records, an_application, row_shape, applied_at, joined_at, reached_by, nth}
-use Rattle.kernel_shapes.specs.Shape.{Shape, Atom, Empty, Set, count, inside, interval}
-use Rattle.kernel_shapes.specs.Sized.{Extent, Position, Sized, Sizing, walked, as_form, assigned_from, picked_from, operand, counts_of, shapes_of, own_count, outside, index_of, bind_shapes, found, right_counts, excepted_counts, no_size, step_counts, step, Seen}
+use Rattle.kernel_shapes.specs.Rows.{no_literal, number, a_range, the_subsets, the_functions, the_tuples, the_records, an_application, row_shape, applied_at, joined_at, reached_by}
+use Rattle.kernel_shapes.specs.Shape.{Shape, Atom, Empty, count, inside}
+use Rattle.kernel_shapes.specs.Sized.{Extent, Position, Sized, walked, as_form, assigned_from, picked_from, counts_of, shapes_of, outside, index_of, bind_shapes, found, right_counts, excepted_counts, no_size, step_counts, step, Seen}
 use Rattle.kernel_shapes.specs.Trees.{domain_row, tuple_row, first_kind, is_part}
 use Rattle.kernel_shapes.specs.Trees.{SizedTree, sized_node}
 use Rattle.kernel_shapes.proofs.TreeLemmas.{tree-roll}

@@ -1,5 +1,5 @@
 -- Items of tuples and fields of records by their places.
-use Rattle.std.proofs.Common.{◌≡◌, ℕ, zero, suc, ◌+◌, ◌-◌, ◌<◌, ◌≤◌, Bool, true, false, List, [], ◌∷◌, map, drop, length, get_or, ℤ, pos, negsuc, ◌<ℤ◌, ◌≤ℤ◌, nat_abs, refl, sym, ◌∙◌, ap, subst, arith, IsTrue, if◌then◌else◌}
+use Rattle.std.proofs.Common.{◌≡◌, ℕ, zero, suc, ◌-◌, ◌<◌, ◌≤◌, Bool, true, false, List, [], ◌∷◌, map, drop, length, get_or, ℤ, pos, negsuc, ◌<ℤ◌, ◌≤ℤ◌, nat_abs, refl, sym, ◌∙◌, ap, subst, arith, IsTrue, if◌then◌else◌}
 use Rattle.std.proofs.lemmas.Int.{ints}
 use Rattle.tla_meaning.specs.Scopes.{same_text}
 use Rattle.shape_bounds.specs.inner.Kept.{kept}
@@ -8,7 +8,7 @@ use Rattle.kernel_shapes.proofs.JoinRight.{text_is}
 use Rattle.kernel_shapes.specs.declared.bounds.Shape.{Shape as Code}
 use Rattle.kernel_shapes.specs.Codes.{mean}
 use Rattle.kernel_shapes.specs.Rows.{number, applied_at}
-use Rattle.kernel_shapes.specs.Shape.{Shape, Tup, Rec, Empty, count, Shapes, no_shapes, more_shapes, shapes, item, field, result}
+use Rattle.kernel_shapes.specs.Shape.{Shape, Tup, Rec, Empty, count, Shapes, no_shapes, more_shapes, shapes, item, field}
 
 item_zero : (as' : Shapes) → item 0 as' ≡ Empty
 item_zero no_shapes = refl

@@ -1,16 +1,16 @@
 -- Rows of the table by lists of operands.
-use Rattle.std.proofs.Common.{◌≡◌, ◌⊎◌, inl, inr, ◌++◌, ℕ, zero, suc, ◌+◌, ◌*◌, ◌^◌, ◌<◌, ◌≤◌, max, List, [], ◌∷◌, map, length, get_or, IfOk, Ok, Err, Result, refl, sym, ◌∙◌, ap, ap₂, subst, arith}
+use Rattle.std.proofs.Common.{◌≡◌, ◌⊎◌, inl, inr, ◌++◌, ℕ, ◌*◌, ◌^◌, ◌<◌, ◌≤◌, max, List, [], ◌∷◌, map, length, get_or, IfOk, Ok, Err, Result, refl, sym, ◌∙◌, ap, ap₂, arith}
 use Rattle.std.specs.declared.alloc.AllocError.{AllocError}
 use Rattle.kernel_trees.specs.declared.kernel.KerOp.{KerOp}
 use Rattle.kernel_shapes.specs.declared.bounds.Shape.{Shape as Code}
 use Rattle.kernel_shapes.specs.Codes.{mean}
-use Rattle.kernel_shapes.specs.Rows.{Row, Literal, no_literal, a_choice, a_range, the_subsets, the_functions, a_big_union, branches_of, set_of_interval, a_map, a_function, but_last, last_of, product_of, argument_of, insides}
+use Rattle.kernel_shapes.specs.Rows.{Row, Literal, no_literal, the_subsets, the_functions, a_big_union, branches_of, a_map, a_function, but_last, last_of, product_of, argument_of, insides}
 use Rattle.kernel_shapes.specs.Shape.{Shape, Set, Fun, Tup, Empty, shapes, count, inside, join, join_all}
-use Rattle.shape_bounds.specs.inner.Kept.{kept, kept_top}
+use Rattle.shape_bounds.specs.inner.Kept.{kept}
 use Rattle.shape_bounds.specs.inner.Nodes.{binder_row}
 use Rattle.shape_bounds.specs.inner.Plain.{row_of}
 use Rattle.shape_bounds.specs.inner.Table.{row_kept}
-use Rattle.shape_bounds.proofs.Sums.{kept_exponent, kept_power, kept_product, kept_twice}
+use Rattle.shape_bounds.proofs.Sums.{kept_exponent, kept_power, kept_product}
 
 -- a row that does not ask for the width
 pub row_at : (w : ℕ) (o : KerOp) (r : Row) (l : Literal) (as' : List Shape) (res : Result Code AllocError) → row_of o ≡ r →

@@ -1,18 +1,17 @@
 -- A row of the table gives a shape whose numbers are kept, if the row is read where those of the operands are kept.
-use Rattle.std.proofs.Common.{◌≡◌, ℕ, zero, suc, ◌+◌, ◌-◌, ◌*◌, ◌^◌, ◌<◌, ◌≤◌, min, max, Bool, true, false, nat_lt, List, [], ◌∷◌, map, length, ℤ, pos, negsuc, ◌+ℤ◌, ◌-ℤ◌, ◌*ℤ◌, neg_ℤ, refl, sym, ◌∙◌, ap, ap₂, if◌then◌else◌, arith}
+use Rattle.std.proofs.Common.{◌≡◌, ℕ, suc, ◌+◌, ◌-◌, ◌*◌, ◌^◌, ◌≤◌, max, Bool, true, false, List, [], ◌∷◌, map, length, ℤ, pos, negsuc, ◌+ℤ◌, ◌-ℤ◌, ◌*ℤ◌, refl, sym, ◌∙◌, ap, ap₂, if◌then◌else◌, arith}
 use Rattle.std.proofs.lemmas.Int.{ints, clamps}
 use Rattle.std.proofs.Math.Pow.{pow_mono}
-use Rattle.std.specs.Int.{int_min, int_max}
 use Rattle.std.specs.Ordering.{is_lt}
 use Rattle.tla_values.specs.Order.{text_cmp}
 use Rattle.tla_meaning.proofs.Views.{false≢true}
-use Rattle.kernel_shapes.specs.Shape.{Shape, Atom, Num, Set, Fun, Rec, Tup, Seq, Empty, Shapes, no_shapes, more_shapes, shapes, field, item, count, inside, result, join, join_items, join_all, moved, lowest, highest, interval, over_ends, over_both}
-use Rattle.kernel_shapes.specs.Rows.{Literal, no_literal, number, text, Row, row_shape, product_of, insides, put_field, in_order, record_shape, but_last, last_of, branches_of, argument_of, applied_at, power_shape, quotient_shape, remainder_shape, set_of_interval, a_truth, a_number, a_sum, a_difference, a_product, a_negation, a_power, a_quotient, a_remainder, a_size, a_length, an_enumeration, a_range, a_union, a_part, a_shorter, a_big_union, the_subsets, the_functions, the_records, the_tuples, the_truths, a_map, a_function, a_choice, an_application, a_field, a_head, the_arguments, the_places, the_names, a_merge, a_single, a_record, a_tuple, a_sequence, an_append, a_concatenation}
-use Rattle.shape_bounds.specs.inner.Kept.{greatest_kept, kept, capped, capped_items, kept_top, kept_row}
+use Rattle.kernel_shapes.specs.Shape.{Shape, Atom, Num, Set, Fun, Rec, Tup, Seq, Empty, Shapes, more_shapes, shapes, count, inside, result, join, join_all, moved, over_both}
+use Rattle.kernel_shapes.specs.Rows.{Literal, no_literal, number, text, Row, row_shape, product_of, insides, put_field, in_order, record_shape, but_last, last_of, branches_of, argument_of, applied_at, quotient_shape, remainder_shape, set_of_interval, a_truth, a_number, a_sum, a_difference, a_product, a_negation, a_power, a_quotient, a_remainder, a_size, a_length, an_enumeration, a_range, a_union, a_part, a_shorter, a_big_union, the_subsets, the_functions, the_records, the_tuples, the_truths, a_map, a_function, a_choice, an_application, a_field, a_head, the_arguments, the_places, the_names, a_merge, a_single, a_record, a_tuple, a_sequence, an_append, a_concatenation}
+use Rattle.shape_bounds.specs.inner.Kept.{kept, capped, capped_items, kept_top}
 use Rattle.shape_bounds.specs.inner.Sizes.{kept_name}
 use Rattle.shape_bounds.specs.inner.Table.{row_kept}
 use Rattle.shape_bounds.proofs.Keeping.{capped_join, capped_join_all, capped_shapes, capped_inside, capped_result, kept_count, capped_item, capped_field, capped_insides, kept_products}
-use Rattle.shape_bounds.proofs.Sums.{kept_sum, kept_product, kept_twice, kept_max, kept_exponent, kept_power}
+use Rattle.shape_bounds.proofs.Sums.{kept_sum, kept_product, kept_max, kept_power}
 
 -- ---- numbers of operands
 
@@ -192,7 +191,7 @@ module _ (w : ℕ) (le : w ≤ 64) where
   row_capped the_functions h l (a ∷ []) = refl
   row_capped the_functions h l (a ∷ b ∷ as') =
       let e : kept (max 1 (count b ^ count a)) ≡ kept (max 1 (count (capped b) ^ count (capped a))) =
-              kept_max 1 (count b ^ count a) ∙ ap (max (kept 1)) (same_power (count b) (count (capped b)) (count a) (count (capped a)) (count_is b) (count_is a)) ∙ sym (kept_max 1 (count (capped b) ^ count (capped a))) in
+      kept_max 1 (count b ^ count a) ∙ ap (max (kept 1)) (same_power (count b) (count (capped b)) (count a) (count (capped a)) (count_is b) (count_is a)) ∙ sym (kept_max 1 (count (capped b) ^ count (capped a))) in
       ap₂ (λ (m n : ℕ). Set m (Fun n (capped (inside a)) (capped (inside b)))) e (count_is a)
       ∙ ap₂ (λ (x y : Shape). Set (kept (max 1 (count (capped b) ^ count (capped a)))) (Fun (kept (count (capped a))) x y)) (capped_inside a) (capped_inside b)
   row_capped (the_records xs) h l as' =

@@ -3,7 +3,7 @@ use Rattle.std.proofs.Common.{◌≡◌, ℕ, Bool, true, false, IsTrue, List, [
 use Rattle.std.specs.Prelude.{IfSome, is_some, if◌then◌else◌}
 use Rattle.tla_meaning.proofs.Views.{false≢true}
 use Rattle.snowcat_rows.specs.declared.types.Ty.{Ty, Bool as bool_ty, Int, Str, Named, Var, Set as set_ty, Seq as seq_ty, Fun as fun_ty, Tup as tup_ty, Rec as rec_ty, Oper}
-use Rattle.kernel_trees.specs.TypeKinds.{Kind, Set, Seq, Fun, Tup, Rec, kinds, fields, all_there, all_fields_there, word_kind, record_kind, kind_of}
+use Rattle.kernel_trees.specs.TypeKinds.{Kind, Set, Seq, Fun, Tup, Rec, kinds, fields, all_there, all_fields_there, word_kind, kind_of}
 use Rattle.kernel_trees.proofs.TypeLaws.{kind-Bool, kind-Int, kind-Str, kind-Named, kind-Var, kind-Set, kind-Seq, kind-Fun, kind-Tup, kind-Rec, kind-open, kind-Oper}
 use Rattle.kernel_shapes.specs.Kernel.{kind_or_truth}
 use Rattle.shape_bounds.specs.declared.kinds.TypeForm.{TypeForm}

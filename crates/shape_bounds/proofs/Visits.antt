@@ -1,6 +1,6 @@
 -- Nodes of the kernel as the code takes them apart.
 use denote.Param.Weighed.{most}
-use Rattle.std.proofs.Common.{◌≡◌, ◌≤◌, ◌<◌, ℕ, zero, suc, ◌+◌, ◌-◌, Bool, true, false, not, nat_eq, List, [], ◌∷◌, ◌++◌, map, take, drop, length, get_or, IsTrue, refl, sym, ◌∙◌, ap, ap₂, subst, arith}
+use Rattle.std.proofs.Common.{◌≡◌, ◌≤◌, ◌<◌, ℕ, zero, suc, ◌-◌, true, false, nat_eq, List, [], ◌∷◌, ◌++◌, map, take, length, get_or, IsTrue, refl, sym, ◌∙◌, ap, ap₂, subst, arith}
 use Rattle.tla_meaning.proofs.Views.{false≢true}
 use Rattle.kernel_trees.specs.declared.kernel.Ker.{Ker, out-Ker}
 use Rattle.kernel_shapes.specs.declared.bounds.Shape.{Shape as Code, Empty as empty}
@@ -9,9 +9,8 @@ use Rattle.kernel_shapes.specs.Counts.{count_at}
 use Rattle.kernel_trees.specs.TypeKinds.{kind_of}
 use Rattle.kernel_shapes.specs.Kernel.{ker_sized, kind_or_truth}
 use Rattle.kernel_shapes.specs.Trees.{tuple_row}
-use Rattle.kernel_shapes.specs.Rows.{Literal, no_literal, row_shape, insides}
-use Rattle.kernel_shapes.specs.Shape.{Shape}
-use Rattle.kernel_shapes.specs.Sized.{Position, Sizing, walked, as_form, operand}
+use Rattle.kernel_shapes.specs.Rows.{Literal, no_literal, insides}
+use Rattle.kernel_shapes.specs.Sized.{Position, walked, as_form, operand}
 use Rattle.shape_bounds.specs.declared.names.Names.{Names}
 use Rattle.shape_bounds.specs.inner.Kept.{IsWidth}
 use Rattle.shape_bounds.specs.inner.Nodes.{binder_row, is_binder, is_endless, is_listed, is_product, second_of, walked_count}

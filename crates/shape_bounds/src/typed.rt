@@ -20,12 +20,7 @@ use std::alloc::{AllocError, Global};
 use tla_values::List;
 
 // The domain of a function, a sequence, a tuple or a record.
-pub(crate) fn domain_of(
-    alloc: Global,
-    t: &Ty,
-    a: &Shape,
-    width: u32,
-) -> Result<Shape, AllocError>
+pub(crate) fn domain_of(alloc: Global, t: &Ty, a: &Shape, width: u32) -> Result<Shape, AllocError>
     requires sized { IsWidth width }
     ensures { IfOk result (λ r. mean r
         ≡ row_kept width (domain_row (kind_or_truth (kind_of t.now))) no_literal (mean a.now ∷ [])) }
@@ -36,12 +31,7 @@ pub(crate) fn domain_of(
     }
 }
 
-fn domain_by(
-    alloc: Global,
-    form: TypeForm,
-    a: &Shape,
-    width: u32,
-) -> Result<Shape, AllocError>
+fn domain_by(alloc: Global, form: TypeForm, a: &Shape, width: u32) -> Result<Shape, AllocError>
     requires sized { IsWidth width }
     ensures { IfOk result (λ r. mean r ≡ row_kept width (domain_by form) no_literal (mean a.now ∷ [])) }
 {
@@ -81,7 +71,9 @@ fn items_by(alloc: Global, form: TypeForm, items: Vec<Shape>) -> Result<Shape, A
 {
     match form {
         TypeForm::Sequence => sequence_of(alloc, items.as_slice()),
-        TypeForm::Function | TypeForm::Record | TypeForm::Other => Ok(Shape::Tup(List::from_vec(items))),
+        TypeForm::Function | TypeForm::Record | TypeForm::Other => Ok(Shape::Tup(List::from_vec(
+            items,
+        ))),
     }
 }
 

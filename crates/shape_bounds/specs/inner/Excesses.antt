@@ -1,5 +1,5 @@
 -- Ranks of the numbers past their limits that the code keeps.
-use Rattle.kernel_shapes.specs.Counts.{Count, Rank, rank}
+use Rattle.kernel_shapes.specs.Counts.{Rank, rank}
 use Rattle.shape_bounds.specs.declared.limits.Excess.{Excess}
 
 abbrev pub rank_of : Excess → Rank

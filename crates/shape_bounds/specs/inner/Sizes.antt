@@ -1,5 +1,5 @@
 -- What a walk over kernel trees finds: shapes whose numbers are kept, and the first of the numbers past their limits.
-use Rattle.std.specs.Prelude.{ℕ, ◌≡◌, Bool, List, [], ◌∷◌, ◌++◌, map, take, length, Option, Some, None, option_map, option_and_then, slice_get, if◌then◌else◌}
+use Rattle.std.specs.Prelude.{ℕ, ◌≡◌, Bool, List, ◌++◌, map, take, length, Option, option_map, option_and_then, slice_get, if◌then◌else◌}
 use Rattle.kernel_trees.specs.Trees.{number_name, names_of}
 use Rattle.kernel_shapes.specs.declared.bounds.Shape.{Shape as Code}
 use Rattle.kernel_shapes.specs.Codes.{mean}

@@ -1,6 +1,6 @@
 -- What literals, fields and rows of the code mean.
 use Rattle.kernel_shapes.specs.Rows.{Literal, no_literal, number, text, Row, row_shape, put_field}
-use Rattle.std.specs.Prelude.{ℕ, ◌≡◌, ◌≤◌, length, List, ◌∷◌, ◌++◌, take, drop, map, pos}
+use Rattle.std.specs.Prelude.{ℕ, ◌≡◌, ◌≤◌, length, List, ◌∷◌, ◌++◌, take, drop, map}
 use Rattle.kernel_shapes.specs.declared.bounds.Shape.{Shape as Field}
 use Rattle.kernel_shapes.specs.Codes.{mean}
 use Rattle.kernel_shapes.specs.Shape.{Shape}

@@ -1,8 +1,8 @@
-use Rattle.std.proofs.Common.{◌≡◌, ap, ap₂, ◌∙◌, sym, arith, rules, refl, min, nat_abs, pos}
+use Rattle.std.proofs.Common.{ap₂, ◌∙◌, arith, rules}
 use Rattle.std.proofs.lemmas.Int.{to_z-of_z, ints}
 use Rattle.std.specs.Int.{int_max}
 use mir.Syntax.{w128}
-use mir.Val.{SFits, to_z, of_z}
+use mir.Val.{SFits}
 use Rattle.shape_bounds.proofs.Ends.{quotient_of}
 use Rattle.shape_bounds.proofs.intervals.quotient.Goals as goal
 

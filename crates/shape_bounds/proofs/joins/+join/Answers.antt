@@ -3,7 +3,7 @@ use Rattle.std.proofs.lemmas.Int.{to_z-of_z}
 use mir.Syntax.{w128}
 use mir.Val.{SFits}
 use Rattle.kernel_shapes.specs.Codes.{mean}
-use Rattle.kernel_shapes.specs.Shape.{Num, join}
+use Rattle.kernel_shapes.specs.Shape.{join}
 use Rattle.shape_bounds.proofs.Fielded.{item_alone, item_both, joined_whole, name_more, names_whole, records_joined, tuples_joined}
 use Rattle.shape_bounds.proofs.Means.{mean-Num}
 use Rattle.shape_bounds.proofs.Rowed.{ok_same}

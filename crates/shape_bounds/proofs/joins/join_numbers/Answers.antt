@@ -1,7 +1,7 @@
-use Rattle.std.proofs.Common.{◌≡◌, ap, ap₂, ◌∙◌, sym, arith, rules}
+use Rattle.std.proofs.Common.{ap₂, ◌∙◌, sym, arith}
 use Rattle.std.proofs.lemmas.Int.{to_z-of_z}
 use mir.Syntax.{w128}
-use Rattle.kernel_shapes.specs.Shape.{Num, join}
+use Rattle.kernel_shapes.specs.Shape.{Num}
 use Rattle.shape_bounds.proofs.Means.{mean-Num}
 use Rattle.shape_bounds.proofs.Ends.{join_both, join_other}
 use Rattle.shape_bounds.proofs.joins.join_numbers.Goals as goal

@@ -1,4 +1,4 @@
-use Rattle.std.proofs.Common.{◌≡◌, ◌∙◌, ◌-◌, ◌<◌, suc, sym, ap, map, take, length, arith}
+use Rattle.std.proofs.Common.{◌≡◌, ◌∙◌, ◌-◌, suc, sym, ap, map, take, arith}
 use Rattle.std.proofs.Math.Seq.{take-length}
 use Rattle.tla_meaning.specs.Scopes.{find_last}
 use Rattle.kernel_trees.specs.Trees.{number_name}

@@ -1,5 +1,4 @@
-use Rattle.std.proofs.Common.{◌∙◌, ap}
-use Rattle.kernel_shapes.specs.Codes.{mean}
+use Rattle.std.proofs.Common.{◌∙◌}
 use Rattle.shape_bounds.proofs.Bounds.{found_at, nothing_at, past_end}
 use Rattle.shape_bounds.proofs.Means.{mean-Empty}
 use Rattle.shape_bounds.proofs.Rowed.{ok_copy}

@@ -1,4 +1,4 @@
-use Rattle.std.proofs.Common.{◌∙◌, ◌++◌, ◌∷◌, [], ap, ap₂, length, map, sym}
+use Rattle.std.proofs.Common.{◌∙◌, ◌++◌, ◌∷◌, [], ap, length, map, sym}
 use Rattle.kernel_shapes.specs.Codes.{mean}
 use Rattle.kernel_shapes.specs.Rows.{no_literal}
 use Rattle.kernel_shapes.specs.Shape.{Fun, Set}

@@ -1,4 +1,3 @@
-use Rattle.std.proofs.Common.{rules}
 use Rattle.shape_bounds.proofs.Sums.{small_power, great_power}
 use Rattle.shape_bounds.proofs.numbers.power.Goals as goal
 

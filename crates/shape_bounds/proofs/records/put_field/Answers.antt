@@ -1,4 +1,4 @@
-use Rattle.std.proofs.Common.{◌≡◌, ◌∙◌, List, ℕ, subst, arith}
+use Rattle.std.proofs.Common.{List, ℕ, subst, arith}
 use Rattle.shape_bounds.specs.inner.Table.{IsPlace}
 use Rattle.kernel_shapes.specs.declared.bounds.Shape.{Shape as Code}
 use Rattle.shape_bounds.proofs.Fielded.{fields_put}

@@ -1,4 +1,4 @@
-use Rattle.std.proofs.Common.{◌≡◌, ◌∙◌, ◌-◌, ◌<◌, suc, sym, ap, ap₂, map, drop, length, refl, arith}
+use Rattle.std.proofs.Common.{◌≡◌, ◌∙◌, ◌-◌, ◌<◌, suc, ap, ap₂, map, drop, length, refl, arith}
 use Rattle.kernel_shapes.specs.Codes.{mean}
 use Rattle.kernel_shapes.specs.Rows.{in_order, put_field}
 use Rattle.shape_bounds.specs.inner.Table.{fields_of}

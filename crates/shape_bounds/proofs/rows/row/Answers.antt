@@ -1,5 +1,5 @@
 use Rattle.std.proofs.Common.{◌∙◌, ap, sym, inl, inr}
-use Rattle.kernel_shapes.specs.Rows.{a_field, a_record, the_records}
+use Rattle.kernel_shapes.specs.Rows.{a_record, the_records}
 use Rattle.shape_bounds.specs.inner.Plain.{row_of}
 use Rattle.shape_bounds.proofs.Rowed.{row_at}
 use Rattle.shape_bounds.proofs.rows.row.Goals as goal

@@ -4,7 +4,6 @@ use Rattle.std.proofs.Common.{pos}
 use mir.Syntax.{w128}
 use Rattle.kernel_shapes.specs.Codes.{mean}
 use Rattle.kernel_shapes.specs.Rows.{applied_at, number}
-use Rattle.kernel_trees.specs.declared.kernel.Ker.{out-Ker}
 use Rattle.kernel_shapes.specs.Kernel.{ker_sized}
 use Rattle.shape_bounds.specs.inner.Sizes.{stands}
 use Rattle.shape_bounds.proofs.Families.{any_site, constant_sized, domain_sized, each_next, functions_sized, item_sized, member_sized, no_case_sized, one_child, range_sized, subsets_sized, two_children, two_first, under_sized}
