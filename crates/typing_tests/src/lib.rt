@@ -10,8 +10,4 @@ mod notes;
 #[cfg(test)]
 mod operators;
 #[cfg(test)]
-mod reader;
-#[cfg(test)]
 mod refusals;
-#[cfg(test)]
-mod words;

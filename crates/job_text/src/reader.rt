@@ -1,7 +1,4 @@
-// The trees of a case: `(word a b)` is a node with its children, `{a b}` a set and `<a b>` a tuple. `:8` behind a word, or
-// behind the `{` or `<`, is the column of its place. `[i j]` behind the word has the names that are bound, the fields of a
-// record, the numbers of an EXCEPT's indexes, or the text of a note. `x`, `y` and `z` are the declared names in order and
-// `x'` is a primed one; every other name is a bound one, and `@` that of EXCEPT.
+// Trees in prefix notation.
 use crate::words::operator;
 use std::alloc::{AllocError, Global};
 use std::mem;
@@ -27,6 +24,7 @@ struct Reader {
     in_names: bool,
 }
 
+// A place on the first line.
 pub(crate) fn place(col: u32) -> Place {
     Place {
         file: 0,
@@ -35,6 +33,7 @@ pub(crate) fn place(col: u32) -> Place {
     }
 }
 
+// A tree without children, at this column.
 pub(crate) fn leaf(alloc: Global, op: Op, column: u32) -> Expr {
     Expr {
         place: place(column),
@@ -164,8 +163,8 @@ impl Reader {
     }
 }
 
-// The trees of a text; none where brackets are left open.
-pub(crate) fn read(alloc: Global, text: &[u8]) -> Result<Vec<Expr>, AllocError> {
+/// The trees of a text; none where brackets are left open.
+pub fn read(alloc: Global, text: &[u8]) -> Result<Vec<Expr>, AllocError> {
     let mut reader = Reader {
         alloc,
         open: Vec::new(alloc),
@@ -182,6 +181,7 @@ fn with_digit(n: u32, digit: u8) -> u32 {
         .wrapping_add(u32::from(digit.wrapping_sub(b'0')))
 }
 
+// The number of decimal digits.
 pub(crate) fn number(digits: &[u8]) -> u32 {
     let mut n = 0;
     for digit in digits {
@@ -190,6 +190,7 @@ pub(crate) fn number(digits: &[u8]) -> u32 {
     n
 }
 
+// A text of these bytes.
 pub(crate) fn text_of(alloc: Global, bytes: &[u8]) -> Result<Text, AllocError> {
     Ok(Text::from_vec(Vec::from_slice(alloc, bytes)?))
 }

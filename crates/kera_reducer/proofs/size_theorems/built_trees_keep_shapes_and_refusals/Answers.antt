@@ -1,0 +1,8 @@
+use Rattle.kera_reducer.proofs.SizesKept.{each_keeps_sizes, each_part_keeps_sizes}
+use Rattle.kera_reducer.proofs.size_theorems.built_trees_keep_shapes_and_refusals.Goals as goal
+
+pub returns-clause-trees : goal.returns-clause-trees
+returns-clause-trees c = each_keeps_sizes
+
+pub returns-clause-parts : goal.returns-clause-parts
+returns-clause-parts c = each_part_keeps_sizes
