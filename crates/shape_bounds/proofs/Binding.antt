@@ -6,7 +6,7 @@ use Rattle.kernel_shapes.specs.Codes.{mean}
 use Rattle.kernel_shapes.specs.Shape.{Shape}
 use Rattle.kernel_shapes.specs.Sized.{bound_shapes}
 use Rattle.shape_bounds.specs.declared.names.Names.{Names}
-use Rattle.shape_bounds.specs.inner.Sizes.{IsBound, bound_name}
+use Rattle.shape_bounds.specs.Sizes.{IsBound, bound_name}
 
 none_bound : (xs : List (List ℕ × Shape)) → xs ++ [] ≡ xs
 none_bound [] = refl

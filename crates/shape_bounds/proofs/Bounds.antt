@@ -8,7 +8,7 @@ use Rattle.kernel_shapes.specs.Codes.{mean}
 use Rattle.kernel_shapes.specs.Shape.{Shape, Empty}
 use Rattle.kernel_shapes.specs.Sized.{found}
 use Rattle.kernel_shapes.proofs.JoinRight.{text_is}
-use Rattle.shape_bounds.specs.inner.Sizes.{bound_name, read_at}
+use Rattle.shape_bounds.specs.Sizes.{bound_name, read_at}
 use Rattle.shape_bounds.proofs.Places.{not_same}
 
 abbrev first_of_name : ℕ → List ℕ → ℕ

@@ -7,9 +7,9 @@ use Rattle.kernel_shapes.specs.Shape.{Shape}
 use Rattle.kernel_shapes.specs.Sized.{Extent, Position, Sized, Sizing, counts_of, shapes_of}
 use Rattle.kernel_shapes.proofs.Refusals.{either_comm, either_assoc, rank_append}
 use Rattle.shape_bounds.specs.declared.names.Names.{Names}
-use Rattle.shape_bounds.specs.inner.Excesses.{rank_of}
-use Rattle.shape_bounds.specs.inner.Kept.{capped}
-use Rattle.shape_bounds.specs.inner.Sizes.{Finds, IsCounted, Reads, SameNames, Sizes, SizesEach, all_at}
+use Rattle.shape_bounds.specs.Excesses.{rank_of}
+use Rattle.shape_bounds.specs.Kept.{capped}
+use Rattle.shape_bounds.specs.Sizes.{Finds, IsCounted, Reads, SameNames, Sizes, SizesEach, all_at}
 
 pub same_self : (s : Names) → SameNames s s
 same_self s = record { width = refl; state = refl; next = refl; bound = refl }
@@ -27,7 +27,7 @@ pub reads_same : (a b : Names) (g : Extent) → SameNames a b → Reads a g → 
 reads_same a b g h r = record {
   now = r.now ∙ sym (ap (λ v. map (option_map mean) v.items) h.state);
   next = r.next ∙ sym (ap (λ v. map (option_map mean) v.items) h.next);
-  bound = r.bound ∙ sym (ap (map Rattle.shape_bounds.specs.inner.Sizes.bound_name) h.bound);
+  bound = r.bound ∙ sym (ap (map Rattle.shape_bounds.specs.Sizes.bound_name) h.bound);
 }
 
 either_none : (a : Option Rank) → either_rank a None ≡ a

@@ -6,7 +6,7 @@ use Rattle.std.specs.Int.{saturate_signed, int_min, int_max}
 use mir.Syntax.{w128}
 use Rattle.kernel_shapes.specs.Shape.{Shape, moved, Num, hull_of, interval, join}
 use Rattle.kernel_shapes.specs.Rows.{quotient_shape}
-use Rattle.shape_bounds.specs.inner.Kept.{is_interval}
+use Rattle.shape_bounds.specs.Kept.{is_interval}
 
 pub moved_min : (w : ℕ) (a b : ℤ) → moved w (int_min a b) ≡ int_min (moved w a) (moved w b)
 moved_min w a b = omega (arith, ints, clamps)

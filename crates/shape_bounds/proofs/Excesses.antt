@@ -5,9 +5,9 @@ use Rattle.tla_meaning.specs.declared.place.Place.{Place}
 use Rattle.kernel_shapes.specs.Counts.{Count, count_at, either_rank, first_rank, most_printed}
 use Rattle.kernel_shapes.specs.Shape.{Shape, Set, Fun, Seq}
 use Rattle.shape_bounds.specs.declared.names.Names.{Names}
-use Rattle.shape_bounds.specs.inner.Excesses.{rank_of}
-use Rattle.shape_bounds.specs.inner.Kept.{capped, kept}
-use Rattle.shape_bounds.specs.inner.Sizes.{Finds}
+use Rattle.shape_bounds.specs.Excesses.{rank_of}
+use Rattle.shape_bounds.specs.Kept.{capped, kept}
+use Rattle.shape_bounds.specs.Sizes.{Finds}
 use Rattle.shape_bounds.proofs.Composing.{finds_own}
 use Rattle.kernel_shapes.specs.declared.bounds.Shape.{Shape as Code}
 use Rattle.kernel_shapes.specs.Codes.{mean}

@@ -26,11 +26,11 @@ use Rattle.kernel_shapes.specs.Sized.{Extent, Position, Sized, Sizing, walked, a
 use Rattle.kernel_shapes.proofs.SoundBinders.{evaluated}
 use Rattle.shape_bounds.specs.declared.names.Names.{Names}
 use Rattle.shape_bounds.specs.declared.limits.Excess.{Excess}
-use Rattle.shape_bounds.specs.inner.Excesses.{rank_of}
-use Rattle.shape_bounds.specs.inner.Kept.{IsWidth, capped, kept_top}
+use Rattle.shape_bounds.specs.Excesses.{rank_of}
+use Rattle.shape_bounds.specs.Kept.{IsWidth, capped, kept_top}
 use Rattle.shape_bounds.specs.inner.Nodes.{binder_row, constant_shape, is_binder, is_endless, is_membership, is_product, second_of, subset_operand, walked_count}
 use Rattle.shape_bounds.specs.inner.Plain.{row_of, is_plain}
-use Rattle.shape_bounds.specs.inner.Sizes.{Finds, IsCounted, IsBound, Reads, SameNames, Sizes, SizesEach, SizesUnder, all_at, kept_name}
+use Rattle.shape_bounds.specs.Sizes.{Finds, IsCounted, IsBound, Reads, SameNames, Sizes, SizesEach, SizesUnder, all_at, kept_name}
 use Rattle.shape_bounds.specs.inner.Table.{row_kept}
 use Rattle.shape_bounds.proofs.BinderShapes
 use Rattle.shape_bounds.proofs.Composing.{each_more, each_none, finds_more, finds_none, finds_own, finds_same, reads_same, same_more, same_self}

@@ -9,7 +9,7 @@ use Rattle.kernel_shapes.specs.Codes.{mean}
 use Rattle.shape_bounds.proofs.Means.{mean-Rec, mean-Tup}
 use Rattle.kernel_shapes.specs.Rows.{put_field, in_order, product_of, insides, record_shape}
 use Rattle.kernel_shapes.specs.Shape.{Shape, Shapes, Rec, Tup, more_shapes, count, inside, join, join_items, join_all, shapes}
-use Rattle.shape_bounds.specs.inner.Kept.{kept}
+use Rattle.shape_bounds.specs.Kept.{kept}
 use Rattle.shape_bounds.specs.inner.Table.{IsPlace, fields_of}
 use Rattle.shape_bounds.specs.inner.Joined.{IsJoined, joined_each}
 use Rattle.shape_bounds.proofs.Sums.{kept_product}

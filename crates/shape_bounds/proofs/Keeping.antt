@@ -3,7 +3,7 @@ use Rattle.std.proofs.Common.{◌≡◌, ℕ, zero, suc, ◌+◌, ◌*◌, max, 
 use Rattle.tla_meaning.specs.Scopes.{same_text}
 use Rattle.kernel_shapes.specs.Shape.{Shape, Num, Set, Fun, Rec, Tup, Seq, Empty, Shapes, no_shapes, more_shapes, shapes, field, item, count, inside, result, join, join_items, join_all}
 use Rattle.kernel_shapes.specs.Rows.{product_of, insides}
-use Rattle.shape_bounds.specs.inner.Kept.{kept, capped, capped_items}
+use Rattle.shape_bounds.specs.Kept.{kept, capped, capped_items}
 use Rattle.shape_bounds.proofs.Sums.{kept_product, kept_twice, kept_max}
 
 mutual

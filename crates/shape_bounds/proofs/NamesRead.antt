@@ -12,8 +12,8 @@ use Rattle.kernel_shapes.specs.Kernel.{ker_sized}
 use Rattle.kernel_shapes.specs.Shape.{Shape}
 use Rattle.kernel_shapes.specs.Sized.{Extent, Position, found}
 use Rattle.shape_bounds.specs.declared.names.Names.{Names}
-use Rattle.shape_bounds.specs.inner.Kept.{capped}
-use Rattle.shape_bounds.specs.inner.Sizes.{IsCounted, Reads, Sizes, bound_name, kept_name, named_at, read_at}
+use Rattle.shape_bounds.specs.Kept.{capped}
+use Rattle.shape_bounds.specs.Sizes.{IsCounted, Reads, Sizes, bound_name, kept_name, named_at, read_at}
 use Rattle.shape_bounds.proofs.Composing.{finds_none, finds_same}
 use Rattle.shape_bounds.proofs.Excesses.{finds_node}
 use Rattle.shape_bounds.proofs.NodeShapes.{made, name_shape, name_counts, bound_shape, bound_counts}

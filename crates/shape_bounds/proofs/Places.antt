@@ -2,7 +2,7 @@
 use Rattle.std.proofs.Common.{◌≡◌, ℕ, zero, suc, ◌-◌, ◌<◌, ◌≤◌, Bool, true, false, List, [], ◌∷◌, map, drop, length, get_or, ℤ, pos, negsuc, ◌<ℤ◌, ◌≤ℤ◌, nat_abs, refl, sym, ◌∙◌, ap, subst, arith, IsTrue, if◌then◌else◌}
 use Rattle.std.proofs.lemmas.Int.{ints}
 use Rattle.tla_meaning.specs.Scopes.{same_text}
-use Rattle.shape_bounds.specs.inner.Kept.{kept}
+use Rattle.shape_bounds.specs.Kept.{kept}
 use Rattle.kernel_trees.proofs.Steps.{same_text_same}
 use Rattle.kernel_shapes.proofs.JoinRight.{text_is}
 use Rattle.kernel_shapes.specs.declared.bounds.Shape.{Shape as Code}

@@ -6,7 +6,7 @@ use Rattle.kernel_shapes.specs.declared.bounds.Shape.{Shape as Code}
 use Rattle.kernel_shapes.specs.Codes.{mean}
 use Rattle.kernel_shapes.specs.Rows.{Row, Literal, no_literal, the_subsets, the_functions, a_big_union, branches_of, a_map, a_function, but_last, last_of, product_of, argument_of, insides}
 use Rattle.kernel_shapes.specs.Shape.{Shape, Set, Fun, Tup, Empty, shapes, count, inside, join, join_all}
-use Rattle.shape_bounds.specs.inner.Kept.{kept}
+use Rattle.shape_bounds.specs.Kept.{kept}
 use Rattle.shape_bounds.specs.inner.Nodes.{binder_row}
 use Rattle.shape_bounds.specs.inner.Plain.{row_of}
 use Rattle.shape_bounds.specs.inner.Table.{row_kept}

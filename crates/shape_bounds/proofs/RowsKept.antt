@@ -7,8 +7,8 @@ use Rattle.tla_values.specs.Order.{text_cmp}
 use Rattle.tla_meaning.proofs.Views.{false≢true}
 use Rattle.kernel_shapes.specs.Shape.{Shape, Atom, Num, Set, Fun, Rec, Tup, Seq, Empty, Shapes, more_shapes, shapes, count, inside, result, join, join_all, moved, over_both}
 use Rattle.kernel_shapes.specs.Rows.{Literal, no_literal, number, text, Row, row_shape, product_of, insides, put_field, in_order, record_shape, but_last, last_of, branches_of, argument_of, applied_at, quotient_shape, remainder_shape, set_of_interval, a_truth, a_number, a_sum, a_difference, a_product, a_negation, a_power, a_quotient, a_remainder, a_size, a_length, an_enumeration, a_range, a_union, a_part, a_shorter, a_big_union, the_subsets, the_functions, the_records, the_tuples, the_truths, a_map, a_function, a_choice, an_application, a_field, a_head, the_arguments, the_places, the_names, a_merge, a_single, a_record, a_tuple, a_sequence, an_append, a_concatenation}
-use Rattle.shape_bounds.specs.inner.Kept.{kept, capped, capped_items, kept_top}
-use Rattle.shape_bounds.specs.inner.Sizes.{kept_name}
+use Rattle.shape_bounds.specs.Kept.{kept, capped, capped_items, kept_top}
+use Rattle.shape_bounds.specs.Sizes.{kept_name}
 use Rattle.shape_bounds.specs.inner.Table.{row_kept}
 use Rattle.shape_bounds.proofs.Keeping.{capped_join, capped_join_all, capped_shapes, capped_inside, capped_result, kept_count, capped_item, capped_field, capped_insides, kept_products}
 use Rattle.shape_bounds.proofs.Sums.{kept_sum, kept_product, kept_max, kept_power}

@@ -4,7 +4,7 @@ use Rattle.std.proofs.lemmas.Bool.{ltb-true, ltb-false}
 use Rattle.std.proofs.Math.Nat.{le-mul_of_pos_right, one-le-pow, mul_comm, pow-suc, pow-le-pow_left, zero-mul}
 use Rattle.std.proofs.Math.Pow.{pow_mono}
 use native.Mathlib.Numerals.{unary_clauses}
-use Rattle.shape_bounds.specs.inner.Kept.{greatest_kept, kept}
+use Rattle.shape_bounds.specs.Kept.{greatest_kept, kept}
 
 cut_sum : (l a b : ℕ) → min (a + b) l ≡ min (min a l + min b l) l
 cut_sum l a b = omega arith

@@ -12,10 +12,10 @@ use Rattle.kernel_shapes.specs.Trees.{tuple_row}
 use Rattle.kernel_shapes.specs.Rows.{Literal, no_literal, insides}
 use Rattle.kernel_shapes.specs.Sized.{Position, walked, as_form, operand}
 use Rattle.shape_bounds.specs.declared.names.Names.{Names}
-use Rattle.shape_bounds.specs.inner.Kept.{IsWidth}
+use Rattle.shape_bounds.specs.Kept.{IsWidth}
 use Rattle.shape_bounds.specs.inner.Nodes.{binder_row, is_binder, is_endless, is_listed, is_product, second_of, walked_count}
 use Rattle.shape_bounds.specs.inner.Plain.{row_of, is_plain}
-use Rattle.shape_bounds.specs.inner.Sizes.{IsCounted, Sizes, SizesEach, SizesUnder}
+use Rattle.shape_bounds.specs.Sizes.{IsCounted, Sizes, SizesEach, SizesUnder}
 use Rattle.shape_bounds.specs.inner.Table.{row_kept}
 use Rattle.shape_bounds.proofs.Families.{plain_sized, product_sized, endless_sized, binder_sized, listed_sized, front_and_last, front_length}
 

@@ -3,8 +3,8 @@ ghost use Rattle.std.specs.Prelude.{◌-◌, ◌-ℤ◌, ◌≡◌, neg_ℤ, nat
 ghost use Rattle.kernel_shapes.specs.Codes.{mean};
 ghost use Rattle.kernel_shapes.specs.Rows.{quotient_shape, remainder_shape};
 ghost use Rattle.kernel_shapes.specs.Shape.{hull_of, interval, moved, over_both};
-ghost use Rattle.shape_bounds.specs.inner.Kept.{applied, kept};
-ghost use Rattle.shape_bounds.specs.inner.Kept.{IsEnds, IsWidth};
+ghost use Rattle.shape_bounds.specs.Kept.{applied, kept};
+ghost use Rattle.shape_bounds.specs.Kept.{IsEnds, IsWidth};
 
 use kernel_shapes::Shape;
 

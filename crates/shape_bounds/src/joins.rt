@@ -2,7 +2,7 @@
 ghost use Rattle.std.specs.Prelude.{◌≡◌, IfOk, map};
 ghost use Rattle.kernel_shapes.specs.Codes.{mean};
 ghost use Rattle.kernel_shapes.specs.Shape.{Num, join, join_all};
-ghost use Rattle.shape_bounds.specs.inner.Kept.{part};
+ghost use Rattle.shape_bounds.specs.Kept.{part};
 ghost use Rattle.shape_bounds.specs.inner.Joined.{IsJoined, joined_each};
 
 use crate::intervals::ends;

@@ -1,4 +1,4 @@
-//! Shapes computed: of kernel trees, of names at each level, and what is past a limit.
+//! Shapes computed: of kernel trees, and which number in them is the first past its limit.
 #![tactic(auto, using(crate::proofs::Means::means))]
 
 mod intervals;
@@ -14,3 +14,6 @@ mod records;
 mod rows;
 mod sizing;
 mod typed;
+
+pub use limits::Excess;
+pub use names::{Names, Site};

@@ -4,7 +4,7 @@ ghost use Rattle.std.specs.Cmp.Lexicographic.{slice_cmp};
 ghost use Rattle.std.specs.Ordering.{is_lt, nat_cmp};
 ghost use Rattle.kernel_shapes.specs.Codes.{mean};
 ghost use Rattle.kernel_shapes.specs.Counts.{count_at, either_rank, first_rank, most_printed, rank};
-ghost use Rattle.shape_bounds.specs.inner.Excesses.{rank_of};
+ghost use Rattle.shape_bounds.specs.Excesses.{rank_of};
 
 use kernel_shapes::Shape;
 use std::cmp::Ordering;

@@ -1,12 +1,12 @@
 // The shapes of names, and what was first past its limit.
-ghost use Rattle.std.specs.Prelude.{◌≡◌, IfOk, OnOk, map, slice_get};
+ghost use Rattle.std.specs.Prelude.{◌≡◌, [], IfOk, None, OnOk, map, slice_get};
 ghost use Rattle.tla_meaning.specs.Scopes.{find_last};
 ghost use Rattle.kernel_trees.specs.Trees.{number_name};
 ghost use Rattle.kernel_shapes.specs.Codes.{mean};
 ghost use Rattle.kernel_shapes.specs.Counts.{count_at};
 ghost use Rattle.kernel_shapes.specs.Sized.{found};
 ghost use Rattle.shape_bounds.specs.inner.Nodes.{walked_count};
-ghost use Rattle.shape_bounds.specs.inner.Sizes.{IsBound, IsCounted, bound_name, named_at, read_at, stands};
+ghost use Rattle.shape_bounds.specs.Sizes.{IsBound, IsCounted, bound_name, named_at, read_at, stands};
 
 use crate::limits::{Excess, first_of, own_excess};
 use kernel_shapes::{Shape, copy_shape};
@@ -29,14 +29,37 @@ pub enum Site {
 #[derive(Drop)]
 pub struct Names {
     pub(crate) alloc: Global,
-    pub(crate) width: u32,
-    pub(crate) state: Vec<Option<Shape>>,
-    pub(crate) next: Vec<Option<Shape>>,
-    pub(crate) bound: Vec<(u32, Shape)>,
-    pub(crate) first: Option<Excess>,
+    pub width: u32,
+    pub state: Vec<Option<Shape>>,
+    pub next: Vec<Option<Shape>>,
+    pub bound: Vec<(u32, Shape)>,
+    pub first: Option<Excess>,
 }
 
 impl Names {
+    /// The declared names have these shapes in a state of this width and in the next one; no number has one.
+    pub fn new(
+        alloc: Global,
+        width: u32,
+        state: Vec<Option<Shape>>,
+        next: Vec<Option<Shape>>,
+    ) -> Names
+        ensures width { result.width ≡ width }
+        ensures state { result.state ≡ state }
+        ensures next { result.next ≡ next }
+        ensures bound { result.bound.items ≡ [] }
+        ensures first { result.first ≡ None }
+    {
+        Names {
+            alloc,
+            width,
+            state,
+            next,
+            bound: Vec::new(alloc),
+            first: None,
+        }
+    }
+
     // A node with this shape was looked at.
     pub(crate) fn count(&mut self, place: Place, shape: &Shape)
         ensures { IsCounted self.old self.new (count_at place (mean shape.now)) }

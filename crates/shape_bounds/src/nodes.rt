@@ -5,7 +5,7 @@ ghost use Rattle.tla_values.specs.declared.value.Value.{out-Value};
 ghost use Rattle.kernel_shapes.specs.Codes.{mean};
 ghost use Rattle.kernel_shapes.specs.Rows.{a_part, argument_of, insides, no_literal};
 ghost use Rattle.kernel_shapes.specs.Shape.{Shape as Meaning, Tup, shapes};
-ghost use Rattle.shape_bounds.specs.inner.Kept.{IsWidth};
+ghost use Rattle.shape_bounds.specs.Kept.{IsWidth};
 ghost use Rattle.shape_bounds.specs.inner.Nodes.{binder_row, constant_shape, is_literal};
 ghost use Rattle.shape_bounds.specs.inner.Plain.{is_plain};
 ghost use Rattle.shape_bounds.specs.inner.Table.{literal, row_kept};

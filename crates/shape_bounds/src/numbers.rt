@@ -1,6 +1,6 @@
 // Numbers of members, arguments and places. The greatest that is kept stands for every greater one.
 ghost use Rattle.std.specs.Prelude.{◌*◌, ◌+◌, ◌^◌, ◌≡◌};
-ghost use Rattle.shape_bounds.specs.inner.Kept.{kept};
+ghost use Rattle.shape_bounds.specs.Kept.{kept};
 
 pub(crate) fn sum(a: u64, b: u64) -> u64
     ensures { result ≡ kept (a + b) }

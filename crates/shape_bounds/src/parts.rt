@@ -3,7 +3,7 @@ ghost use Rattle.std.specs.Prelude.{◌≡◌, IfOk, map};
 ghost use Rattle.kernel_shapes.specs.Codes.{mean};
 ghost use Rattle.kernel_shapes.specs.Rows.{applied_at, number};
 ghost use Rattle.kernel_shapes.specs.Shape.{Tup, count, field, inside, shapes};
-ghost use Rattle.shape_bounds.specs.inner.Kept.{given, kept, part};
+ghost use Rattle.shape_bounds.specs.Kept.{given, kept, part};
 ghost use Rattle.shape_bounds.specs.inner.Table.{literal};
 
 use kernel_shapes::{Shape, copy_shape};

@@ -4,7 +4,7 @@ ghost use Rattle.std.specs.Ordering.{is_lt};
 ghost use Rattle.tla_values.specs.Order.{text_cmp};
 ghost use Rattle.kernel_shapes.specs.Codes.{mean};
 ghost use Rattle.kernel_shapes.specs.Rows.{a_record, insides, no_literal, product_of, put_field, the_records, the_tuples};
-ghost use Rattle.shape_bounds.specs.inner.Kept.{kept};
+ghost use Rattle.shape_bounds.specs.Kept.{kept};
 ghost use Rattle.shape_bounds.specs.inner.Table.{IsPlace, fields_of, row_kept};
 
 use crate::making::set;

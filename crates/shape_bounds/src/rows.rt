@@ -2,7 +2,7 @@
 ghost use Rattle.std.specs.Prelude.{ℕ, [], ◌+◌, ◌-ℤ◌, ◌∷◌, ◌≡◌, IfOk, if◌then◌else◌, int_le, map, nat_abs};
 ghost use Rattle.kernel_shapes.specs.Codes.{mean};
 ghost use Rattle.kernel_shapes.specs.Rows.{a_big_union, a_choice, a_head, a_merge, a_shorter, an_application, an_enumeration, no_literal, set_of_interval, the_functions, the_subsets};
-ghost use Rattle.shape_bounds.specs.inner.Kept.{IsWidth, kept, kept_top};
+ghost use Rattle.shape_bounds.specs.Kept.{IsWidth, kept, kept_top};
 ghost use Rattle.shape_bounds.specs.inner.Plain.{row_of};
 ghost use Rattle.shape_bounds.specs.inner.Table.{literal, row_kept};
 

@@ -5,9 +5,9 @@ ghost use Rattle.kernel_trees.specs.declared.kernel.KerOp.TheVariants as ker;
 ghost use Rattle.kernel_shapes.specs.Kernel.{ker_sized};
 ghost use Rattle.kernel_shapes.specs.Codes.{mean};
 ghost use Rattle.kernel_shapes.specs.Sized.{Position, operand};
-ghost use Rattle.shape_bounds.specs.inner.Kept.{IsWidth};
+ghost use Rattle.shape_bounds.specs.Kept.{IsWidth};
 ghost use Rattle.shape_bounds.specs.inner.Nodes.{is_binder, is_endless, is_listed, is_membership, is_product, second_of, subset_operand};
-ghost use Rattle.shape_bounds.specs.inner.Sizes.{Sizes, SizesEach, stands};
+ghost use Rattle.shape_bounds.specs.Sizes.{Sizes, SizesEach, stands};
 ghost use Rattle.shape_bounds.specs.inner.Table.{literal};
 
 use crate::names::{Names, Site};
@@ -21,9 +21,15 @@ use kernel_trees::{Ker, KerOp};
 use std::alloc::AllocError;
 
 impl Names {
-    // The shape of a tree. Each node's number is held against its limit.
+    /// The shape of a kernel tree where names have these shapes, in numbers of members up to 2^64 - 1, which stands for all
+    /// greater ones; and in `first` the one that comes first of the numbers past their limits, of this tree and of those
+    /// looked at before. (Konnov, Kukovec and Tran, "TLA+ Model Checking Made Symbolic", OOPSLA 2019, on static bounds of
+    /// cells.)
+    ///
+    /// Want of memory stands also for a tree that is not sound, and for one with an update or a fold, which are not
+    /// computed.
     #[cycle(size)]
-    pub(crate) fn size(&mut self, k: &Ker, at: Site) -> Result<Shape, AllocError>
+    pub fn size(&mut self, k: &Ker, at: Site) -> Result<Shape, AllocError>
         requires sized { IsWidth self.old.width }
         ensures { IfOk result (λ r.
             Sizes self.old self.new (ker_sized self.old.width k.now) (stands at) r) }

@@ -6,7 +6,7 @@ ghost use Rattle.kernel_shapes.specs.Kernel.{kind_or_truth};
 ghost use Rattle.kernel_shapes.specs.Rows.{a_sequence, no_literal, the_places};
 ghost use Rattle.kernel_shapes.specs.Trees.{domain_row, tuple_row};
 ghost use Rattle.shape_bounds.specs.inner.Forms.{domain_by, items_by};
-ghost use Rattle.shape_bounds.specs.inner.Kept.{IsWidth};
+ghost use Rattle.shape_bounds.specs.Kept.{IsWidth};
 ghost use Rattle.shape_bounds.specs.inner.Table.{row_kept};
 
 use crate::intervals::interval;

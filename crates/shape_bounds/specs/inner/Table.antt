@@ -4,7 +4,7 @@ use Rattle.std.specs.Prelude.{ℕ, ◌≡◌, ◌≤◌, length, List, ◌∷◌
 use Rattle.kernel_shapes.specs.declared.bounds.Shape.{Shape as Field}
 use Rattle.kernel_shapes.specs.Codes.{mean}
 use Rattle.kernel_shapes.specs.Shape.{Shape}
-use Rattle.shape_bounds.specs.inner.Kept.{kept_row}
+use Rattle.shape_bounds.specs.Kept.{kept_row}
 use Rattle.shape_bounds.specs.declared.parts.Literal.{Literal as Code}
 use Rattle.shape_bounds.specs.declared.parts.Literal.TheVariants as code
 

@@ -2,7 +2,7 @@ use Rattle.std.proofs.Common.{ap, ap₂, ◌∙◌, sym}
 use Rattle.std.proofs.lemmas.Int.{to_z-of_z}
 use mir.Syntax.{w128}
 use Rattle.kernel_shapes.specs.Shape.{moved}
-use Rattle.shape_bounds.specs.inner.Kept.{applied}
+use Rattle.shape_bounds.specs.Kept.{applied}
 use Rattle.shape_bounds.specs.declared.intervals.Arithmetic.TheVariants as arithmetic
 use Rattle.shape_bounds.proofs.Ends.{moved_saturated}
 use Rattle.shape_bounds.proofs.intervals.end.Goals as goal

@@ -3,7 +3,7 @@ use Rattle.std.proofs.Math.Seq.{take-length}
 use Rattle.tla_meaning.specs.Scopes.{find_last}
 use Rattle.kernel_trees.specs.Trees.{number_name}
 use Rattle.kernel_shapes.specs.Sized.{found}
-use Rattle.shape_bounds.specs.inner.Sizes.{bound_name}
+use Rattle.shape_bounds.specs.Sizes.{bound_name}
 use Rattle.shape_bounds.proofs.Bounds.{bound_hit, bound_miss}
 use Rattle.shape_bounds.proofs.Means.{mean-Empty}
 use Rattle.shape_bounds.proofs.Rowed.{ok_copy}

@@ -1,7 +1,7 @@
 use Rattle.std.proofs.Common.{◌≡◌, map, take}
 use Rattle.tla_meaning.specs.Scopes.{find_last}
 use Rattle.kernel_trees.specs.Trees.{number_name}
-use Rattle.shape_bounds.specs.inner.Sizes.{bound_name}
+use Rattle.shape_bounds.specs.Sizes.{bound_name}
 use Rattle.shape_bounds.proofs.names.last_bound.Given as goal
 
 abbrev pub invariant-loop-i : goal.invariant-loop-i

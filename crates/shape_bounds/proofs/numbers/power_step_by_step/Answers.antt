@@ -1,5 +1,5 @@
 use Rattle.std.proofs.Common.{◌≡◌, ◌*◌, ◌^◌, ◌∙◌, ap, arith}
-use Rattle.shape_bounds.specs.inner.Kept.{kept}
+use Rattle.shape_bounds.specs.Kept.{kept}
 use Rattle.shape_bounds.proofs.Sums.{kept_more}
 use Rattle.shape_bounds.proofs.numbers.power_step_by_step.Goals as goal
 

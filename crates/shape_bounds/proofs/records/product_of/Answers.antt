@@ -1,7 +1,7 @@
 use Rattle.std.proofs.Common.{◌≡◌, ◌∙◌, ◌-◌, ◌*◌, suc, sym, ap, map, drop, arith}
 use Rattle.kernel_shapes.specs.Codes.{mean}
 use Rattle.kernel_shapes.specs.Rows.{product_of}
-use Rattle.shape_bounds.specs.inner.Kept.{kept}
+use Rattle.shape_bounds.specs.Kept.{kept}
 use Rattle.shape_bounds.proofs.Fielded.{product_more, nothing_left}
 use Rattle.shape_bounds.proofs.records.product_of.Goals as goal
 

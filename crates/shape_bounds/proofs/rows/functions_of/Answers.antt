@@ -1,7 +1,7 @@
 use Rattle.std.proofs.Common.{◌≡◌, ◌∙◌, ◌^◌, ap, arith, max}
 use Rattle.kernel_shapes.specs.Codes.{mean}
 use Rattle.kernel_shapes.specs.Shape.{Set}
-use Rattle.shape_bounds.specs.inner.Kept.{kept}
+use Rattle.shape_bounds.specs.Kept.{kept}
 use Rattle.shape_bounds.proofs.Rowed.{functions_kept, ok_each}
 use Rattle.shape_bounds.proofs.rows.functions_of.Goals as goal
 

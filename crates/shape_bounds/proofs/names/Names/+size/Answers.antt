@@ -5,7 +5,7 @@ use mir.Syntax.{w128}
 use Rattle.kernel_shapes.specs.Codes.{mean}
 use Rattle.kernel_shapes.specs.Rows.{applied_at, number}
 use Rattle.kernel_shapes.specs.Kernel.{ker_sized}
-use Rattle.shape_bounds.specs.inner.Sizes.{stands}
+use Rattle.shape_bounds.specs.Sizes.{stands}
 use Rattle.shape_bounds.proofs.Families.{any_site, constant_sized, domain_sized, each_next, functions_sized, item_sized, member_sized, no_case_sized, one_child, range_sized, subsets_sized, two_children, two_first, under_sized}
 use Rattle.shape_bounds.proofs.Visits.{binder_visited, endless_visited, listed_visited, plain_visited, product_visited}
 use Rattle.shape_bounds.proofs.names.Names.+size.Goals as goal

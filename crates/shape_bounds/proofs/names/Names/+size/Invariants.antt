@@ -1,6 +1,6 @@
 use Rattle.std.proofs.Common.{map, take}
 use Rattle.kernel_shapes.specs.Kernel.{ker_sized}
-use Rattle.shape_bounds.specs.inner.Sizes.{SizesEach, stands}
+use Rattle.shape_bounds.specs.Sizes.{SizesEach, stands}
 use Rattle.shape_bounds.proofs.names.Names.+size.Given as goal
 
 abbrev pub invariant-sizes-loop-i : goal.invariant-sizes-loop-i

@@ -1,6 +1,6 @@
 use Rattle.std.proofs.Common.{map, take}
 use Rattle.kernel_shapes.specs.Codes.{mean}
-use Rattle.shape_bounds.specs.inner.Sizes.{IsBound}
+use Rattle.shape_bounds.specs.Sizes.{IsBound}
 use Rattle.shape_bounds.proofs.names.Names.bind.Given as goal
 
 abbrev pub invariant-loop-i : goal.invariant-loop-i

@@ -9,8 +9,8 @@ use Rattle.kernel_shapes.specs.Sized.{Extent, Position, Sized, Sizing, bind_shap
 use Rattle.shape_bounds.specs.declared.names.Names.{Names}
 use Rattle.shape_bounds.specs.declared.names.Site.{Site}
 use Rattle.shape_bounds.specs.declared.names.Site.TheVariants as site
-use Rattle.shape_bounds.specs.inner.Excesses.{rank_of}
-use Rattle.shape_bounds.specs.inner.Kept.{capped}
+use Rattle.shape_bounds.specs.Excesses.{rank_of}
+use Rattle.shape_bounds.specs.Kept.{capped}
 
 abbrev pub stands : Site → Position
 stands site.Walked = walked
