@@ -1,0 +1,5 @@
+-- The definitions of the crate.
+pub mod Kept
+pub mod Excesses
+pub mod Sizes
+pub mod inner
