@@ -2,6 +2,7 @@
 ghost use Rattle.std.specs.Prelude.{◌≡◌, ◌<◌, length, IfOk, OnOk, IsTrue};
 ghost use Rattle.watch_chains.specs.Watches.{list_at, IsSlot, IsAbsent, IsFollowed};
 
+use crate::passing::passes;
 use std::alloc::{AllocError, Global};
 use std::test::Fail;
 use watch_chains::{Link, WatchChains};
@@ -49,8 +50,46 @@ fn before(list: &[Link], at: usize) -> Option<Link>
     if at == 0 { None } else { Some(list[at - 1]) }
 }
 
-// Links a free link, and otherwise unlinks what stands at the place, if there is something. It answers
-// whether that was taken out.
+// Links a free link in both.
+fn link(
+    chains: &mut WatchChains,
+    plain: &mut Vec<(usize, Link)>,
+    code: usize,
+    l: Link,
+) -> Result<(), AllocError>
+    requires code { code < length chains.old.lists }
+    requires slot { IsSlot chains.old.room l }
+    requires absent { IsAbsent chains.old.lists l }
+    ensures codes { length chains.new.lists ≡ length chains.old.lists }
+    ensures room { chains.new.room ≡ chains.old.room }
+{
+    chains.link(code, l);
+    plain.insert(0, (code, l))?;
+    Ok(())
+}
+
+// Takes what stands at the place out of both, if there is something. It answers whether that was taken out.
+fn take_out(
+    alloc: Global,
+    chains: &mut WatchChains,
+    plain: &mut Vec<(usize, Link)>,
+    code: usize,
+    at: usize,
+) -> Result<bool, AllocError>
+    requires code { code < length chains.old.lists }
+    ensures codes { length chains.new.lists ≡ length chains.old.lists }
+    ensures room { chains.new.room ≡ chains.old.room }
+{
+    let list = contents(alloc, chains, code)?;
+    if at >= list.len() {
+        return Ok(true);
+    }
+    let taken = chains.unlink(code, before(&list, at));
+    plain.retain(|(_, link)| *link != taken);
+    Ok(taken == list[at])
+}
+
+// Links a free link, and otherwise takes out what stands at the place.
 fn apply(
     alloc: Global,
     chains: &mut WatchChains,
@@ -67,17 +106,10 @@ fn apply(
     ensures room { chains.new.room ≡ chains.old.room }
 {
     if is_free(alloc, chains, codes, l)? {
-        chains.link(code, l);
-        plain.insert(0, (code, l))?;
+        link(chains, plain, code, l)?;
         return Ok(true);
     }
-    let list = contents(alloc, chains, code)?;
-    if at >= list.len() {
-        return Ok(true);
-    }
-    let taken = chains.unlink(code, before(&list, at));
-    plain.retain(|(_, link)| *link != taken);
-    Ok(taken == list[at])
+    take_out(alloc, chains, plain, code, at)
 }
 
 // Whether the list has the links of the code in the plain list.
@@ -91,6 +123,17 @@ fn agrees(list: &[Link], plain: &[(usize, Link)], code: usize) -> bool {
     rest.next().is_none()
 }
 
+fn agrees_at(
+    alloc: Global,
+    chains: &WatchChains,
+    plain: &[(usize, Link)],
+    code: usize,
+) -> Result<bool, AllocError>
+    requires { code < length chains.now.lists }
+{
+    Ok(agrees(&contents(alloc, chains, code)?, plain, code))
+}
+
 // Whether each list has the links of its code in the plain list.
 fn all_agree(
     alloc: Global,
@@ -101,36 +144,45 @@ fn all_agree(
     requires { codes ≡ length chains.now.lists }
 {
     for code in 0..codes {
-        let list = contents(alloc, chains, code)?;
-        if !agrees(&list, plain, code) {
+        if !agrees_at(alloc, chains, plain, code)? {
             return Ok(false);
         }
     }
     Ok(true)
 }
 
-// Links or takes out each link in turn, in the list of 5, as `apply` does: the first step after which the list has other
-// links than these, or another list has some.
-fn first_wrong(
+fn has_links(
+    alloc: Global,
+    chains: &WatchChains,
+    code: usize,
+    links: &[Link],
+) -> Result<bool, AllocError>
+    requires { code < length chains.now.lists }
+{
+    Ok(contents(alloc, chains, code)?.as_slice() == links)
+}
+
+// Links or takes out each link in turn, in the list of 5, as `apply` does: how many steps come before the first after
+// which the list has other links than these, or another list has some.
+fn count_right(
     alloc: Global,
     chains: &mut WatchChains,
     plain: &mut Vec<(usize, Link)>,
     steps: &[(Link, usize, &[Link])],
-) -> Result<Option<usize>, AllocError>
+) -> Result<usize, AllocError>
     requires codes { length chains.old.lists ≡ 6 }
     requires room { chains.old.room ≡ 3 }
 {
     'steps: for i in 0..steps.len() {
         let (l, at, expected) = steps[i];
         if l.clause >= 3 || l.slot >= 2 || !apply(alloc, chains, plain, 6, 5, l, at)? {
-            return Ok(Some(i));
+            return Ok(i);
         }
-        let list = contents(alloc, chains, 5)?;
-        if list.as_slice() != expected || !all_agree(alloc, chains, plain, 6)? {
-            return Ok(Some(i));
+        if !has_links(alloc, chains, 5, expected)? || !all_agree(alloc, chains, plain, 6)? {
+            return Ok(i);
         }
     }
-    Ok(None)
+    Ok(steps.len())
 }
 
 const C0: Link = Link { clause: 0, slot: 0 };
@@ -140,7 +192,7 @@ const C1: Link = Link { clause: 1, slot: 1 };
 const C2: Link = Link { clause: 2, slot: 0 };
 
 // The link to link, or the place to take out, and the list afterwards.
-const STEPS: [(Link, usize, &[Link]); 6] = [
+static STEPS: [(Link, usize, &[Link]); 6] = [
     (C0, 0, &[C0]),
     (C1, 0, &[C1, C0]),
     (C2, 0, &[C2, C1, C0]),
@@ -149,13 +201,14 @@ const STEPS: [(Link, usize, &[Link]); 6] = [
     (C2, 0, &[]),
 ];
 
+fn count_steps(alloc: Global) -> Result<usize, AllocError> {
+    let mut chains = made(alloc, 6, 3)?;
+    count_right(alloc, &mut chains, &mut Vec::new(alloc), &STEPS)
+}
+
 #[test]
 fn links_go_to_the_front_and_come_out_behind_another(rt: HostRuntime) -> Result<(), Fail> {
-    let mut chains = made(rt.alloc(), 6, 3)?;
-    let mut plain = Vec::new(rt.alloc());
-    let wrong = first_wrong(rt.alloc(), &mut chains, &mut plain, &STEPS)?;
-    assert_eq!(rt; wrong, None);
-    Ok(())
+    passes(&rt, count_steps(rt.alloc()), 6)
 }
 
 // The next number of a pseudo-random sequence.
@@ -166,13 +219,13 @@ fn draw(state: &mut u64) -> usize {
     (*state >> 33) as usize
 }
 
-// The first of so many random calls after which the chains and the plain list differ.
-fn first_difference(
+// How many of so many random calls there are before the first after which the chains and the plain list differ.
+fn count_alike(
     alloc: Global,
     chains: &mut WatchChains,
     plain: &mut Vec<(usize, Link)>,
-    count: u64,
-) -> Result<Option<u64>, AllocError>
+    count: usize,
+) -> Result<usize, AllocError>
     requires codes { length chains.old.lists ≡ 3 }
     requires room { chains.old.room ≡ 6 }
 {
@@ -184,17 +237,18 @@ fn first_difference(
         let at = draw(&mut state) % 5;
         let right = apply(alloc, chains, plain, 3, code, Link { clause, slot }, at)?;
         if !right || !all_agree(alloc, chains, plain, 3)? {
-            return Ok(Some(call));
+            return Ok(call);
         }
     }
-    Ok(None)
+    Ok(count)
+}
+
+fn count_calls(alloc: Global, count: usize) -> Result<usize, AllocError> {
+    let mut chains = made(alloc, 3, 6)?;
+    count_alike(alloc, &mut chains, &mut Vec::new(alloc), count)
 }
 
 #[test]
 fn thousands_of_random_calls_agree_with_a_plain_list(rt: HostRuntime) -> Result<(), Fail> {
-    let mut chains = made(rt.alloc(), 3, 6)?;
-    let mut plain = Vec::new(rt.alloc());
-    let difference = first_difference(rt.alloc(), &mut chains, &mut plain, 4000)?;
-    assert_eq!(rt; difference, None);
-    Ok(())
+    passes(&rt, count_calls(rt.alloc(), 4000), 4000)
 }

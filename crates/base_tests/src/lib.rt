@@ -10,6 +10,8 @@ mod meaning;
 #[cfg(test)]
 mod outside;
 #[cfg(test)]
+mod passing;
+#[cfg(test)]
 mod queue;
 #[cfg(test)]
 mod values;

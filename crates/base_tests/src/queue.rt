@@ -3,11 +3,12 @@ ghost use Rattle.std.specs.Prelude.{◌≡◌, IfOk, OnOk};
 ghost use Rattle.std.specs.List.{range_with_len};
 ghost use Rattle.decision_queue.specs.Queue.{without};
 
+use crate::passing::passes;
 use decision_queue::DecisionQueue;
 use std::alloc::{AllocError, Global};
 use std::test::Fail;
 
-#[derive(Clone, Copy)]
+#[derive(Drop, Clone, Copy)]
 enum Call {
     Unlink,
     Relink,
@@ -114,48 +115,80 @@ fn drawn_call(state: &mut u64) -> Call {
     }
 }
 
+// The calls on a queue of 0, 1 and 2, and what it has then.
+static ROWS: [(&[(Call, usize)], &[usize]); 4] = [
+    (&[], &[0, 1, 2]),
+    (&[(Call::Unlink, 0), (Call::Unlink, 2)], &[1]),
+    (
+        &[(Call::Unlink, 0), (Call::Unlink, 2), (Call::Relink, 0)],
+        &[0, 1],
+    ),
+    (
+        &[
+            (Call::Unlink, 0),
+            (Call::Unlink, 2),
+            (Call::Relink, 0),
+            (Call::Bump, 1),
+        ],
+        &[1, 0],
+    ),
+];
+
+fn leaves(alloc: Global, calls: &[(Call, usize)], expected: &[usize]) -> Result<bool, AllocError> {
+    let mut queue = queue_after(alloc, 3, calls)?;
+    Ok(drains_as(&mut queue, expected))
+}
+
+// How many rows are right before the first that is wrong.
+fn count_right(alloc: Global) -> Result<usize, AllocError> {
+    for (i, (calls, expected)) in ROWS.iter().enumerate() {
+        if !leaves(alloc, *calls, *expected)? {
+            return Ok(i);
+        }
+    }
+    Ok(ROWS.len())
+}
+
 #[test]
 fn calls_move_numbers_to_the_front_and_out(rt: HostRuntime) -> Result<(), Fail> {
-    let calls = [
-        (Call::Unlink, 0),
-        (Call::Unlink, 2),
-        (Call::Relink, 0),
-        (Call::Bump, 1),
-    ];
-    let rows: [(&[(Call, usize)], &[usize]); 4] = [
-        (&[], &[0, 1, 2]),
-        (&calls[..2], &[1]),
-        (&calls[..3], &[0, 1]),
-        (&calls, &[1, 0]),
-    ];
-    for (made, expected) in rows {
-        let mut queue = queue_after(rt.alloc(), 3, made)?;
-        assert!(rt;
-            drains_as(&mut queue, expected),
-            "after {} calls",
-            made.len()
-        );
+    passes(&rt, count_right(rt.alloc()), 4)
+}
+
+// How many of so many random calls there are before the first after which the queue and the plain list begin with other
+// numbers.
+fn count_alike(
+    alloc: Global,
+    queue: &mut DecisionQueue,
+    plain: &mut Vec<usize>,
+    count: usize,
+) -> Result<usize, AllocError>
+    requires same { plain.old.items ≡ queue.old.items }
+    requires room { queue.old.room ≡ 12 }
+{
+    let mut state = 1;
+    'calls: for call in 0..count {
+        let v = draw(&mut state) % 12;
+        apply(alloc, queue, plain, 12, drawn_call(&mut state), v)?;
+        if queue.first() != plain.first().copied() {
+            return Ok(call);
+        }
     }
-    Ok(())
+    Ok(count)
+}
+
+// The same, and none if other numbers are left at the end.
+fn count_calls(alloc: Global) -> Result<usize, AllocError> {
+    let mut queue = DecisionQueue::new(alloc, 12)?;
+    let mut plain = numbers(alloc, 12)?;
+    let alike = count_alike(alloc, &mut queue, &mut plain, 5000)?;
+    if drains_as(&mut queue, &plain) {
+        Ok(alike)
+    } else {
+        Ok(0)
+    }
 }
 
 #[test]
 fn thousands_of_random_calls_agree_with_a_plain_list(rt: HostRuntime) -> Result<(), Fail> {
-    let mut queue = DecisionQueue::new(rt.alloc(), 12)?;
-    let mut plain = numbers(rt.alloc(), 12)?;
-    let mut state = 1;
-    'calls: for call in 0..5000 {
-        let v = draw(&mut state) % 12;
-        apply(
-            rt.alloc(),
-            &mut queue,
-            &mut plain,
-            12,
-            drawn_call(&mut state),
-            v,
-        )?;
-        assert!(rt; queue.first() == plain.first().copied(), "at call {call}");
-    }
-    assert!(rt; drains_as(&mut queue, &plain));
-    Ok(())
+    passes(&rt, count_calls(rt.alloc()), 5000)
 }

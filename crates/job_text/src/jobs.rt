@@ -12,6 +12,10 @@ struct Front {
 }
 
 fn add_name(alloc: Global, entry: &str, names: &mut Vec<Decl>) -> Result<(), AllocError> {
+    let (entry, constant) = match entry.strip_prefix("constant ") {
+        Some(entry) => (entry, true),
+        None => (entry, false),
+    };
     let (name, note) = match entry.split_once(": ") {
         Some((name, t)) => (name, format!(in alloc; " @type: {t};")?),
         None => (entry, String::new(alloc)),
@@ -20,7 +24,7 @@ fn add_name(alloc: Global, entry: &str, names: &mut Vec<Decl>) -> Result<(), All
     names.push(Decl {
         name: text_of(alloc, name.as_bytes())?,
         place: place(number(column.as_bytes())),
-        constant: false,
+        constant,
         note: text_of(alloc, note.as_bytes())?,
     })?;
     Ok(())

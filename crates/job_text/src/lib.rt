@@ -5,9 +5,9 @@
 //! bound, the fields of a record, the numbers of an EXCEPT's indexes, or the text of a note. `x`, `y` and `z` are the
 //! declared names in order and `x'` is a primed one; every other name is a bound one, and `@` that of EXCEPT.
 //!
-//! What is declared is written `x: T`, `x@4: T` with the column of its place, or `x` without an annotation, and `$a = T`
-//! for an alias, with `; ` between them. Trees are the last of CInit, the assumptions, Init, Next and the invariants; the
-//! others are TRUE.
+//! What is declared is written `x: T`, `x@4: T` with the column of its place, or `x` without an annotation, with
+//! `constant ` in front of a constant, and `$a = T` for an alias, with `; ` between them. Trees are the last of CInit,
+//! the assumptions, Init, Next and the invariants; the others are TRUE.
 #![tactic(auto)]
 
 mod jobs;

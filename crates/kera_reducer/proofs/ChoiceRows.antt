@@ -60,7 +60,7 @@ type_form (layer.Tup as') = tup
 type_form (layer.Rec fs k) = rec
 type_form (layer.Oper as' b) = other
 
-form_at : (o : layer.Ty-F Ty) (a : Kind) → kind_layer (map-Ty Ty (Option Kind) kind_of o) ≡ Some a →
+pub form_at : (o : layer.Ty-F Ty) (a : Kind) → kind_layer (map-Ty Ty (Option Kind) kind_of o) ≡ Some a →
     type_form o ≡ kind_form a
 form_at layer.Bool a q = ap kind_form (some_same q)
 form_at layer.Int a q = ap kind_form (some_same q)

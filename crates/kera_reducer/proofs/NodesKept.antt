@@ -23,7 +23,7 @@ use Rattle.kera_reducer.proofs.Basics.{or_left, or_right}
 use Rattle.kera_reducer.proofs.RowNodes.{AllArms, AllChanges, AllFree, AllLevels, Free, FreeOther, append_free, changed_free, equivalence_free, except_let_free, guard_free, implication_free, item_let_free, large_power_free, made, negation_free, nested_free, number_free, single_free, small_power_free, split_free, truth_free}
 
 module _ (P : Place → Bool) (T : List ℕ → Bool) where
-  node-roll : (x : Expr-F Expr) → has_node P T (roll-Expr x) ≡ ((P x.place || is_text_op T x.op) || list_any (λ b. b) (map (has_node P T) x.args))
+  pub node-roll : (x : Expr-F Expr) → has_node P T (roll-Expr x) ≡ ((P x.place || is_text_op T x.op) || list_any (λ b. b) (map (has_node P T) x.args))
   unfolding has_node
   node-roll x = fold-roll-Expr Bool (λ x. (P x.place || is_text_op T x.op) || list_any (λ b. b) x.args) x
 

@@ -13,10 +13,10 @@ use Rattle.tla_meaning.specs.declared.expr.Expr.TheFolds.{fold-roll-Expr}
 use Rattle.kera_reducer.specs.Literals.{each_once, literal_here, literals_in}
 use Rattle.kera_reducer.proofs.Listing.{take_more}
 
-same_is : (x y : List ℕ) → same_text x y ≡ true → x ≡ y
+pub same_is : (x y : List ℕ) → same_text x y ≡ true → x ≡ y
 same_is x y e = (bytes_eq-Decides x y).0 (sym (is_eq-slice_cmp x y) ∙ e)
 
-same_itself : (x y : List ℕ) → x ≡ y → same_text x y ≡ true
+pub same_itself : (x y : List ℕ) → x ≡ y → same_text x y ≡ true
 same_itself x y e = is_eq-slice_cmp x y ∙ (bytes_eq-Decides x y).1 e
 
 turned : (x y : List ℕ) → same_text x y ≡ false → same_text y x ≡ false
@@ -27,7 +27,7 @@ turned x y e = by (same_text y x) refl
     by false f = f
 
 -- texts that are not y
-others : List ℕ → List (List ℕ) → List (List ℕ)
+unfoldable pub others : List ℕ → List (List ℕ) → List (List ℕ)
 others y es = filter (λ z. not (same_text y z)) es
 
 -- another text is among them if it was before
@@ -38,7 +38,7 @@ module _ (x y : List ℕ) (e : same_text x y ≡ false) where
   among_step z es true f h = h ∙ ap (λ b. b || list_any (same_text x) es) (sym e ∙ ap (same_text x) (same_is y z f))
   among_step z es false f h = ap (λ b. same_text x z || b) h
 
-  among_others : (es : List (List ℕ)) → list_any (same_text x) (others y es) ≡ list_any (same_text x) es
+  pub among_others : (es : List (List ℕ)) → list_any (same_text x) (others y es) ≡ list_any (same_text x) es
   unfolding others
   among_others [] = refl
   among_others (z ∷ es) = among_step z es (same_text y z) refl (among_others es)

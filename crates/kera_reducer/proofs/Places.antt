@@ -124,7 +124,7 @@ all_end : (es : List Expr) (e : Expr) → all_infinite (es ++ e ∷ []) ≡ all_
 all_end [] e = append-nil (infinite_in e false)
 all_end (a ∷ es) e = ap (λ qs. infinite_in a false ++ qs) (all_end es e) ∙ sym (append_assoc (infinite_in a false) (all_infinite es) (infinite_in e false))
 
-named_end : (vs : List (List ℕ × Expr)) (v : List ℕ × Expr) → map (λ v. v.1) (vs ++ v ∷ []) ≡ map (λ v. v.1) vs ++ v.1 ∷ []
+pub named_end : (vs : List (List ℕ × Expr)) (v : List ℕ × Expr) → map (λ v. v.1) (vs ++ v ∷ []) ≡ map (λ v. v.1) vs ++ v.1 ∷ []
 named_end [] v = refl
 named_end (a ∷ vs) v = ap (λ (es : List Expr). a.1 ∷ es) (named_end vs v)
 

@@ -1,6 +1,7 @@
 -- What is built with types binds no number again.
-use Rattle.std.proofs.Common.{◌≡◌, ℕ, zero, suc, Bool, true, false, not, ◌&&◌, ◌||◌, List, [], ◌∷◌, ◌++◌, replicate, drop, length, refl, sym, ◌∙◌, ap, subst, Option}
+use Rattle.std.proofs.Common.{◌≡◌, ℕ, zero, suc, Bool, true, false, not, ◌&&◌, ◌||◌, List, [], ◌∷◌, ◌++◌, map, replicate, drop, length, refl, sym, ◌∙◌, ap, subst, Option}
 use Rattle.std.specs.Prelude.{nat_eq}
+use Rattle.std.specs.List.{list_all}
 use Rattle.tla_values.specs.declared.value.Value.TheVariants as value
 use Rattle.tla_meaning.specs.declared.actions.Assignable.{Assignable}
 use Rattle.tla_meaning.specs.declared.expr.Expr.{Expr}
@@ -24,16 +25,19 @@ use Rattle.kera_reducer.specs.Infinite.{form_child}
 use Rattle.kera_reducer.specs.Whole.{nowhere, operand_count}
 use Rattle.kera_reducer.specs.Builds.{is_same, is_binder}
 use Rattle.kera_reducer.specs.BuildsTyped as typed
-use Rattle.kera_reducer.specs.BuildsTyped.{BuildsTyped, EachTyped, ArmsTyped, TypedNode}
-use Rattle.kera_reducer.specs.Making.{let_of}
-use Rattle.kera_reducer.specs.Rows.{tree, node, number, truth, pair, Let, single, named_first, named_second}
+use Rattle.kera_reducer.specs.BuildsTyped.{BuildsTyped, EachTyped, ArmsTyped, PathTyped, ChangesTyped, TypedNode}
+use Rattle.kera_reducer.specs.Making.{let_of, pairs_type}
+use Rattle.kera_reducer.specs.Rows.{tree, node, number, truth, pair, Let, single, named_first, named_second, is_plain, Level, Change, all_levels, indexes, all_plain, is_nil, read_levels, read_changes}
 use Rattle.kera_reducer.proofs.Tying.{not_true, names_apart}
 use Rattle.kera_reducer.proofs.KindTies.{apart_turned}
 use Rattle.kera_reducer.proofs.BuiltParts.{Fine, AllFine, NodeFine, fine_at, fine_take}
 use Rattle.kera_reducer.proofs.Lengths.{more_than, take_long, drop_long, sets_long, joined_long, fresh_long, none_long, some_long}
 use Rattle.kera_reducer.proofs.BuiltParts.{less}
 use Rattle.kera_reducer.proofs.NodeRows.{over_is}
-use Rattle.kera_reducer.proofs.ScopedMade.{In, AllIn, node_in, constant_in, bound_in, binder_in, fold_in, negation_in, implication_in, NewLet, inside, named_in, let_is_in, pair_in, item_in, first_in, second_in, equivalence_in, item_by_let_in, small_power_in, large_power_in, nested_in, guard_in, ArmsIn, split_in, Covers, cover_all, all_outside, all_differ}
+use Rattle.kera_reducer.proofs.ScopedMade.{In, AllIn, node_in, constant_in, bound_in, binder_in, fold_in, negation_in, implication_in, NewLet, inside, named_in, let_is_in, pair_in, item_in, or_true, first_in, second_in, equivalence_in, item_by_let_in, small_power_in, large_power_in, nested_in, guard_in, ArmsIn, split_in, Covers, cover_all, all_outside, all_differ}
+use Rattle.kera_reducer.proofs.PathNumbers.{under, new_front, new_behind, numbers_of, path_new, two_new}
+use Rattle.kera_reducer.proofs.ScopedExcepts.{one_in, PathIn, ChangesIn, changed_in, IndexesIn, indexes_plus, LiteralsIn, Readable, read_readable, indexes_of, plain_readable, first_plain, later_plain, PathCovers, covers_plain, covers_let, covers_more, covers_path, except_by_let_in}
+use Rattle.kera_reducer.proofs.LiteralScoped.{literal_scoped}
 
 -- ---- rows that bind a number
 
@@ -136,6 +140,26 @@ each_long : {i : Option Assignable} {ρ : Numbering} {es : List Expr} {ts : List
 each_long (typed.none_left i ρ ts) = refl
 each_long (typed.one_more i ρ e k es ks ts us vs d ds) = ap suc (each_long ds)
 
+-- ---- paths of an EXCEPT
+
+path_literals : {ρ : Numbering} {x ns : List ℕ} {n : ℕ} {es : List Expr} {ts : List Ty} {ls : List Level} {k : Ker}
+    {us : List Ty} → PathTyped ρ x ns n es ts ls k us → LiteralsIn ls
+path_literals (typed.right_side ρ x ns e k ts us f d) = tt
+path_literals (typed.one_level ρ x ns n e es l ls k ts us vs d1 d2) = (λ h C. literal_scoped d1 h C, path_literals d2)
+
+-- a path has a level
+tail_plain : {ρ : Numbering} {x ns : List ℕ} {n : ℕ} {es : List Expr} {ts : List Ty} {ls : List Level} {k : Ker}
+    {us : List Ty} → PathTyped ρ x ns (suc n) es ts ls k us → (ms : List Level) →
+    all_plain (indexes_of (ls ++ ms)) ≡ true →
+    (all_plain (indexes_of ls) ≡ true) × (list_all is_plain (indexes_of ms) ≡ true)
+tail_plain (typed.one_level ρ x ns n e es l ls k ts us vs d1 d2) ms h = first_plain l ls ms h
+
+next_new : {ρ : Numbering} {x : List ℕ} {n : ℕ} {es : List Expr} {ts : List Ty} {ls : List Level} {k : Ker}
+    {us : List Ty} (ns : List ℕ) (m : ℕ) → PathTyped ρ x (ns ++ m ∷ []) n es ts ls k us → fresh m (under x ns ρ) ≡ true
+next_new {ρ = ρ} {x = x} {ls = ls} ns m d =
+    and_left (fresh m (under x ns ρ)) true
+    (new_behind x ns (m ∷ []) ρ (new_front x (ns ++ m ∷ []) (numbers_of ls) ρ (path_new d)))
+
 module _ (m : ℕ) where
   fine_dropped : (f : ℕ → Bool) (k n : ℕ) (es : List Expr) → AllFine m f n es → (j : ℕ) × AllFine m f j (drop k es)
   fine_dropped f zero n es h = (n, h)
@@ -160,6 +184,100 @@ module _ (m : ℕ) where
     arms_scoped (typed.other_arm a ρ e k ts us d) B c f n h = tree_scoped d B c (f n) h.0
     arms_scoped (typed.one_arm a ρ h e g k es xs o ts us vs ws d1 d2 d3) B c f n q =
         (tree_scoped d1 B c (f n) q.0, tree_scoped d2 B c (f (suc n)) q.1.0, arms_scoped d3 B c f (suc (suc n)) q.1.1)
+
+    -- behind some levels, of which n is the last one's number; the levels of qs are those of ls with other indexes
+    path_scoped : {ρ : Numbering} {x ms : List ℕ} {j : ℕ} {es : List Expr} {ts : List Ty} {ls : List Level} {k : Ker}
+        {us : List Ty} → PathTyped ρ x ms j es ts ls k us → (qs : List Level) (y : List ℕ) → Readable y ls qs →
+        (ns : List ℕ) (n : ℕ) → ms ≡ ns ++ n ∷ [] → (C : Names) → C y ≡ true → C (number_name n) ≡ true →
+        PathCovers ρ (under x ms ρ) C → (f : ℕ → Bool) (i : ℕ) → AllFine m f i es → PathIn C qs k
+    path_scoped (typed.right_side ρ x ms e k ts us f d) (q ∷ qs) y r ns n w C a b c g i h = absurd r
+    path_scoped (typed.right_side ρ x ms e k ts us f d) [] y r ns n w C a b c g i h =
+        tree_scoped d C
+        (subst (λ z. Covers (under x z ρ) C) (sym w)
+        (covers_path x ns n ρ C b (subst (λ z. PathCovers ρ (under x z ρ) C) w c))) (g i) h.0
+    path_scoped (typed.one_level ρ x ms j e es l ls k ts us vs d1 d2) [] y r ns n w C a b c g i h = absurd r
+    path_scoped (typed.one_level ρ x ms j e es l ls k ts us vs d1 d2) (q ∷ qs) y r ns n w C a b c g i h =
+        let z : ℕ = l.number in
+        let D : Names = with_names (names_of (z ∷ [])) C in
+        let u =
+        path_scoped d2 qs y r.2 ms z refl D (or_true (same_text y (number_name z) || false) (C y) a) (one_in z C)
+        (covers_more x ms z ρ C c) g (suc i) h.1 in (
+          r.1 C a,
+          subst (λ v. C (number_name v) ≡ false) r.0 (c.new z (next_new ms z d2)),
+          subst (λ v. PathIn (with_names (names_of (v ∷ [])) C) qs k) r.0 u,
+        )
+
+    path_indexes : {ρ : Numbering} {x ms : List ℕ} {j : ℕ} {es : List Expr} {ts : List Ty} {ls : List Level}
+        {k : Ker} {us : List Ty} → PathTyped ρ x ms j es ts ls k us → (B : Names) → Covers ρ B → (f : ℕ → Bool)
+        (i : ℕ) → AllFine m f i es → IndexesIn B ls
+    path_indexes (typed.right_side ρ x ms e k ts us w d) B c f i h = tt
+    path_indexes (typed.one_level ρ x ms j e es l ls k ts us vs d1 d2) B c f i h =
+        (tree_scoped d1 B c (f i) h.0, path_indexes d2 B c f (suc i) h.1)
+
+    -- where no index but the first can have a fault
+    plain_scoped : {ρ : Numbering} {x ms : List ℕ} {j : ℕ} {es : List Expr} {ts : List Ty} {ls : List Level}
+        {k : Ker} {us : List Ty} → PathTyped ρ x ms (suc j) es ts ls k us → all_plain (indexes_of ls) ≡ true →
+        (B : Names) → Covers ρ B → PathCovers ρ (under x ms ρ) B → (f : ℕ → Bool) (i : ℕ) → AllFine m f i es →
+        PathIn B ls k
+    plain_scoped (typed.one_level ρ x ms j e es l ls k ts us vs d1 d2) p B c a f i h =
+        let z : ℕ = l.number in
+        let D : Names = with_names (names_of (z ∷ [])) B in (
+          tree_scoped d1 B c (f i) h.0,
+          a.new z (next_new ms z d2),
+          path_scoped d2 ls (number_name z) (plain_readable (number_name z) ls p (path_literals d2)) ms z refl D
+              (one_in z B) (one_in z B) (covers_more x ms z ρ B a) f (suc i) h.1,
+        )
+
+    plain_changes : {ρ : Numbering} {x : List ℕ} {u n : ℕ} {cs : List ℕ} {es : List Expr} {ts : List Ty}
+        {ds : List Change} {us : List Ty} → ChangesTyped ρ x (u ∷ n ∷ []) cs es ts ds us →
+        list_all is_plain (indexes ds) ≡ true → (B : Names) → Covers ρ B → (f : ℕ → Bool) (i : ℕ) → AllFine m f i es →
+        ChangesIn B ds
+    plain_changes (typed.no_changes _ _ _ ts) p B c f i h = tt
+    plain_changes {ρ = ρ} {x = x} {u = u} {n = n} (typed.one_change _ _ _ j cs es d ds ts us vs d1 d2) p B c f i h =
+        let q = later_plain d.levels (all_levels ds) p in
+        let g = fine_dropped f (suc (suc j)) i es h in (
+          plain_scoped d1 q.0 B c (covers_plain x u n ρ B c) f i (fine_take m f (suc (suc j)) i es h),
+          plain_changes d2 q.1 B c f g.0 g.1,
+        )
+
+    first_changes : {ρ : Numbering} {x : List ℕ} {u n : ℕ} {cs : List ℕ} {es : List Expr} {ts : List Ty}
+        {ds : List Change} {us : List Ty} → ChangesTyped ρ x (u ∷ n ∷ []) cs es ts ds us →
+        all_plain (indexes ds) ≡ true → (B : Names) → Covers ρ B → (f : ℕ → Bool) (i : ℕ) → AllFine m f i es →
+        ChangesIn B ds
+    first_changes (typed.no_changes _ _ _ ts) p B c f i h = tt
+    first_changes {ρ = ρ} {x = x} {u = u} {n = n} (typed.one_change _ _ _ j cs es d ds ts us vs d1 d2) p B c f i h =
+        let q = tail_plain d1 (all_levels ds) p in
+        let g = fine_dropped f (suc (suc j)) i es h in (
+          plain_scoped d1 q.0 B c (covers_plain x u n ρ B c) f i (fine_take m f (suc (suc j)) i es h),
+          plain_changes d2 q.1 B c f g.0 g.1,
+        )
+
+    -- where all indexes are read from the pairs of a LET
+    read_scoped : {ρ : Numbering} {x : List ℕ} {u n : ℕ} {cs : List ℕ} {es : List Expr} {ts : List Ty}
+        {ds : List Change} {us : List Ty} → ChangesTyped ρ x (u ∷ n ∷ []) cs es ts ds us → (A T : Ty)
+        (rs : List Ty) (B : Names) → Covers ρ B → (f : ℕ → Bool) (i : ℕ) → AllFine m f i es →
+        ChangesIn (inside (let_of A T u n) B) (read_changes (let_of A T u n) T rs ds)
+    read_scoped (typed.no_changes _ _ _ ts) A T rs B c f i h = tt
+    read_scoped {ρ = ρ} {x = x} {u = u} {n = n} (typed.one_change _ _ _ j cs es d ds ts us vs d1 d2) A T rs B c f i h =
+        let l : Let = let_of A T u n in
+        let more : Bool = not (is_nil ds) in
+        let g = fine_dropped f (suc (suc j)) i es h in (
+          path_scoped d1 (read_levels l T rs more d.levels) (number_name n)
+              (read_readable l T rs more d.levels (path_literals d1)) (u ∷ []) n refl (inside l B) (named_in l B)
+              (named_in l B)
+              (covers_let x u n ρ B (new_front x (u ∷ n ∷ []) (numbers_of d.levels) ρ (path_new d1)) c) f i
+              (fine_take m f (suc (suc j)) i es h),
+          read_scoped d2 A T (rs ++ map (λ x. x.rest) d.levels) B c f g.0 g.1,
+        )
+
+    changes_indexes : {ρ : Numbering} {x ms : List ℕ} {cs : List ℕ} {es : List Expr} {ts : List Ty}
+        {ds : List Change} {us : List Ty} → ChangesTyped ρ x ms cs es ts ds us → (B : Names) → Covers ρ B →
+        (f : ℕ → Bool) (i : ℕ) → AllFine m f i es → IndexesIn B (all_levels ds)
+    changes_indexes (typed.no_changes ρ x ms ts) B c f i h = tt
+    changes_indexes (typed.one_change ρ x ms j cs es d ds ts us vs d1 d2) B c f i h =
+        let g = fine_dropped f (suc (suc j)) i es h in
+        indexes_plus B d.levels (all_levels ds) (path_indexes d1 B c f i (fine_take m f (suc (suc j)) i es h))
+        (changes_indexes d2 B c f g.0 g.1)
 
     node_scoped : {i : Option Assignable} {ρ : Numbering} {p : Place} {t : Ty} {o : Op} {es : List Expr}
         {xs : List (List ℕ)} {ts : List Ty} {k : Ker} {us : List Ty} → TypedNode i ρ p t o es xs ts k us →
@@ -242,6 +360,18 @@ module _ (m : ℕ) where
         let h = each_scoped d B c (λ n. form_child op.Apply n b) 0 f.below in
         item_by_let_in p _ _ j k l B
         (new_let _ _ u n ρ B a (first_fresh u (n ∷ []) ρ fr) (first_fresh n [] ρ (rest_fresh u (n ∷ []) ρ fr)) c) h.0 h.1.0
+    node_scoped (typed.except ρ p t cs e es x u n g d ds ts us vs pl le d1 d2) B c b f =
+        let h : ℕ → Bool = λ n. form_child (op.Except cs) n b in
+        changed_in p t g (d ∷ ds) B (tree_scoped d1 B c (h 0) f.below.0) (first_changes d2 pl B c h 1 f.below.1)
+    node_scoped (typed.except_let ρ p t cs e es x u n g [] ts us vs pl le re d1 d2) B c b f =
+        absurd (false≢true (sym pl))
+    node_scoped (typed.except_let ρ p t cs e es x u n g (d ∷ ds) ts us vs pl le re d1 d2) B c b f =
+        let h : ℕ → Bool = λ n. form_child (op.Except cs) n b in
+        let a : Ty = pairs_type g (all_levels (d ∷ ds)) in
+        let w = two_new d2 in
+        except_by_let_in p (let_of t a u n) a g (d ∷ ds) B
+        (new_let t a u n ρ B (ap not w.apart) w.unread w.named c) (tree_scoped d1 B c (h 0) f.below.0)
+        (changes_indexes d2 B c h 1 f.below.1) (read_scoped d2 t a [] B c h 1 f.below.1)
     node_scoped (typed.cases ρ p t other es xs ks ts us h d) B c b f =
         nested_in p t ks B (each_scoped d B c (λ n. form_child (op.Case other) n b) 0 f.below)
     node_scoped (typed.as_value a ρ p t o es xs k ts us e d) B c b f = node_scoped d B c b f

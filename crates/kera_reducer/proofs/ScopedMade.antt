@@ -38,7 +38,7 @@ closed_plain xs [] B h = refl
 closed_plain xs (k ∷ ks) B h =
     and_both (scoped k B) (closed_all [] xs (map scoped ks) B) h.0 (closed_plain xs ks B h.1)
 
-tree_in : (p : Place) (t : Ty) (o : KerOp) (ks : List Ker) (xs : List ℕ) (B : Names) → reads_in B o ≡ true →
+pub tree_in : (p : Place) (t : Ty) (o : KerOp) (ks : List Ker) (xs : List ℕ) (B : Names) → reads_in B o ≡ true →
     differ xs ≡ true → outside B xs ≡ true →
     closed_all (marks (role (op_of o) (length (names_of xs)))) (names_of xs) (map scoped ks) B ≡ true →
     In B (tree p t o ks xs)
@@ -123,7 +123,7 @@ pub record NewLet (l : Let) (B : Names) : Type 0 where
 abbrev pub inside : Let → Names → Names
 inside l B = with_names (names_of (l.unread ∷ l.named ∷ [])) B
 
-or_true : (a b : Bool) → b ≡ true → (a || b) ≡ true
+pub or_true : (a b : Bool) → b ≡ true → (a || b) ≡ true
 or_true true b h = refl
 or_true false b h = h
 

@@ -21,13 +21,14 @@ use Rattle.kernel_shapes.proofs.KernelNodes.{first_kinds}
 use Rattle.kernel_shapes.proofs.TreeLemmas.{parts_of}
 use Rattle.kera_reducer.specs.JobPaths.{nodes}
 use Rattle.kera_reducer.specs.Reduction.{Numbering, are_fresh, fresh, numbered, mentioned, mentioned_at, any_mentioned}
-use Rattle.kera_reducer.specs.SizeLaws.{is_apart, KeepsPartSizes, KeepsSizes}
+use Rattle.kera_reducer.specs.SizeLaws.{is_apart, KeepsPartSizes, KeepsSizes, KeepsTypedSizes}
 use Rattle.kera_reducer.specs.Laws.{IsSilent}
 use Rattle.kera_reducer.specs.Builds as rows
-use Rattle.kera_reducer.specs.Builds.{Builds, BuildsEach, BuildsNode, BuildsPath, BuildsChanges, is_same}
+use Rattle.kera_reducer.specs.Builds.{Builds, BuildsEach, BuildsNode, BuildsPath, BuildsChanges}
 use Rattle.kera_reducer.specs.Fitting.{the_kind, SameTable, Fitting, FittingEach, FittingPath, FittingChanges, FittingNode, behind}
 use Rattle.kera_reducer.specs.Rows.{node, tree, Level, Change, level_numbers}
 use Rattle.kera_reducer.proofs.Apart.{AllApart, NoneGoOn, apart_drop, apart_take, children_apart, no_parts, none_drop, none_take, rights_apart}
+use Rattle.kera_reducer.proofs.KindsAgreed.{rows_fit}
 use Rattle.kera_reducer.proofs.Gists.{Gist, NoParts}
 use Rattle.kera_reducer.proofs.GistNodes.{Gists, job_gist, job_gists, job_kinds, job_node, node_at}
 use Rattle.kera_reducer.proofs.SizeFrame.{KeepsGist, KeepsGists, SameRow, keeps_same, opened}
@@ -253,3 +254,8 @@ pub each_part_keeps_sizes : (w : ℕ) (e : Expr) (k : Ker) (ks : List Kind) (g :
 each_part_keeps_sizes w e k ks g wide a b f s =
     each_keeps_sizes w None [] e k ks g g wide tt a b f
     (record { now = refl; next = refl; bound = λ x n q. absurd (none≢some q) }) s
+
+pub typed_keeps_sizes : (w : ℕ) (i : Option Assignable) (ρ : Numbering) (e : Expr) (k : Ker) (ts : List Ty) (g h : Extent) →
+    KeepsTypedSizes w i ρ e k ts g h
+typed_keeps_sizes w i ρ e k ts g h wide q a d has c types t s =
+    let b = rows_fit i ρ e ts k [] d c types has in each_keeps_sizes w i ρ e k (map the_kind ts) g h wide q a b.0 b.1 t s

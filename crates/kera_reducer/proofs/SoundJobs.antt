@@ -1,9 +1,10 @@
 -- Each part of a job's kernel is sound.
 use Rattle.std.proofs.Common.{◌≡◌, ℕ, zero, suc, ◌<◌, Bool, true, false, ◌&&◌, List, [], ◌∷◌, ◌++◌, map, length, refl, sym, ◌∙◌, ap, subst, Option, Some, None, option_map, option_and_then, arith}
-use Rattle.std.specs.Prelude.{nat_lt, slice_get, is_some}
+use Rattle.std.specs.Prelude.{All, nat_lt, slice_get, is_some}
 use Rattle.std.specs.List.{list_all}
 use Rattle.std.proofs.lemmas.Bool.{ltb-true, lt-ltb}
 use Rattle.std.proofs.lemmas.List.{append-nil}
+use Rattle.std.proofs.lemmas.List.Elements.{All-head, All-tail}
 use Rattle.tla_meaning.specs.declared.actions.Assignable.{Assignable}
 use Rattle.tla_meaning.specs.declared.expr.Expr.{Expr}
 use Rattle.tla_meaning.specs.declared.job.Job.{Job}
@@ -11,12 +12,10 @@ use Rattle.tla_meaning.specs.declared.place.Place.{Place}
 use Rattle.tla_meaning.proofs.Laws.{none≢some}
 use Rattle.tla_meaning.proofs.Views.{and_left, and_right, and_both, false≢true}
 use Rattle.snowcat_rows.specs.Types.{Term, mean}
-use Rattle.snowcat_rows.specs.declared.types.Ty.{Ty, out-Ty}
-use Rattle.snowcat_rows.specs.declared.types.Ty.TheOpen as layer
+use Rattle.snowcat_rows.specs.declared.types.Ty.{Ty}
 use Rattle.snowcat_rows.specs.declared.types.Typed.{Typed}
-use Rattle.snowcat_rows.proofs.Means.{mean_out}
 use Rattle.snowcat_types.specs.TypeForms.{bool_type, int_type}
-use Rattle.snowcat_types.specs.Answers.{AllHaveTypes, outside_of, types_of_names}
+use Rattle.snowcat_types.specs.Answers.{AllHaveTypes, IsTruthFirst, outside_of, types_of_names}
 use Rattle.snowcat_types.specs.Judgement.{HasTypes}
 use Rattle.snowcat_types.specs.Rows.{Context as TypeContext, or_type}
 use Rattle.snowcat_types.specs.Systems.{parts_of}
@@ -25,20 +24,19 @@ use Rattle.kernel_trees.specs.declared.system.KerJob.{KerJob}
 use Rattle.kernel_trees.specs.Sound.{bound_in, kind_at, passes, sound, sound_tree}
 use Rattle.kernel_trees.specs.Systems.{parts, sound_part, texts_within}
 use Rattle.kernel_trees.specs.TypeKinds.{Kind, Truth, kind_of, is_kind, all_there}
-use Rattle.kernel_trees.proofs.TypeLaws.{same_is}
 use Rattle.kera_reducer.specs.Infinite.{infinite_in, all_infinite}
 use Rattle.kera_reducer.specs.Whole.{is_whole}
 use Rattle.kera_reducer.specs.BuildsTyped.{BuildsTyped}
-use Rattle.kera_reducer.specs.SoundLaws.{has_kind, is_truth_first, is_sound_truth, positions, AllBuilt, PartsAreSound}
-use Rattle.kera_reducer.proofs.KindsOf.{Opened, Of, is_truth, split_there}
+use Rattle.kera_reducer.specs.SoundLaws.{has_kind, is_sound_truth, positions, AllBuilt, PartsAreSound}
+use Rattle.kera_reducer.proofs.KindsOf.{Of, is_truth, split_there}
 use Rattle.kera_reducer.proofs.KindTies.{Ties}
-use Rattle.kera_reducer.proofs.ChoiceRows.{type_form, truth, form_of}
 use Rattle.kera_reducer.proofs.BuiltParts.{Fine, Have}
 use Rattle.kernel_trees.specs.Scoped.{scoped}
 use Rattle.kera_reducer.proofs.ScopedMade.{Covers}
 use Rattle.kera_reducer.proofs.ScopedBuilt.{tree_scoped}
 use Rattle.kera_reducer.proofs.SoundTexts.{texts_are_within}
-use Rattle.kera_reducer.proofs.BuiltSound.{Knows, InAction, tree_sound}
+use Rattle.kera_reducer.proofs.BuiltBelow.{Knows, InAction}
+use Rattle.kera_reducer.proofs.BuiltSound.{tree_sound}
 
 no_ties : Ties [] [] []
 no_ties = record { bound = λ x n q. absurd (none≢some q); new = λ n h. refl }
@@ -91,29 +89,16 @@ knows_names (t ∷ ts) as' h (suc i) l =
 
 -- ---- truth values
 
-truth_type : (o : layer.Ty-F Ty) → type_form o ≡ truth → Opened o ≡ bool_type
-truth_type layer.Bool h = refl
-truth_type o h = absurd (cc)
-
-means_truth : (t : Ty) → is_kind Truth (kind_of t) ≡ true → mean t ≡ bool_type
-means_truth t h = by (kind_of t) refl h
-  where
-    by : (o : Option Kind) → kind_of t ≡ o → is_kind Truth o ≡ true → mean t ≡ bool_type
-    by None e k = absurd (false≢true k)
-    by (Some a) e k =
-        mean_out t ∙ truth_type (out-Ty t) (form_of t Truth (e ∙ ap Some (sym (same_is Truth a k))))
-
 in_action : (i : Option Assignable) (x : Term) (names : List Kind) → x ≡ bool_type → InAction names i x
 in_action None x names e = tt
 in_action (Some m) x names e = e
 
 part_sound : (names : List Kind) (g : TypeContext) → Knows names g → g.bound ≡ [] → (i : Option Assignable) (e : Expr)
     (ts : List Ty) (k : Ker) → BuildsTyped i [] e ts k [] → Fine (length names) false e →
-    list_all has_kind ts ≡ true → is_truth_first ts ≡ true → HasTypes g e (map mean ts) →
+    list_all has_kind ts ≡ true → IsTruthFirst (map mean ts) → HasTypes g e (map mean ts) →
     is_sound_truth names k ≡ true
-part_sound names g kn gb i e [] k d fine h f types = absurd (false≢true f)
-part_sound names g kn gb i e (t ∷ ts) k d fine h f types =
-    let x : mean t ≡ bool_type = means_truth t f in
+part_sound names g kn gb i e [] k d fine h x types = absurd x
+part_sound names g kn gb i e (t ∷ ts) k d fine h x types =
     let r =
     tree_sound names i [] e (t ∷ ts) k [] d g kn [] (subst (λ z. Ties [] z []) (sym gb) no_ties) false fine (mean t)
     (map mean ts) [] types (in_action i (mean t) names x)
@@ -130,21 +115,20 @@ nil_left (x ∷ xs) ys h = absurd (cc)
 all_sound : (names : List Kind) (g : TypeContext) → Knows names g → g.bound ≡ [] → (is : List (Option Assignable))
     (es : List Expr) (tss : List (List Ty)) (ks : List Ker) → AllBuilt is es tss ks →
     list_all (is_whole (length names)) es ≡ true → all_infinite es ≡ [] →
-    list_all (λ ts. list_all has_kind ts && is_truth_first ts) tss ≡ true → AllHaveTypes g es (map (map mean) tss) →
+    list_all (list_all has_kind) tss ≡ true → All IsTruthFirst (map (map mean) tss) → AllHaveTypes g es (map (map mean) tss) →
     list_all (is_sound_truth names) ks ≡ true
-all_sound names g kn gb [] [] [] [] b w f h t = refl
-all_sound names g kn gb (i ∷ is) (e ∷ es) (ts ∷ tss) (k ∷ ks) b w f h t =
+all_sound names g kn gb [] [] [] [] b w f h x t = refl
+all_sound names g kn gb (i ∷ is) (e ∷ es) (ts ∷ tss) (k ∷ ks) b w f h x t =
     let n = nil_left (infinite_in e false) (all_infinite es) f in
-    let rest : Bool = list_all (λ ts. list_all has_kind ts && is_truth_first ts) tss in
-    let p = and_left (list_all has_kind ts && is_truth_first ts) rest h in
+    let rest : Bool = list_all (list_all has_kind) tss in
     and_both (is_sound_truth names k) (list_all (is_sound_truth names) ks)
     (part_sound names g kn gb i e ts k b.0
     (and_left (is_whole (length names) e) (list_all (is_whole (length names)) es) w, n.0)
-    (and_left (list_all has_kind ts) (is_truth_first ts) p) (and_right (list_all has_kind ts) (is_truth_first ts) p) t.0)
+    (and_left (list_all has_kind ts) rest h) (All-head IsTruthFirst (map mean ts) (map (map mean) tss) x) t.0)
     (all_sound names g kn gb is es tss ks b.1
     (and_right (is_whole (length names) e) (list_all (is_whole (length names)) es) w) n.1
-    (and_right (list_all has_kind ts && is_truth_first ts) rest h) t.1)
-all_sound names g kn gb is es tss ks b w f h t = absurd (b)
+    (and_right (list_all has_kind ts) rest h) (All-tail IsTruthFirst (map mean ts) (map (map mean) tss) x) t.1)
+all_sound names g kn gb is es tss ks b w f h x t = absurd (b)
 
 long_there : (ts : List Ty) (as' : List Kind) → all_there (map kind_of ts) ≡ Some as' → length ts ≡ length as'
 long_there [] as' h = ap length (some_of h)
@@ -164,7 +148,7 @@ all_both f g (k ∷ ks) h q =
 
 pub parts_are_sound : (job : Job) (t : Typed) (k : KerJob) → PartsAreSound job t k
 parts_are_sound job t k whole finite kinded meets texts named built =
-    let all : Bool = list_all (λ ts. list_all has_kind ts && is_truth_first ts) t.parts in
+    let all : Bool = list_all (list_all has_kind) t.parts in
     let n = kinds_there t.names (and_left (list_all has_kind t.names) all kinded) in
     let l : length t.names ≡ length n.0 = long_there t.names n.0 n.1 in
     ap (λ z. passes (λ names. list_all (sound_part names k.texts) (parts k)) (all_there (map kind_of z))) named
@@ -172,5 +156,5 @@ parts_are_sound job t k whole finite kinded meets texts named built =
     ∙ all_both (is_sound_truth n.0) (texts_within k.texts) (parts k)
     (all_sound n.0 (outside_of meets.annotations (types_of_names t)) (knows_names t.names n.0 n.1) refl (positions job)
     (parts_of job) t.parts (parts k) built (subst (λ z. list_all (is_whole z) (parts_of job) ≡ true) l whole) finite
-    (and_right (list_all has_kind t.names) all kinded) meets.parts)
+    (and_right (list_all has_kind t.names) all kinded) meets.truths meets.parts)
     (texts_are_within job t k texts built)

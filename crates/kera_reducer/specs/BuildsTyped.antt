@@ -3,10 +3,10 @@
 -- 2019, on the reduction to KerA+.
 --
 -- A tree is built where these types are still to be read, and those are left behind it. The root that stands for a node
--- carries the node's type; truth values and numbers that are made carry Bool and Int, pairs the types of their operands,
--- the sequences of a LET those of what they hold. The numbers that are made are those of no name around. EXCEPT has no row
--- here yet.
-use Rattle.std.specs.Prelude.{◌≡◌, ℕ, Bool, true, false, not, ◌&&◌, nat_eq, nat_le, List, [], ◌∷◌, ◌++◌, take, drop, length, Option, Some, None, ℤ, pos}
+-- carries the node's type; truth values and numbers that are made carry Bool and Int, pairs the types of their
+-- operands, the sequences of a LET those of what they hold, and what stands at an index along the path of an EXCEPT the
+-- type of that part. The numbers that are made are those of no name around.
+use Rattle.std.specs.Prelude.{◌≡◌, ℕ, suc, Bool, true, false, not, ◌&&◌, nat_eq, nat_le, List, [], ◌∷◌, ◌++◌, map, take, drop, length, Option, Some, None, ℤ, pos}
 use Rattle.tla_values.specs.declared.value.Value.TheVariants as value
 use Rattle.tla_meaning.specs.declared.actions.Assignable.{Assignable}
 use Rattle.tla_meaning.specs.declared.expr.Expr.{Expr, out-Expr}
@@ -23,8 +23,8 @@ use Rattle.kernel_trees.specs.declared.kernel.KerOp.TheVariants as ker
 use Rattle.kernel_trees.specs.Trees.{op_of}
 use Rattle.kera_reducer.specs.Reduction.{Numbering, fresh, are_fresh, numbered, all_fresh, any_mentioned}
 use Rattle.kera_reducer.specs.Builds.{is_same, is_binder, passes_on, has_arm}
-use Rattle.kera_reducer.specs.Making.{pair_type, let_of}
-use Rattle.kera_reducer.specs.Rows.{tree, node, op_at, type_of, truth, number, bound, negation, implication, equivalence, single, item_by_let, small_power, large_power, nested_ifs, split_case, guard_of}
+use Rattle.kera_reducer.specs.Making.{pair_type, let_of, AllLead, pairs_type, RestsTyped}
+use Rattle.kera_reducer.specs.Rows.{tree, node, op_at, type_of, truth, number, bound, negation, implication, equivalence, single, item_by_let, small_power, large_power, Level, Change, changed, all_levels, indexes, all_plain, except_by_let, nested_ifs, split_case, guard_of}
 
 -- ---- which of several operators stands for an overloaded one
 
@@ -77,6 +77,28 @@ mutual
           (o : Option Ker) (ts us vs ws : List Ty)
           → BuildsTyped None ρ c ts g us → BuildsTyped (Some m) ρ e us k vs → ArmsTyped m ρ es vs xs o ws
           → ArmsTyped m ρ (c ∷ e ∷ es) ts ((g, k) ∷ xs) o ws
+
+  -- so many indexes of a path, and then its right side, in which each number of the path stands for the name x, so that
+  -- none is bound again, and the last one counts; ns are those so far
+  pub data PathTyped : Numbering → List ℕ → List ℕ → ℕ → List Expr → List Ty → List Level → Ker → List Ty → Type 0 where
+    right_side : (ρ : Numbering) (x ns : List ℕ) (e : Expr) (k : Ker) (ts us : List Ty)
+        → all_fresh (map (λ n. x) ns) ns ρ ≡ true → BuildsTyped None (numbered (map (λ n. x) ns) ns ρ) e ts k us
+        → PathTyped ρ x ns 0 (e ∷ []) ts [] k us
+    one_level : (ρ : Numbering) (x ns : List ℕ) (n : ℕ) (e : Expr) (es : List Expr) (l : Level) (ls : List Level)
+        (k : Ker) (ts us vs : List Ty)
+        → BuildsTyped None ρ e ts l.index us → PathTyped ρ x (ns ++ l.number ∷ []) n es us ls k vs
+        → PathTyped ρ x ns (suc n) (e ∷ es) ts (l ∷ ls) k vs
+
+  -- the updates of an EXCEPT, by the numbers of their indexes
+  pub data ChangesTyped :
+      Numbering → List ℕ → List ℕ → List ℕ → List Expr → List Ty → List Change → List Ty → Type 0
+    where
+      no_changes : (ρ : Numbering) (x ns : List ℕ) (ts : List Ty) → ChangesTyped ρ x ns [] [] ts [] ts
+      one_change : (ρ : Numbering) (x ns : List ℕ) (n : ℕ) (cs : List ℕ) (es : List Expr) (d : Change)
+          (ds : List Change) (ts us vs : List Ty)
+          → PathTyped ρ x ns (suc n) (take (suc (suc n)) es) ts d.levels d.right us
+          → ChangesTyped ρ x ns cs (drop (suc (suc n)) es) us ds vs
+          → ChangesTyped ρ x ns (suc n ∷ cs) es ts (d ∷ ds) vs
 
   -- a node, by its place, its type, its operator, its children and the names that it binds
   pub data TypedNode :
@@ -196,6 +218,18 @@ mutual
           op_at m ≡ ker.Const (value.Int (pos j)) → nat_le j 7 ≡ false → EachTyped None ρ es ts (k ∷ m ∷ []) us
           → TypedNode None ρ p t op.Apply es xs ts
           (item_by_let p (let_of t (pair_type (type_of k) (type_of m)) u n) (pair_type (type_of k) (type_of m)) j k m) us
+      -- ---- EXCEPT: without a LET where no index but the first can have a fault; each node has two numbers for a LET
+      except : (ρ : Numbering) (p : Place) (t : Ty) (cs : List ℕ) (e : Expr) (es : List Expr) (x : List ℕ) (u n : ℕ)
+          (f : Ker) (d : Change) (ds : List Change) (ts us vs : List Ty)
+          → all_plain (indexes (d ∷ ds)) ≡ true → AllLead t (d ∷ ds)
+          → BuildsTyped None ρ e ts f us → ChangesTyped ρ x (u ∷ n ∷ []) cs es us (d ∷ ds) vs
+          → TypedNode None ρ p t (op.Except cs) (e ∷ es) (x ∷ []) ts (changed p t f (d ∷ ds)) vs
+      except_let : (ρ : Numbering) (p : Place) (t : Ty) (cs : List ℕ) (e : Expr) (es : List Expr) (x : List ℕ)
+          (u n : ℕ) (f : Ker) (ds : List Change) (ts us vs : List Ty)
+          → all_plain (indexes ds) ≡ false → AllLead t ds → RestsTyped (all_levels ds)
+          → BuildsTyped None ρ e ts f us → ChangesTyped ρ x (u ∷ n ∷ []) cs es us ds vs
+          → TypedNode None ρ p t (op.Except cs) (e ∷ es) (x ∷ []) ts
+          (except_by_let p (let_of t (pairs_type f (all_levels ds)) u n) (pairs_type f (all_levels ds)) f ds) vs
       -- ---- CASE as a value
       cases : (ρ : Numbering) (p : Place) (t : Ty) (other : Bool) (es : List Expr) (xs : List (List ℕ)) (ks : List Ker)
           (ts us : List Ty)

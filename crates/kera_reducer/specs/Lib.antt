@@ -16,4 +16,6 @@ pub mod Whole
 pub mod Making
 pub mod BuildsTyped
 pub mod SoundLaws
+pub mod WellFormed
+pub mod Kernels
 pub mod inner

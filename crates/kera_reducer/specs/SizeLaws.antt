@@ -1,5 +1,5 @@
 -- What the reduction keeps of shapes and numbers.
-use Rattle.std.specs.Prelude.{◌≡◌, ◌≤◌, ℕ, Bool, false, not, ◌&&◌, ◌||◌, IsTrue, List, [], ◌∷◌, drop, Option, Some, None}
+use Rattle.std.specs.Prelude.{◌≡◌, ◌≤◌, ℕ, Bool, false, not, ◌&&◌, ◌||◌, IsTrue, List, [], ◌∷◌, map, drop, Option, Some, None}
 use Rattle.std.specs.List.{list_all}
 use Rattle.tla_meaning.specs.declared.actions.Assignable.{Assignable}
 use Rattle.tla_meaning.specs.declared.expr.Expr.{Expr, out-Expr}
@@ -8,6 +8,10 @@ use Rattle.tla_meaning.specs.declared.op.Op.{Op}
 use Rattle.tla_meaning.specs.declared.place.Place.{Place}
 use Rattle.tla_meaning.specs.Symbols.{same_place}
 use Rattle.tla_meaning.specs.Scopes.{find_last}
+use Rattle.snowcat_rows.specs.Types.{mean}
+use Rattle.snowcat_rows.specs.declared.types.Ty.{Ty}
+use Rattle.snowcat_types.specs.Rows.{Context}
+use Rattle.snowcat_types.specs.Judgement.{HasTypes}
 use Rattle.kernel_trees.specs.declared.kernel.Ker.{Ker}
 use Rattle.kernel_trees.specs.Trees.{number_name}
 use Rattle.kernel_trees.specs.TypeKinds.{Kind}
@@ -20,7 +24,9 @@ use Rattle.kera_reducer.specs.JobPaths.{below_notes}
 use Rattle.kera_reducer.specs.Laws.{IsSilent}
 use Rattle.kera_reducer.specs.Reduction.{Numbering}
 use Rattle.kera_reducer.specs.Builds.{Builds}
-use Rattle.kera_reducer.specs.Fitting.{Fitting}
+use Rattle.kera_reducer.specs.BuildsTyped.{BuildsTyped}
+use Rattle.kera_reducer.specs.Fitting.{the_kind, Fitting}
+use Rattle.kera_reducer.specs.SoundLaws.{has_kind}
 
 -- each name that has a number has its shape; other names may have any
 abbrev pub TiedBound : Numbering → List (List ℕ × Shape) → List (List ℕ × Shape) → Type 0
@@ -76,3 +82,10 @@ abbrev pub KeepsPartSizes : ℕ → Expr → Ker → List Kind → Extent → Ty
 KeepsPartSizes w e k ks g =
     2 ≤ w → IsTrue (is_apart e) → (b : Builds None [] e k) → Fitting b ks → IsTrue (ker_sized w k g).sound →
     SameSize ((tree_sized w e).sizing ks g) (ker_sized w k g)
+
+-- so of what is built with types, where those of the job's nodes have kinds and meet the rows of the type table
+abbrev pub KeepsTypedSizes : ℕ → Option Assignable → Numbering → Expr → Ker → List Ty → Extent → Extent → Type 0
+KeepsTypedSizes w i ρ e k ts g h =
+    2 ≤ w → IsSilent i e → IsTrue (is_apart e) → BuildsTyped i ρ e ts k [] → IsTrue (list_all has_kind ts) →
+    (c : Context) → HasTypes c e (map mean ts) → TiedShapes ρ g h → IsTrue (ker_sized w k h).sound →
+    SameSize ((tree_sized w e).sizing (map the_kind ts) g) (ker_sized w k h)

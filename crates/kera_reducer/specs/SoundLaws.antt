@@ -29,16 +29,12 @@ IsBuiltBeside i ρ e ts k us = BuildsTyped i ρ e ts k us → Builds i ρ e k
 
 -- ---- jobs
 
--- each type of a name has a kind; so has each of a part, and the first is that of truth values
 abbrev pub has_kind : Ty → Bool
 has_kind t = is_some (kind_of t)
 
-abbrev pub is_truth_first : List Ty → Bool
-is_truth_first [] = false
-is_truth_first (t ∷ ts) = is_kind Truth (kind_of t)
-
+-- each type of a name has a kind, and so has each of a part
 abbrev pub are_kinded : Typed → Bool
-are_kinded t = list_all has_kind t.names && list_all (λ ts. list_all has_kind ts && is_truth_first ts) t.parts
+are_kinded t = list_all has_kind t.names && list_all (list_all has_kind) t.parts
 
 abbrev pub is_whole_job : ℕ → Job → Bool
 is_whole_job n job = list_all (is_whole n) (parts_of job)
@@ -75,8 +71,8 @@ TextsAreWithin job t k =
 -- ---- the law
 
 -- of a job whose trees are whole, with no infinite set outside a form position, and whose types have kinds and meet the
--- rows of the type table, where each of its texts is one of the kernel's: each part of its kernel is sound over the kinds
--- of the names
+-- rows of the type table, each part's root that of truth values, where each of its texts is one of the kernel's: each
+-- part of its kernel is sound over the kinds of the names
 abbrev pub PartsAreSound : Job → Typed → KerJob → Type 0
 PartsAreSound job t k =
     IsTrue (is_whole_job (length t.names) job) → infinite_places job ≡ [] → IsTrue (are_kinded t) → MeetsRows job t →

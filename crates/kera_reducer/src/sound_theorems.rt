@@ -13,8 +13,8 @@ ghost use Rattle.kera_reducer.specs.SoundLaws.{IsBuiltBeside, PartsAreSound, Tex
 /// Each part of a typed job's kernel is sound over the kinds of the names: a truth value whose nodes have types of the table,
 /// with infinite sets in form positions alone, no number bound again, and no text but the kernel's. So it is where the parts
 /// are built with the types of the job's nodes, the job's trees are whole and hold no infinite set outside a form position,
-/// each type has a kind and each part's is that of truth values, and the types meet the rows of the type table. What is
-/// built with types is built by the same rows. It does nothing.
+/// each type has a kind, and the types meet the rows of the type table, so that each part is a truth value. What is built
+/// with types is built by the same rows. It does nothing.
 pub fn built_jobs_are_sound()
     ensures sound { (job : Job) (t : Typed) (k : KerJob) → PartsAreSound job t k }
     ensures texts { (job : Job) (t : Typed) (k : KerJob) → TextsAreWithin job t k }

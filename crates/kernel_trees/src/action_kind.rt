@@ -32,7 +32,8 @@ impl AssignableNames {
     }
 }
 
-fn counts(assignable: Assignable, name: usize, primed: bool) -> bool
+/// Whether these assignable names hold a name, whatever number of names is declared.
+pub fn counts(assignable: Assignable, name: usize, primed: bool) -> bool
     ensures { result ≡ counts assignable name primed }
 {
     match assignable {

@@ -14,7 +14,7 @@ mod path;
 mod system;
 mod theorems;
 
-pub use action_kind::{ActionKind, AssignableNames, marks_of};
+pub use action_kind::{ActionKind, AssignableNames, counts, marks_of};
 pub use copy::{copy_ker, copy_ker_op, copy_sets, copy_step};
 pub use faults::KerFault;
 pub use kernel::{Ker, KerOp};

@@ -238,6 +238,52 @@ ASSUME c \in {1}
 >types Init Init -
 refused: types Str and Int clash at Row:6:10
 
+>case parts are truth values, and a part's root comes behind its nodes
+>file Row
+---- MODULE Row ----
+EXTENDS Integers
+CONSTANT
+  \* @type: Int;
+  c
+VARIABLE
+  \* @type: Int;
+  x
+Init == x = 0
+Next == x' = x
+Inv == 5
+None == {}
+More == x' + 1
+Plus == c + 1
+Sum == 1 + "a"
+Item == <<1, 2>>
+====
+>types Init Next - Inv
+refused: types Bool and Int clash at Row:11:8
+>types None Next -
+refused: types Bool and Set(a) clash at Row:12:9
+>types Init More -
+refused: types Bool and Int clash at Row:13:12
+>types Init Next Plus
+refused: types Bool and Int clash at Row:14:11
+>types Init Next - Sum
+refused: types Int and Str clash at Row:15:10
+>types Init More - Sum
+refused: types Bool and Int clash at Row:13:12
+>types Init Next - Item
+refused: types Bool and <<Int, Int>> clash at Row:16:9
+
+>case an assumption is a truth value
+>file Row
+---- MODULE Row ----
+CONSTANT
+  \* @type: Int;
+  c
+Init == TRUE
+ASSUME c
+====
+>types Init Init -
+refused: types Bool and Int clash at Row:6:8
+
 >case a clash behind one default
 >file Row
 ---- MODULE Row ----

@@ -128,7 +128,7 @@ fn differing(alloc: Global, text: &str) -> Result<(String, usize), Fail> {
 
 #[test]
 fn jobs_have_their_types(rt: HostRuntime) -> Result<(), Fail> {
-    for (text, wanted) in [(USERS, 2), (TYPED, 38), (BADLY_TYPED, 36)] {
+    for (text, wanted) in [(USERS, 2), (TYPED, 38), (BADLY_TYPED, 44)] {
         let (report, count) = differing(rt.alloc(), text)?;
         assert_eq!(rt; report.as_str(), "");
         assert_eq!(rt; count, wanted);

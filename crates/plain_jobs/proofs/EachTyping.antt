@@ -25,7 +25,7 @@ use Rattle.snowcat_types.specs.Typings.{IsTyping, Reached, at_start, decided, by
 use Rattle.snowcat_types.specs.Waiting.{waiting}
 use Rattle.snowcat_types.proofs.Nodes.{by_nodes, node, visit-node, waited-append, waited-all}
 use Rattle.snowcat_types.proofs.OneReading.{one_annotation}
-use Rattle.snowcat_types.proofs.Waits.{trees_keyed}
+use Rattle.snowcat_types.proofs.Waits.{part_waited, trees_keyed}
 use Rattle.plain_jobs.specs.Parts.{all_conjuncts, branches_of, conjunction, conjuncts_of, disjunction, each_conjuncts, element, equal, part, part_at}
 use Rattle.plain_jobs.specs.Plain.{IsPlainBy, IsSaid, is_boolean}
 use Rattle.plain_jobs.specs.declared.parts.Part.{Part}
@@ -131,7 +131,7 @@ visits_quiet c [] v says = refl
 visits_quiet c (e ∷ es) v says =
     let one : Found = visit e v c in
     let rest : List Entry = all_entries (visits c es one.next) in
-    waited-append one.entries rest ∙ ap (λ ws. ws ++ waited rest) (tree_quiet e says.0 v c) ∙ visits_quiet c es one.next says.1
+    part_waited one rest ∙ ap (λ ws. ws ++ waited rest) (tree_quiet e says.0 v c) ∙ visits_quiet c es one.next says.1
 
 -- ---- jobs
 

@@ -25,7 +25,7 @@ use Rattle.snowcat_types.specs.Annotated.{AreAnnotations, AreNameTypes, IsReadWi
 use Rattle.snowcat_types.specs.Answers.{IsTypedAs, types_of_names, types_of_parts}
 use Rattle.snowcat_types.specs.Requirements.{Requirement, MeetAll}
 use Rattle.snowcat_types.specs.Rows.{Operand, Scope, Signature, TypeRow, Context, plain, with_bound, row_of}
-use Rattle.snowcat_types.specs.Systems.{Annotations, Asks, Found, System, Visit, Children, children, under_first, others, all_asked, all_entries, all_types, all_wait, all_waits, asked, behind, count_declared, declared_types, fields_asked, first_unknown, names_from, operands_meet, parts_of, sights, system, visit, visit_node, visits}
+use Rattle.snowcat_types.specs.Systems.{Annotations, Asks, Entry, Found, System, Visit, Children, children, under_first, others, all_asked, all_entries, all_types, all_wait, all_waits, asked, behind, count_declared, declared_types, fields_asked, first_unknown, names_from, operands_meet, parts_of, root_asks, sights, system, visit, visit_node, visits}
 use Rattle.snowcat_types.specs.TypeForms.{bool_type, set_type}
 use Rattle.snowcat_types.specs.Typings.{IsTyping, Principal, Reached, at_start}
 use Rattle.snowcat_types.specs.Waiting.{waiting}
@@ -245,19 +245,23 @@ record GoodParts (v : ℕ) (fs : List Found) : Type 0 where
   types : AllParts IsBack (map (λ f. f.types) fs)
   asks : Asked v (behind v fs) (asked (all_entries fs))
 
-parts_good : (es : List Expr) (ts : List Term) → AllGood es ts → (v : ℕ) → GoodParts v (visits (around []) es v)
-parts_good [] [] h v = record { types = tt; asks = asked_none v v [] refl tt }
-parts_good [] (t ∷ ts) h v = absurd h
-parts_good (e ∷ es) [] h v = absurd h
-parts_good (e ∷ es) (t ∷ ts) h v =
+parts_good : (es : List Expr) → AllTruths es → (v : ℕ) → GoodParts v (visits (around []) es v)
+parts_good [] h v = record { types = tt; asks = asked_none v v [] refl tt }
+parts_good (e ∷ es) h v =
     let one : Found = visit e v (around []) in
-    let first : Good t v one = h.0 v [] in
+    let first : Good bool_type v one = h.0 v [] in
     let fs : List Found = visits (around []) es one.next in
-    let rest = parts_good es ts h.1 one.next in
+    let rest = parts_good es h.1 one.next in
+    let own : List Entry = root_asks one ∷ [] in
+    let root : Asked one.next one.next (asked own) =
+    asked_none one.next one.next (asked own) refl (ap (apply all_bool) (sym first.type), tt) in
+    let part : Asked v one.next (asked (one.entries ++ own)) =
+    subst (Asked v one.next) (sym (asked-append one.entries own))
+    (asked_both v one.next one.next (asked one.entries) (asked own) first.asks root) in
     record {
       types = (first.types, rest.types);
-      asks = subst (Asked v (behind one.next fs)) (sym (asked-append one.entries (all_entries fs)))
-          (asked_both v one.next (behind one.next fs) (asked one.entries) (asked (all_entries fs)) first.asks rest.asks);
+      asks = subst (Asked v (behind one.next fs)) (sym (asked-append (one.entries ++ own) (all_entries fs)))
+          (asked_both v one.next (behind one.next fs) (asked (one.entries ++ own)) (asked (all_entries fs)) part rest.asks);
     }
 
 layout_good : (file : List ℕ) (m : BooleanModule) → AllTruths (parts_of (job_of file m))
@@ -408,7 +412,7 @@ module _ (file : List ℕ) (m : BooleanModule) (wf : IsBooleanModule m) where
   typed = record { names = bools m.vars; parts = map (map back) asks.parts }
 
   parts_are : GoodParts (first_unknown an) (visits (around []) (parts_of (job_of file m)) (first_unknown an))
-  parts_are = parts_good (parts_of (job_of file m)) (truths (parts_of (job_of file m))) (layout_good file m) (first_unknown an)
+  parts_are = parts_good (parts_of (job_of file m)) (layout_good file m) (first_unknown an)
 
   principal : Principal asks.count (all_asked asks) all_bool
   principal = record {

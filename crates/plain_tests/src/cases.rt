@@ -138,7 +138,9 @@ VARIABLE % x; Init == x = TRUE; Next == x' = TRUE; Inv == x = TRUE => types Int 
 VARIABLES $ x, % y; Init == x = TRUE /\ y = TRUE; Next == x' = TRUE /\ y' = TRUE; Inv == x = TRUE => types Int and Bool clash at M:3:24
 VARIABLE $ x; % Init == x = TRUE; Next == x' = TRUE; Inv == x = TRUE => types Int and Bool clash at M:3:20
 VARIABLE $ x; Init == x = TRUE; Next == x' = TRUE; Inv == x = 1 => types Bool and Int clash at M:5:11
-VARIABLE $ x; Init == x = TRUE; Next == x' = TRUE; Inv == x \in {1} => types Bool and Int clash at M:5:11"#;
+VARIABLE $ x; Init == x = TRUE; Next == x' = TRUE; Inv == x \in {1} => types Bool and Int clash at M:5:11
+VARIABLE $ x; Init == x = TRUE; Next == x' = TRUE; Inv == 5 => types Bool and Int clash at M:5:9
+VARIABLE $ x; Init == {}; Next == x' = TRUE; Inv == 5 => types Bool and Set(a) clash at M:3:10"#;
 
 /// Modules that make no job: a name that stands for two things or for none, an operator that is not there or has
 /// parameters, a form that is reached.

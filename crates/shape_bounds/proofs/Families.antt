@@ -55,6 +55,25 @@ two_children (x ∷ []) a b h l e f = absurd (omega (arith, h))
 two_children (x ∷ y ∷ []) a b h l e f = ap₂ (λ (z u : Ker). z ∷ u ∷ []) (sym e) (sym f)
 two_children (x ∷ y ∷ z ∷ ks) a b h l e f = absurd (omega (arith, l))
 
+pub three_children : (ks : List Ker) (a b c : Ker) → 3 ≤ length ks → length ks < 4 → a ≡ get_or ks 0 a → b ≡ get_or ks 1 b → c ≡ get_or ks 2 c → ks ≡ a ∷ b ∷ c ∷ []
+three_children [] a b c h l e f g = absurd (omega (arith, h))
+three_children (x ∷ []) a b c h l e f g = absurd (omega (arith, h))
+three_children (x ∷ y ∷ []) a b c h l e f g = absurd (omega (arith, h))
+three_children (x ∷ y ∷ z ∷ []) a b c h l e f g = ap₂ (λ (u v : Ker). u ∷ v ∷ z ∷ []) (sym e) (sym f) ∙ ap (λ (u : Ker). a ∷ b ∷ u ∷ []) (sym g)
+three_children (x ∷ y ∷ z ∷ u ∷ ks) a b c h l e f g = absurd (omega (arith, l))
+
+-- the first may be any
+pub three_but_first : (ks : List Ker) (d b c : Ker) → 3 ≤ length ks → length ks < 4 → b ≡ get_or ks 1 b → c ≡ get_or ks 2 c → ks ≡ get_or ks 0 d ∷ b ∷ c ∷ []
+three_but_first [] d b c h l e f = absurd (omega (arith, h))
+three_but_first (x ∷ []) d b c h l e f = absurd (omega (arith, h))
+three_but_first (x ∷ y ∷ []) d b c h l e f = absurd (omega (arith, h))
+three_but_first (x ∷ y ∷ z ∷ []) d b c h l e f = ap₂ (λ (u v : Ker). x ∷ u ∷ v ∷ []) (sym e) (sym f)
+three_but_first (x ∷ y ∷ z ∷ u ∷ ks) d b c h l e f = absurd (omega (arith, l))
+
+pub one_first : (ks : List Ker) (a : Ker) → 1 ≤ length ks → a ≡ get_or ks 0 a → ks ≡ a ∷ drop 1 ks
+one_first [] a h e = absurd (omega (arith, h))
+one_first (x ∷ ks) a h e = ap (λ (u : Ker). u ∷ ks) (sym e)
+
 pub two_first : (ks : List Ker) (a b : Ker) → 2 ≤ length ks → a ≡ get_or ks 0 a → b ≡ get_or ks 1 b → ks ≡ a ∷ b ∷ drop 2 ks
 two_first [] a b h e f = absurd (omega (arith, h))
 two_first (x ∷ []) a b h e f = absurd (omega (arith, h))
@@ -83,7 +102,7 @@ pub any_site : (old new : Names) (z : Sizing) (q : Position) (res : Result Code 
 any_site old new z q (Ok r) h = h q
 any_site old new z q (Err e) h = tt
 
-at_width : (a b c : Names) (k : Ker) (q : Position) (r : Code) → SameNames a b → Sizes b c (ker_sized b.width k) q r → Sizes b c (ker_sized a.width k) q r
+pub at_width : (a b c : Names) (k : Ker) (q : Position) (r : Code) → SameNames a b → Sizes b c (ker_sized b.width k) q r → Sizes b c (ker_sized a.width k) q r
 at_width a b c k q r h s = subst (λ (w : ℕ). Sizes b c (ker_sized w k) q r) h.width s
 
 -- ---- a node whose own number is counted where it is walked
@@ -96,7 +115,7 @@ finds_form old mid new p assigned_from a r cs h k e = finds_own old mid new [] c
 finds_form old mid new p picked_from a r cs h k e = finds_own old mid new [] cs h k
 
 module _ (old mid new : Names) (k : Ker) (r : Code) (q : Position) (a : Extent → Shape) (cs : Extent → List Count) where
-  node_sized : ((g : Extent) → (ker_sized old.width k g).shape ≡ a g) →
+  pub node_sized : ((g : Extent) → (ker_sized old.width k g).shape ≡ a g) →
       ((g : Extent) → (ker_sized old.width k g).counts q ≡ count_at (out-Ker k).place (a g) ++ cs g) →
       SameNames old mid → ((g : Extent) → Reads old g → capped (a g) ≡ mean r) → ((g : Extent) → Reads old g → Finds old mid (cs g)) →
       IsCounted mid new (count_at (out-Ker k).place (mean r)) → Sizes old new (ker_sized old.width k) q r
@@ -389,7 +408,7 @@ bound_kept [] bs = refl
 bound_kept (x ∷ xs) [] = ap (λ (zs : List (List ℕ × Shape)). (x, Atom) ∷ zs) (bound_kept xs [])
 bound_kept (x ∷ xs) (b ∷ bs) = ap (λ (zs : List (List ℕ × Shape)). (x, capped b) ∷ zs) (bound_kept xs bs)
 
-reads_bound : (old mid : Names) (xs : List ℕ) (as' bs : List Shape) (g : Extent) → IsBound old mid xs as' → Reads old g → map capped bs ≡ as' → Reads mid (bind_shapes (names_of xs) bs g)
+pub reads_bound : (old mid : Names) (xs : List ℕ) (as' bs : List Shape) (g : Extent) → IsBound old mid xs as' → Reads old g → map capped bs ≡ as' → Reads mid (bind_shapes (names_of xs) bs g)
 reads_bound old mid xs as' bs g h l e = record {
   now = l.now ∙ sym (ap (λ v. map (option_map mean) v.items) h.state);
   next = l.next ∙ sym (ap (λ v. map (option_map mean) v.items) h.next);
@@ -399,7 +418,7 @@ reads_bound old mid xs as' bs g h l e = record {
       ∙ sym h.bound;
 }
 
-under_finds : (old mid late new : Names) (cs : List Count) → mid.first ≡ old.first → new.first ≡ late.first → Finds mid late cs → Finds old new cs
+pub under_finds : (old mid late new : Names) (cs : List Count) → mid.first ≡ old.first → new.first ≡ late.first → Finds mid late cs → Finds old new cs
 under_finds old mid late new cs e f h =
     ap (option_map rank_of) f ∙ h ∙ ap (λ (o : Option Excess). either_rank (option_map rank_of o) (first_rank cs)) e
 

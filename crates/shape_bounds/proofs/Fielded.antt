@@ -169,7 +169,7 @@ records_joined a b xs ys us vs zs e f g h p =
     ∙ ap (λ (as' : Shapes). Rec (map (λ (x : Field). x.0) xs) as') (shapes_joined (map item_of xs) (map item_of ys))
     ∙ sym (ap₂ (λ (x y : Code). join (mean x) (mean y)) e f ∙ ap₂ join (mean-Rec xs) (mean-Rec ys))
 
-more_mapped : {X : Type 0} → (f : X → Shape) (xs : List X) (x : X) → map f (xs ++ x ∷ []) ≡ map f xs ++ f x ∷ []
+pub more_mapped : {X : Type 0} → (f : X → Shape) (xs : List X) (x : X) → map f (xs ++ x ∷ []) ≡ map f xs ++ f x ∷ []
 more_mapped f [] x = refl
 more_mapped f (y ∷ xs) x = ap (λ (as' : List Shape). f y ∷ as') (more_mapped f xs x)
 

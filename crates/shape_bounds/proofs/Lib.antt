@@ -18,3 +18,13 @@ pub mod Visits
 pub mod Binding
 pub mod KindTests
 pub mod TypeForms
+pub mod FoldSteps
+pub mod IndexJoins
+pub mod PathSteps
+pub mod Walking
+pub mod OverPaths
+pub mod Beginning
+pub mod LevelSteps
+pub mod Ending
+pub mod TypeShapes
+pub mod TypedLevel

@@ -25,6 +25,10 @@ rebuilt k o ks e f =
     sym (roll-out-Ker k)
     ∙ ap₂ (λ (q : KerOp) (js : List Ker). roll-Ker (record { place = (out-Ker k).place; ty = (out-Ker k).ty; op = q; args = js; binds = (out-Ker k).binds })) e f
 
+pub rebuilt_whole : (k : Ker) (o : KerOp) (ks : List Ker) (xs : List ℕ) → (out-Ker k).op ≡ o → (out-Ker k).args ≡ ks → (out-Ker k).binds ≡ xs →
+    k ≡ made (out-Ker k).place (out-Ker k).ty o ks xs
+rebuilt_whole k o ks xs e f h = rebuilt k o ks e f ∙ ap (made (out-Ker k).place (out-Ker k).ty o ks) h
+
 list_absurd : {X : Type 0} (x : X) (xs : List X) → [] ≡ x ∷ xs → ⊥
 list_absurd x xs e = absurd (cc)
 

@@ -141,14 +141,14 @@ module _ (w : ℕ) (p : Place) (t : Ty) (xs : List ℕ) (g : Extent) where
       (ker_sized w e (bind_shapes (number_name n ∷ []) (applied_at (ker_sized w f g).shape (ker_sized w i g).literal ∷ []) g))) ++ []
   update_beyond f i e n = update_all f i e n
 
-  pub update_counts : (f i e : Ker) (n : ℕ) (q : Position) → (ker_sized w (made p t ker.Update (f ∷ i ∷ e ∷ []) (n ∷ [])) g).counts q
-      ≡ count_at p (ker_sized w (made p t ker.Update (f ∷ i ∷ e ∷ []) (n ∷ [])) g).shape
-      ++ ((ker_sized w f g).counts walked ++ (ker_sized w (made p t ker.Update (f ∷ i ∷ e ∷ []) (n ∷ [])) g).beyond)
-  update_counts f i e n q =
+  pub update_counts : (f : Ker) (ks : List Ker) (q : Position) → (ker_sized w (made p t ker.Update (f ∷ ks) xs) g).counts q
+      ≡ count_at p (ker_sized w (made p t ker.Update (f ∷ ks) xs) g).shape
+      ++ ((ker_sized w f g).counts walked ++ (ker_sized w (made p t ker.Update (f ∷ ks) xs) g).beyond)
+  update_counts f ks q =
       ker-counts-roll w _ g q
       ∙ ap₂ (λ (a : Shape) (cs : List Count). count_at p a ++ ((ker_sized w f g).counts walked ++ cs))
-      (sym (ker-shape-roll w (record { place = p; ty = t; op = ker.Update; args = f ∷ i ∷ e ∷ []; binds = n ∷ [] }) g))
-      (sym (ker-beyond-roll w (record { place = p; ty = t; op = ker.Update; args = f ∷ i ∷ e ∷ []; binds = n ∷ [] }) g))
+      (sym (ker-shape-roll w (record { place = p; ty = t; op = ker.Update; args = f ∷ ks; binds = xs }) g))
+      (sym (ker-beyond-roll w (record { place = p; ty = t; op = ker.Update; args = f ∷ ks; binds = xs }) g))
 
   pub fold_shape : (b a s : Ker) (m n : ℕ) → (ker_sized w (made p t ker.FoldLeft (b ∷ a ∷ s ∷ []) (m ∷ n ∷ [])) g).shape
       ≡ reached_by (count (ker_sized w s g).shape)

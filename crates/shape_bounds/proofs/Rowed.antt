@@ -40,7 +40,7 @@ pub none_is : (xs : List Code) → length xs < 1 → map mean xs ≡ []
 none_is [] l = refl
 none_is (x ∷ xs) l = absurd (omega (arith, l))
 
-join_none : (a : Shape) → join a Empty ≡ a
+pub join_none : (a : Shape) → join a Empty ≡ a
 join_none Empty = refl
 join_none a = refl
 
@@ -92,7 +92,7 @@ but_last_of [] b = refl
 but_last_of (a ∷ []) b = refl
 but_last_of (a ∷ c ∷ as') b = ap (λ (bs : List Shape). a ∷ bs) (but_last_of (c ∷ as') b)
 
-last_is : (as' : List Shape) (b : Shape) → last_of (as' ++ b ∷ []) ≡ b
+pub last_is : (as' : List Shape) (b : Shape) → last_of (as' ++ b ∷ []) ≡ b
 last_is [] b = refl
 last_is (a ∷ []) b = refl
 last_is (a ∷ c ∷ as') b = last_is (c ∷ as') b

@@ -3,3 +3,4 @@ pub mod Kept
 pub mod Excesses
 pub mod Sizes
 pub mod inner
+pub mod Stages

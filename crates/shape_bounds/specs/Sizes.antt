@@ -62,12 +62,6 @@ pub record Sizes (old new : Names) (z : Sizing) (q : Position) (r : Code) : Type
   pub shape : (g : Extent) → Reads old g → capped (z g).shape ≡ mean r
   pub finds : (g : Extent) → Reads old g → Finds old new ((z g).counts q)
 
--- the rest of a path of indexes is looked at
-pub record SizesBeyond (old new : Names) (z : Sizing) (r : Code) : Type 0 where
-  pub same : SameNames old new
-  pub shape : (g : Extent) → Reads old g → capped (z g).shape ≡ mean r
-  pub finds : (g : Extent) → Reads old g → Finds old new (z g).beyond
-
 abbrev pub all_at : List Sizing → Extent → List Sized
 all_at zs g = map (λ z. z g) zs
 

@@ -4,3 +4,10 @@ pub mod Nodes
 pub mod Table
 pub mod Joined
 pub mod Forms
+pub mod Steps
+pub mod Updated
+pub mod Walks
+pub mod Turns
+pub mod Stage
+pub mod Climbing
+pub mod TypedStart

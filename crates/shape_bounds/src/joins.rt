@@ -72,7 +72,11 @@ fn join_numbers(low: i128, high: i128, b: &Shape) -> Result<Shape, AllocError>
 }
 
 #[cycle(join)]
-fn join_items(alloc: Global, xs: &[Shape], ys: &[Shape]) -> Result<List<Shape>, AllocError>
+pub(crate) fn join_items(
+    alloc: Global,
+    xs: &[Shape],
+    ys: &[Shape],
+) -> Result<List<Shape>, AllocError>
     ensures { IfOk result (λ r. map mean r ≡ joined_each (map mean xs.now) (map mean ys.now)) }
 {
     let mut items = Vec::new(alloc);

@@ -1,19 +1,29 @@
-//! Shapes computed: of kernel trees, and which number in them is the first past its limit.
+//! Shapes computed: of kernel trees and of the levels of a system, and which number is the first past its limit.
 #![tactic(auto, using(crate::proofs::Means::means))]
 
 mod intervals;
 mod joins;
 mod kinds;
+mod levels;
 mod limits;
 mod making;
 mod names;
 mod nodes;
 mod numbers;
 mod parts;
+mod paths;
 mod records;
 mod rows;
+mod shape_fault;
 mod sizing;
+mod stages;
+mod starting;
+mod type_shapes;
 mod typed;
+mod typed_start;
+mod updates;
 
 pub use limits::Excess;
 pub use names::{Names, Site};
+pub use shape_fault::ShapeFault;
+pub use stages::{shapes, shapes_from, typed_shapes};

@@ -15,7 +15,7 @@ const MOST_MEMBERS: u64 = 65_536;
 const MOST_PLACES: u64 = 4_096;
 
 // It stands for every greater number.
-const MOST_PRINTED: u64 = 1_000_000_000_000;
+pub(crate) const MOST_PRINTED: u64 = 1_000_000_000_000;
 
 /// A number of members or arguments, or of places of a sequence, that is past its limit.
 #[derive(Clone, Copy, Debug, Drop, PartialEq, Eq)]

@@ -111,7 +111,11 @@ impl Names {
     }
 }
 
-fn shape_in(alloc: Global, shapes: &[Option<Shape>], i: usize) -> Result<Shape, AllocError>
+pub(crate) fn shape_in(
+    alloc: Global,
+    shapes: &[Option<Shape>],
+    i: usize,
+) -> Result<Shape, AllocError>
     ensures { IfOk result (λ r. mean r ≡ found (read_at (slice_get shapes.now i))) }
 {
     if i >= shapes.len() {

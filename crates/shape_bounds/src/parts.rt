@@ -1,5 +1,5 @@
 // Parts of shapes, and numbers of members, arguments and places.
-ghost use Rattle.std.specs.Prelude.{◌≡◌, IfOk, map};
+ghost use Rattle.std.specs.Prelude.{[], ◌∷◌, ◌≡◌, IfOk, map};
 ghost use Rattle.kernel_shapes.specs.Codes.{mean};
 ghost use Rattle.kernel_shapes.specs.Rows.{applied_at, number};
 ghost use Rattle.kernel_shapes.specs.Shape.{Tup, count, field, inside, shapes};
@@ -62,6 +62,18 @@ pub(crate) fn copy_part(alloc: Global, a: Option<&Shape>) -> Result<Shape, Alloc
         Some(a) => copy_shape(alloc, a),
         None => Ok(Shape::Empty),
     }
+}
+
+// A copy of a shape and one of another; none is Empty.
+pub(crate) fn pair(alloc: Global, a: &Shape, b: Option<&Shape>) -> Result<Vec<Shape>, AllocError>
+    ensures { IfOk result (λ r. map mean r.items ≡ mean a.now ∷ part b.entry ∷ []) }
+{
+    let first = copy_shape(alloc, a)?;
+    let second = copy_part(alloc, b)?;
+    let mut both = Vec::new(alloc);
+    both.push(first)?;
+    both.push(second)?;
+    Ok(both)
 }
 
 // The shape of the value at an index; none is Empty.

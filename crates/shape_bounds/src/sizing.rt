@@ -1,5 +1,5 @@
 // The shape of a kernel tree by those of the names that it reads, and which number in it is past its limit.
-ghost use Rattle.std.specs.Prelude.{◌≡◌, IfOk, map, take, true};
+ghost use Rattle.std.specs.Prelude.{[], ◌∷◌, ◌≡◌, IfOk, map, take, true};
 ghost use Rattle.kernel_trees.specs.declared.kernel.Ker.{out-Ker};
 ghost use Rattle.kernel_trees.specs.declared.kernel.KerOp.TheVariants as ker;
 ghost use Rattle.kernel_shapes.specs.Kernel.{ker_sized};
@@ -7,18 +7,23 @@ ghost use Rattle.kernel_shapes.specs.Codes.{mean};
 ghost use Rattle.kernel_shapes.specs.Sized.{Position, operand};
 ghost use Rattle.shape_bounds.specs.Kept.{IsWidth};
 ghost use Rattle.shape_bounds.specs.inner.Nodes.{is_binder, is_endless, is_listed, is_membership, is_product, second_of, subset_operand};
-ghost use Rattle.shape_bounds.specs.Sizes.{Sizes, SizesEach, stands};
+ghost use Rattle.shape_bounds.specs.inner.Steps.{SizesSteps};
+ghost use Rattle.shape_bounds.specs.Sizes.{Sizes, SizesEach, SizesUnder, stands};
 ghost use Rattle.shape_bounds.specs.inner.Table.{literal};
+ghost use Rattle.shape_bounds.specs.inner.Updated.{SizesBeyond, SizesRight, goes_on};
 
+use crate::joins::join_all;
 use crate::names::{Names, Site};
 use crate::nodes::{binder_shape, constant, is_plain, literal_of};
-use crate::parts::{Literal, applied, copy_part};
+use crate::parts::{Literal, applied, copy_part, count, inside, pair};
 use crate::records::insides;
 use crate::rows::{functions_of, range, row, subsets_of};
 use crate::typed::{domain_of, items_of};
-use kernel_shapes::Shape;
+use crate::updates::{goes_on, joined_at};
+use kernel_shapes::{Shape, copy_shape};
 use kernel_trees::{Ker, KerOp};
 use std::alloc::AllocError;
+use tla_meaning::Place;
 
 impl Names {
     /// The shape of a kernel tree where names have these shapes, in numbers of members up to 2^64 - 1, which stands for all
@@ -26,8 +31,7 @@ impl Names {
     /// looked at before. (Konnov, Kukovec and Tran, "TLA+ Model Checking Made Symbolic", OOPSLA 2019, on static bounds of
     /// cells.)
     ///
-    /// Want of memory stands also for a tree that is not sound, and for one with an update or a fold, which are not
-    /// computed.
+    /// Want of memory stands also for a tree that is not sound, and for a fold of 2^64 - 1 steps or more.
     #[cycle(size)]
     pub fn size(&mut self, k: &Ker, at: Site) -> Result<Shape, AllocError>
         requires sized { IsWidth self.old.width }
@@ -51,6 +55,8 @@ impl Names {
             KerOp::NoCase => Ok(Shape::Empty),
             KerOp::Domain => self.domain(k),
             KerOp::TupOf | KerOp::SeqOf => self.listed(k),
+            KerOp::FoldLeft => self.fold(k),
+            KerOp::Update => self.update(k),
             _ => self.plain(k),
         }
     }
@@ -81,7 +87,12 @@ impl Names {
 
     // The shapes of the first trees, so many.
     #[cycle(size)]
-    fn sizes(&mut self, ks: &[Ker], number: usize, at: Site) -> Result<Vec<Shape>, AllocError>
+    pub(crate) fn sizes(
+        &mut self,
+        ks: &[Ker],
+        number: usize,
+        at: Site,
+    ) -> Result<Vec<Shape>, AllocError>
         requires sized { IsWidth self.old.width }
         ensures { IfOk result (λ rs. SizesEach self.old self.new
             (map (ker_sized self.old.width) (take number ks.now)) (stands at) rs.items) }
@@ -149,13 +160,24 @@ impl Names {
         }
         let sets = self.sizes(args, numbers.len(), Site::Walked)?;
         let members = insides(self.alloc, sets.as_slice())?;
-        let bound = self.bound.as_slice();
-        let before = bound.len();
-        self.bind(numbers, members.as_slice())?;
-        let body = self.size(&args[numbers.len()], Site::Walked)?;
-        self.bound.truncate(before);
+        let body = self.under(&args[numbers.len()], numbers, members.as_slice())?;
         let shape = binder_shape(self.alloc, &k.op, sets.as_slice(), body)?;
         self.count(k.place, &shape);
+        Ok(shape)
+    }
+
+    // Of a tree that is walked where further numbers have these shapes.
+    #[cycle(size)]
+    fn under(&mut self, body: &Ker, numbers: &[u32], shapes: &[Shape]) -> Result<Shape, AllocError>
+        requires sized { IsWidth self.old.width }
+        ensures { IfOk result (λ r. SizesUnder self.old self.new
+            (ker_sized self.old.width body.now) numbers.now (map mean shapes.now) r) }
+    {
+        let bound = self.bound.as_slice();
+        let before = bound.len();
+        self.bind(numbers, shapes)?;
+        let shape = self.size(body, Site::Walked)?;
+        self.bound.truncate(before);
         Ok(shape)
     }
 
@@ -297,6 +319,129 @@ impl Names {
         let items = self.sizes(args, args.len(), Site::Walked)?;
         let shape = items_of(self.alloc, &k.ty, items)?;
         self.count(k.place, &shape);
+        Ok(shape)
+    }
+
+    // A fold of a list from the left.
+    #[cycle(size)]
+    fn fold(&mut self, k: &Ker) -> Result<Shape, AllocError>
+        requires sized { IsWidth self.old.width }
+        requires kind { (out-Ker k.now).op ≡ ker.FoldLeft }
+        ensures { IfOk result (λ r. (q : Position) →
+            Sizes self.old self.new (ker_sized self.old.width k.now) q r) }
+    {
+        let numbers = k.binds.as_slice();
+        if numbers.len() != 2 {
+            return Err(AllocError);
+        }
+        match k.args.as_slice() {
+            [body, start, list] => {
+                let first = self.size(start, Site::Walked)?;
+                let items = self.size(list, Site::Walked)?;
+                let values = self.steps(body, numbers, first, &items)?;
+                let shape = join_all(self.alloc, values.as_slice())?;
+                self.count(k.place, &shape);
+                Ok(shape)
+            }
+            _ => Err(AllocError),
+        }
+    }
+
+    // The values that a fold goes through: the start, and what the body gives at each item of a list.
+    #[cycle(size)]
+    fn steps(
+        &mut self,
+        body: &Ker,
+        numbers: &[u32],
+        start: Shape,
+        list: &Shape,
+    ) -> Result<Vec<Shape>, AllocError>
+        requires sized { IsWidth self.old.width }
+        ensures { IfOk result (λ rs. SizesSteps self.old self.new
+            (ker_sized self.old.width body.now) numbers.now (mean start) (mean list.now) rs.items) }
+    {
+        let number = count(list);
+        if number == u64::MAX {
+            return Err(AllocError);
+        }
+        let mut values = Vec::new(self.alloc);
+        let mut value = start;
+        for _ in 0..number {
+            let shapes = pair(self.alloc, &value, inside(list))?;
+            let next = self.under(body, numbers, shapes.as_slice())?;
+            values.push(value)?;
+            value = next;
+        }
+        values.push(value)?;
+        Ok(values)
+    }
+
+    // An update at an index.
+    #[cycle(size)]
+    fn update(&mut self, k: &Ker) -> Result<Shape, AllocError>
+        requires sized { IsWidth self.old.width }
+        requires kind { (out-Ker k.now).op ≡ ker.Update }
+        ensures { IfOk result (λ r. (q : Position) →
+            Sizes self.old self.new (ker_sized self.old.width k.now) q r) }
+    {
+        match k.args.as_slice() {
+            [updated, ..] => {
+                let whole = self.size(updated, Site::Walked)?;
+                let shape = self.changed(k, &whole)?;
+                self.count(k.place, &shape);
+                Ok(shape)
+            }
+            _ => Err(AllocError),
+        }
+    }
+
+    // An update of what has a shape, without a number of its own.
+    #[cycle(size)]
+    fn changed(&mut self, k: &Ker, whole: &Shape) -> Result<Shape, AllocError>
+        requires sized { IsWidth self.old.width }
+        requires kind { (out-Ker k.now).op ≡ ker.Update }
+        ensures { IfOk result (λ r.
+            SizesBeyond self.old self.new self.old.width k.now (mean whole.now) r) }
+    {
+        let numbers = k.binds.as_slice();
+        if numbers.len() != 1 {
+            return Err(AllocError);
+        }
+        match k.args.as_slice() {
+            [_, index, right] => {
+                self.size(index, Site::Walked)?;
+                let written = literal_of(index);
+                let part = copy_part(self.alloc, applied(whole, written))?;
+                let new = self.right(right, k.place, numbers[0], part)?;
+                let shape = joined_at(self.alloc, whole, written, &new)?;
+                Ok(shape)
+            }
+            _ => Err(AllocError),
+        }
+    }
+
+    // The right side of an update at a place, where the number that it binds has the shape of the part.
+    #[cycle(size)]
+    fn right(
+        &mut self,
+        right: &Ker,
+        place: Place,
+        number: u32,
+        part: Shape,
+    ) -> Result<Shape, AllocError>
+        requires sized { IsWidth self.old.width }
+        ensures { IfOk result (λ r. SizesRight self.old self.new (goes_on place number right.now)
+            (ker_sized self.old.width right.now) (number ∷ []) (mean part ∷ []) r) }
+    {
+        if !goes_on(place, number, right) {
+            return self.under(right, &[number], &[part]);
+        }
+        let bound = self.bound.as_slice();
+        let before = bound.len();
+        let copy = copy_shape(self.alloc, &part)?;
+        self.bound.push((number, copy))?;
+        let shape = self.changed(right, &part)?;
+        self.bound.truncate(before);
         Ok(shape)
     }
 }

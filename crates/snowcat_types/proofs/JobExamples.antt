@@ -1,4 +1,4 @@
--- A small job that has a typing, and one in which two types clash.
+-- A small job that has a typing, one in which two types clash, and one whose start is no truth value.
 use Rattle.std.proofs.Common.{◌≡◌, ℕ, zero, suc, ◌<◌, false, List, [], ◌∷◌, ◌++◌, codes, Some, None, refl, sym, ◌∙◌, subst, arith, map}
 use Rattle.std.specs.Prelude.{Contains}
 use Rattle.tla_meaning.specs.declared.expr.Decl.{Decl}
@@ -85,14 +85,22 @@ annotations_text = are_annotations x_is_text refl refl (simp (notes-roll))
 
 -- ---- x = 1
 
+-- the root of a part is Bool
+abbrev a_truth : List Requirement
+a_truth = Equal bool_type bool_type ∷ []
+
+-- a part that is TRUE
+abbrev yes_asks : List Entry
+yes_asks = Asks (at 4) [] ∷ Asks (at 4) a_truth ∷ []
+
 abbrev front : List Entry
-front = Asks (at 4) [] ∷ Asks (at 4) [] ∷ Asks (at 8) [] ∷ []
+front = yes_asks ++ yes_asks ++ Asks (at 8) [] ∷ []
 
 abbrev asks_one : System
 asks_one = record {
   count = 2;
   declared = Equal int_type (var 0) ∷ [];
-  entries = front ++ Asks (at 2) [] ∷ Asks (at 1) (Equal (var 1) (var 0) ∷ Equal (var 1) int_type ∷ []) ∷ Asks (at 4) [] ∷ [];
+  entries = front ++ Asks (at 2) [] ∷ Asks (at 1) (Equal (var 1) (var 0) ∷ Equal (var 1) int_type ∷ []) ∷ Asks (at 1) a_truth ∷ yes_asks;
   names = var 0 ∷ [];
   parts = (bool_type ∷ []) ∷ (bool_type ∷ []) ∷ (bool_type ∷ var 0 ∷ int_type ∷ []) ∷ (bool_type ∷ []) ∷ [];
 }
@@ -116,11 +124,11 @@ parts_one : types_of_parts typed_one ≡ (bool_type ∷ []) ∷ (bool_type ∷ [
 parts_one = simp (mean-Int, mean-Bool)
 
 principal_one : Principal 2 (all_asked asks_one) all_int
-principal_one = record { meets = (refl, (refl, (refl, tt))); general = λ u h. (u, each u h) }
+principal_one = record { meets = (refl, (refl, (refl, (refl, (refl, (refl, (refl, tt))))))); general = λ u h. (u, each u h) }
   where
     each : (u : Sub) → MeetAll u (all_asked asks_one) → (v : ℕ) → v < 2 → u.type_of v ≡ apply u int_type
     each u h zero lt = sym h.0
-    each u h (suc zero) lt = h.1.1.0
+    each u h (suc zero) lt = h.1.1.1.1.0
     each u h (suc (suc v)) lt = absurd (omega (arith, lt))
 
 typing_one : IsTyping asks_one (int_type ∷ []) ((bool_type ∷ []) ∷ (bool_type ∷ []) ∷ (bool_type ∷ int_type ∷ int_type ∷ []) ∷ (bool_type ∷ []) ∷ []) []
@@ -142,7 +150,7 @@ abbrev asks_text : System
 asks_text = record {
   count = 2;
   declared = Equal int_type (var 0) ∷ [];
-  entries = front ++ Asks (at 3) [] ∷ Asks (at 1) (Equal (var 1) (var 0) ∷ Equal (var 1) str_type ∷ []) ∷ Asks (at 4) [] ∷ [];
+  entries = front ++ Asks (at 3) [] ∷ Asks (at 1) (Equal (var 1) (var 0) ∷ Equal (var 1) str_type ∷ []) ∷ Asks (at 1) a_truth ∷ yes_asks;
   names = var 0 ∷ [];
   parts = (bool_type ∷ []) ∷ (bool_type ∷ []) ∷ (bool_type ∷ var 0 ∷ str_type ∷ []) ∷ (bool_type ∷ []) ∷ [];
 }
@@ -154,27 +162,35 @@ abbrev bound : List Binding
 bound = to_type 0 int_type ∷ to_type 1 int_type ∷ []
 
 abbrev done : List Requirement
-done = Equal int_type (var 0) ∷ Equal (var 1) (var 0) ∷ []
+done = Equal int_type (var 0) ∷ a_truth ++ a_truth ++ Equal (var 1) (var 0) ∷ []
 
 int_no_str : int_type ≡ str_type → ⊥
 int_no_str e = cc
 
 none_text : NoTyping asks_text []
-none_text s h w = int_no_str (h.0 ∙ sym h.1.0 ∙ h.1.1.0)
+none_text s h w = int_no_str (h.0 ∙ sym h.1.1.1.0 ∙ h.1.1.1.1.0)
 
 principal_text : Principal 2 done (sub_of bound)
-principal_text = record { meets = (refl, (refl, tt)); general = λ u h. (u, each u h) }
+principal_text = record { meets = (refl, (refl, (refl, (refl, tt)))); general = λ u h. (u, each u h) }
   where
     each : (u : Sub) → MeetAll u done → (v : ℕ) → v < 2 → u.type_of v ≡ apply u ((sub_of bound).type_of v)
     each u h zero lt = sym h.0
-    each u h (suc zero) lt = h.1.0 ∙ sym h.0
+    each u h (suc zero) lt = h.1.1.1.0 ∙ sym h.0
     each u h (suc (suc v)) lt = absurd (omega (arith, lt))
 
-visited_text : Visited (Equal int_type (var 0) ∷ []) (front ++ Asks (at 3) [] ∷ []) (Equal int_type (var 0) ∷ []) []
-visited_text =
+-- what is asked of the name, and of the two parts that are TRUE
+abbrev before_init : List Requirement
+before_init = Equal int_type (var 0) ∷ a_truth ++ a_truth
+
+visited_parts : Visited (Equal int_type (var 0) ∷ []) (yes_asks ++ yes_asks) before_init []
+visited_parts =
     let ds : List Requirement = Equal int_type (var 0) ∷ [] in
-    a_row front (at 3) [] ds [] (a_row (Asks (at 4) [] ∷ Asks (at 4) [] ∷ []) (at 8) [] ds []
-    (a_row (Asks (at 4) [] ∷ []) (at 4) [] ds [] (a_row [] (at 4) [] ds [] nothing_yet)))
+    let node : List Entry = Asks (at 4) [] ∷ [] in
+    a_row (yes_asks ++ node) (at 4) a_truth (ds ++ a_truth) [] (a_row yes_asks (at 4) [] (ds ++ a_truth) []
+    (a_row node (at 4) a_truth ds [] (a_row [] (at 4) [] ds [] nothing_yet)))
+
+visited_text : Visited (Equal int_type (var 0) ∷ []) (front ++ Asks (at 3) [] ∷ []) before_init []
+visited_text = a_row front (at 3) [] before_init [] (a_row (yes_asks ++ yes_asks) (at 8) [] before_init [] visited_parts)
 
 issued_text : IsIssued 2 bound
 issued_text =
@@ -186,7 +202,7 @@ clash_text = record {
   entry = Asks (at 1) (Equal (var 1) (var 0) ∷ Equal (var 1) str_type ∷ []);
   asks = Equal (var 1) str_type;
   listed = [];
-  next = in_row (front ++ Asks (at 3) [] ∷ []) (Asks (at 4) [] ∷ []) (at 1) (Equal (var 1) (var 0) ∷ []) [] (Equal int_type (var 0) ∷ []) (Equal (var 1) str_type) [] refl visited_text;
+  next = in_row (front ++ Asks (at 3) [] ∷ []) (Asks (at 1) a_truth ∷ yes_asks) (at 1) (Equal (var 1) (var 0) ∷ []) [] before_init (Equal (var 1) str_type) [] refl visited_text;
   at_node = refl;
   places_are = refl;
   none = none_text;
@@ -219,4 +235,81 @@ x_is_text_clashes = record {
   clash = subst (λ z. IsClash z (at 1) (mean ty.Int) (mean ty.Str) []) (sym system_text)
       (subst (λ z. IsClash asks_text (at 1) z (mean ty.Str) []) (sym mean-Int)
       (subst (λ z. IsClash asks_text (at 1) int_type z []) (sym mean-Str) clash_text));
+}
+
+-- ---- 1, which is no truth value
+
+abbrev start_is_one : Job
+start_is_one = job_with one
+
+annotations_start : AreAnnotations start_is_one x_is_int
+annotations_start = are_annotations start_is_one refl refl (simp (notes-roll))
+
+abbrev asks_start : System
+asks_start = record {
+  count = 1;
+  declared = Equal int_type (var 0) ∷ [];
+  entries = yes_asks ++ yes_asks ++ Asks (at 2) [] ∷ Asks (at 2) (Equal bool_type int_type ∷ []) ∷ yes_asks;
+  names = var 0 ∷ [];
+  parts = (bool_type ∷ []) ∷ (bool_type ∷ []) ∷ (int_type ∷ []) ∷ (bool_type ∷ []) ∷ [];
+}
+
+system_start : system x_is_int start_is_one ≡ asks_start
+system_start = simp (visit-at)
+
+bool_no_int : bool_type ≡ int_type → ⊥
+bool_no_int e = cc
+
+abbrev bound_start : List Binding
+bound_start = to_type 0 int_type ∷ []
+
+principal_start : Principal 1 before_init (sub_of bound_start)
+principal_start = record { meets = (refl, (refl, (refl, tt))); general = λ u h. (u, each u h) }
+  where
+    each : (u : Sub) → MeetAll u before_init → (v : ℕ) → v < 1 → u.type_of v ≡ apply u ((sub_of bound_start).type_of v)
+    each u h zero lt = sym h.0
+    each u h (suc v) lt = absurd (omega (arith, lt))
+
+visited_start : Visited (Equal int_type (var 0) ∷ []) (yes_asks ++ yes_asks ++ Asks (at 2) [] ∷ []) before_init []
+visited_start = a_row (yes_asks ++ yes_asks) (at 2) [] before_init [] visited_parts
+
+clash_start : IsClash asks_start (at 2) bool_type int_type []
+clash_start = record {
+  done = before_init;
+  entry = Asks (at 2) (Equal bool_type int_type ∷ []);
+  asks = Equal bool_type int_type;
+  listed = [];
+  next = in_row (yes_asks ++ yes_asks ++ Asks (at 2) [] ∷ []) yes_asks (at 2) [] [] before_init (Equal bool_type int_type) [] refl visited_start;
+  at_node = refl;
+  places_are = refl;
+  none = λ s h w. bool_no_int h.1.1.1.0;
+  last = bound_start;
+  principal = principal_start;
+  a = bool_type;
+  b = int_type;
+  sides = (refl, refl);
+  issued = 1;
+  more = omega arith;
+  is_issued = (((λ o. o), (tt, tt)), ((omega arith, λ v o. absurd o), tt));
+  fronts = λ r n. false;
+  sorted = ((tt, tt), (tt, tt));
+  unmade = record {
+    apart = λ u f e q. bool_no_int q;
+    issued = 1;
+    fronts = λ r n. false;
+    reached = bound_start;
+    follow = given;
+    beside = here;
+    at_once = record { unequal = bool_no_int; forms = λ h a b e f s. absurd (cc); records = λ f g k j e d. absurd (cc) };
+    never = λ s f e. bool_no_int e;
+  };
+}
+
+pub start_clashes : IsClashOf start_is_one (at 2) ty.Bool ty.Int []
+start_clashes = record {
+  annotations = x_is_int;
+  are = annotations_start;
+  clash = subst (λ z. IsClash z (at 2) (mean ty.Bool) (mean ty.Int) []) (sym system_start)
+      (subst (λ z. IsClash asks_start (at 2) z (mean ty.Int) []) (sym mean-Bool)
+      (subst (λ z. IsClash asks_start (at 2) bool_type z []) (sym mean-Int) clash_start));
 }

@@ -63,7 +63,7 @@ all_seen (e ∷ es) os v c =
 abbrev Begins : Found → Type 0
 Begins f = (rest : List Term) × (f.types ≡ f.type ∷ rest)
 
-types_begin : (e : Expr) (v : ℕ) (c : Context) → Begins (visit e v c)
+pub types_begin : (e : Expr) (v : ℕ) (c : Context) → Begins (visit e v c)
 types_begin = by_nodes (λ e. (v : ℕ) (c : Context) → Begins (visit e v c)) (λ p o xs ys v c.
     let es : List Expr = map (λ y. y.0) ys in
     let r : TypeRow = row_of c o xs (length (map visit es)) in
@@ -151,12 +151,12 @@ module _ (s : Sub) (n : ℕ) where
   abbrev types_under : List Found → List (List Term)
   types_under fs = map (λ f. map (apply s) f.types) fs
 
-  asked_both : (es fs : List Entry) → MeetAll s (asked (es ++ fs)) → MeetAll s (asked es) × MeetAll s (asked fs)
+  pub asked_both : (es fs : List Entry) → MeetAll s (asked (es ++ fs)) → MeetAll s (asked es) × MeetAll s (asked fs)
   asked_both es fs h =
       let k : MeetAll s (asked es ++ asked fs) = subst (MeetAll s) (asked-append es fs) h in
       (meet_left s (asked es) (asked fs) k, meet_right s (asked es) (asked fs) k)
 
-  waited_both : (es fs : List Entry) → Each (HasChoice s) (waited (es ++ fs)) → Each (HasChoice s) (waited es) × Each (HasChoice s) (waited fs)
+  pub waited_both : (es fs : List Entry) → Each (HasChoice s) (waited (es ++ fs)) → Each (HasChoice s) (waited es) × Each (HasChoice s) (waited fs)
   waited_both es fs h =
       let k : Each (HasChoice s) (waited es ++ waited fs) = subst (Each (HasChoice s)) (waited-append es fs) h in
       (all_left (HasChoice s) (waited es) (waited fs) k, all_right (HasChoice s) (waited es) (waited fs) k)

@@ -3,10 +3,12 @@ use Rattle.std.proofs.Common.{◌≡◌, ℕ, zero, suc, ◌+◌, ◌<◌, List,
 use Rattle.std.proofs.lemmas.List.{length-take-le, take_more}
 use Rattle.tla_meaning.specs.declared.expr.Expr.{Expr}
 use Rattle.tla_meaning.specs.declared.job.Job.{Job}
-use Rattle.snowcat_rows.specs.declared.types.Ty.{Ty, Var}
+use Rattle.tla_meaning.specs.declared.place.Place.{Place}
+use Rattle.snowcat_rows.specs.declared.types.Ty.{Ty, Bool, Var}
 use Rattle.snowcat_rows.specs.Types.{Term, mean, var}
 use Rattle.snowcat_rows.specs.Readings.{moved}
-use Rattle.snowcat_rows.proofs.Means.{mean-Var}
+use Rattle.snowcat_rows.proofs.Means.{mean-Bool, mean-Var}
+use Rattle.snowcat_types.specs.declared.gathered.Entry.{Entry as BuiltEntry}
 use Rattle.snowcat_types.specs.declared.gathered.Requirement.{Requirement as BuiltRequirement}
 use Rattle.snowcat_types.specs.declared.gathered.Requirement.TheVariants as built
 use Rattle.snowcat_types.specs.declared.gathering.Names.{Names}
@@ -14,37 +16,49 @@ use Rattle.snowcat_types.specs.declared.told.Told.{Told}
 use Rattle.snowcat_types.specs.declared.trees.Gathering.{Gathering}
 use Rattle.snowcat_types.specs.declared.trees.Seen.{Seen}
 use Rattle.snowcat_types.specs.Requirements.{Equal}
+use Rattle.snowcat_types.specs.TypeForms.{bool_type}
 use Rattle.snowcat_types.specs.Rows.{Context}
-use Rattle.snowcat_types.specs.Systems.{Found, Annotations, all_entries, behind, count_declared, declared_types, first_unknown, names_from, outermost, parts_of, system, visit, visits}
+use Rattle.snowcat_types.specs.Systems.{Entry, Asks, Found, Annotations, all_entries, behind, count_declared, declared_types, first_unknown, names_from, outermost, parts_of, root_asks, system, visit, visit_part, visits}
 use Rattle.snowcat_types.specs.inner.Built.{means, note_of, scope_of, context_of}
-use Rattle.snowcat_types.specs.inner.Gathered.{annotations_of, entries_of, requirement_of, requirements_of, system_of_built}
+use Rattle.snowcat_types.specs.inner.Gathered.{annotations_of, entries_of, entry_of, requirement_of, requirements_of, system_of_built}
 use Rattle.snowcat_types.specs.inner.Visiting.{AddsParts, AreDeclared, IsStart, Visited, declared_of}
 use Rattle.snowcat_types.proofs.TreeSteps.{as_long, map_append, nothing_behind}
 
 -- ---- parts
 
-pub part_added : (old b d new : Gathering) (s : Seen) (e : Expr) (ts : List Ty) →
+pub truth_asked : (p : Place) (t : Ty) (rs : List BuiltRequirement) → rs ≡ built.Equal Bool t ∷ [] →
+    Asks p (requirements_of rs) ≡ Asks p (Equal bool_type (mean t) ∷ [])
+truth_asked p t rs e = ap (λ z. Asks p (requirements_of z)) e ∙ ap (λ z. Asks p (Equal z (mean t) ∷ [])) mean-Bool
+
+pub part_added : (old b d new : Gathering) (s : Seen) (e : Expr) (asks : BuiltEntry) (ts : List Ty) →
     b.types.items ≡ [] → b.next ≡ old.next → b.around ≡ old.around → b.entries ≡ old.entries → b.parts ≡ old.parts →
-    Visited b d (visit e b.next (context_of b.around)) s → ts ≡ d.types.items →
-    new.next ≡ d.next → new.around ≡ d.around → new.entries ≡ d.entries → new.parts.items ≡ d.parts.items ++ ts ∷ [] → AddsParts old new (e ∷ [])
-part_added old b d new s e ts empty n a es ps v t m c fs qs =
+    Visited b d (visit e b.next (context_of b.around)) s → entry_of asks ≡ Asks s.sight.place (Equal bool_type (mean s.of) ∷ []) →
+    ts ≡ d.types.items → new.next ≡ d.next → new.around ≡ d.around → new.entries.items ≡ d.entries.items ++ asks ∷ [] →
+    new.parts.items ≡ d.parts.items ++ ts ∷ [] → AddsParts old new (e ∷ [])
+part_added old b d new s e asks ts empty n a es ps v r t m c fs qs =
     let f : Found = visit e old.next (context_of old.around) in
     let one : Visited b d f s = subst (λ z. Visited b d z s) (λ i. visit e (n i) (context_of (a i))) v in
+    let own : List Entry = root_asks f ∷ [] in
+    let root : entry_of asks ∷ [] ≡ own =
+    ap (λ z. z ∷ []) (r ∙ (λ i. Asks (one.sight_is i).place (Equal bool_type (one.type_is i) ∷ []))) in
+    let below : entries_of d.entries.items ≡ entries_of old.entries.items ++ f.entries =
+    one.adds.entries_are ∙ ap (λ z. entries_of z.items ++ f.entries) es in
     record {
       next_is = m ∙ one.next_is;
       parts_are =
           ap (map means) qs ∙ map_append means d.parts.items (ts ∷ [])
           ∙ (λ i. map means ((one.adds.stays.parts ∙ ap (λ z. z.items) ps) i) ++ ((ap means t ∙ one.adds.types_are ∙ ap (λ z. means z ++ f.types) empty) i) ∷ []);
       entries_are =
-          ap (λ z. entries_of z.items) fs ∙ one.adds.entries_are ∙ ap (λ z. entries_of z.items ++ f.entries) es
-          ∙ ap (λ z. entries_of old.entries.items ++ z) (sym (nothing_behind f.entries));
+          ap entries_of fs ∙ map_append entry_of d.entries.items (asks ∷ []) ∙ (λ i. below i ++ root i)
+          ∙ append_assoc (entries_of old.entries.items) f.entries own
+          ∙ ap (λ z. entries_of old.entries.items ++ z) (sym (nothing_behind (f.entries ++ own)));
       notes = ap (λ z. z.notes) c ∙ one.adds.stays.notes ∙ ap (λ z. z.notes) a;
       bound = ap (λ z. z.bound.items) c ∙ one.adds.stays.bound ∙ ap (λ z. z.bound.items) a;
     }
 
 visits_append : (c : Context) (es fs : List Expr) (v : ℕ) → visits c (es ++ fs) v ≡ visits c es v ++ visits c fs (behind v (visits c es v))
 visits_append c [] fs v = refl
-visits_append c (e ∷ es) fs v = ap (λ z. visit e v c ∷ z) (visits_append c es fs (visit e v c).next)
+visits_append c (e ∷ es) fs v = ap (λ z. visit_part e v c ∷ z) (visits_append c es fs (visit e v c).next)
 
 behind_append : (v : ℕ) (ks js : List Found) → behind v (ks ++ js) ≡ behind (behind v ks) js
 behind_append v [] js = refl

@@ -1,7 +1,8 @@
 -- In a typing each name has its annotated type, and each node has its types by the row of its operator.
 use Rattle.std.proofs.Common.{◌≡◌, ℕ, zero, suc, ◌+◌, ◌<◌, Bool, false, IsTrue, List, [], ◌∷◌, ◌++◌, map, length, refl, ap, sym, ◌∙◌, subst, arith, Option, Some, None}
-use Rattle.std.specs.Prelude.{slice_get}
+use Rattle.std.specs.Prelude.{All, slice_get}
 use Rattle.std.specs.List.{list_all}
+use Rattle.std.proofs.lemmas.List.Elements.{All-cons, All-nil}
 use Rattle.tla_meaning.specs.declared.expr.Expr.{Expr}
 use Rattle.tla_meaning.specs.declared.job.Job.{Job}
 use Rattle.tla_meaning.proofs.Views.{and_left, and_right}
@@ -12,22 +13,21 @@ use Rattle.snowcat_rows.specs.declared.types.Typed.{Typed}
 use Rattle.snowcat_types.specs.declared.waiting.Wait.{Wait}
 use Rattle.snowcat_types.specs.declared.waiting.Wait.TheVariants as wait
 use Rattle.snowcat_rows.specs.Closing.{closing}
-use Rattle.snowcat_types.specs.TypeForms.{int_type}
+use Rattle.snowcat_types.specs.TypeForms.{bool_type, int_type}
 use Rattle.snowcat_types.specs.Rows.{Context, or_type}
 use Rattle.snowcat_types.specs.Requirements.{Requirement, Equal, ItemOf, FieldOf, IsFormed, Never, MeetAll}
 use Rattle.snowcat_types.specs.Waiting.{items_from, choice}
-use Rattle.snowcat_types.specs.Systems.{Annotations, Found, visit, visits, all_entries, asked, waited, declared_types, names_from, outermost, first_unknown, parts_of, system, all_asked, all_waits}
+use Rattle.snowcat_types.specs.Systems.{Annotations, Entry, Found, root_asks, visit, visits, all_entries, asked, waited, declared_types, names_from, outermost, first_unknown, parts_of, system, all_asked, all_waits}
 use Rattle.snowcat_types.specs.Typings.{Each, IsTyping}
 use Rattle.snowcat_types.specs.Annotated.{AreAnnotations}
-use Rattle.snowcat_types.specs.Answers.{is_typable, is_typable_tree, IsTypedAs, types_of_names, types_of_parts, AreInstances, outside_of, AllHaveTypes, MeetsRows}
+use Rattle.snowcat_types.specs.Answers.{is_typable, is_typable_tree, IsTypedAs, types_of_names, types_of_parts, AreInstances, outside_of, AllHaveTypes, IsTruthFirst, MeetsRows}
 use Rattle.snowcat_types.specs.Judgement.{HasChoice}
-use Rattle.snowcat_types.proofs.Choices.{meet_left, meet_right, all_left, all_right, choices_made}
-use Rattle.snowcat_types.proofs.Nodes.{asked-append, waited-append}
+use Rattle.snowcat_types.proofs.Choices.{meet_left, meet_right, choices_made}
 use Rattle.snowcat_types.proofs.Fitting.{AllFit, SystemFits, system_fits}
 use Rattle.snowcat_types.proofs.Held.{RequirementHas, AllRequired, choice_has, WaitHas}
 use Rattle.snowcat_types.proofs.Holding.{KeepsForms, AllTypes}
 use Rattle.snowcat_types.proofs.Joining.{meets_then}
-use Rattle.snowcat_types.proofs.Judging.{Sees, tree_judged}
+use Rattle.snowcat_types.proofs.Judging.{Sees, asked_both, tree_judged, types_begin, waited_both}
 use Rattle.snowcat_types.proofs.PlainTypes.{closed_same}
 use Rattle.snowcat_types.proofs.SystemHeld.{noted_closed, same_length}
 use Rattle.snowcat_types.specs.inner.Solved.{Stable}
@@ -110,22 +110,35 @@ name_there s j (suc m) (suc i) lt =
 
 -- ---- the parts
 
-parts_judged : (s : Sub) (n : ℕ) (es : List Expr) → IsTrue (list_all (λ e. is_typable_tree n e (λ x. false)) es) → (v : ℕ) (c d : Context) → Sees s n c d →
-    MeetAll s (asked (all_entries (visits c es v))) → Each (HasChoice s) (waited (all_entries (visits c es v))) →
-    AllHaveTypes d es (map (map (apply s)) (map (λ k. k.types) (visits c es v)))
-parts_judged s n [] t v c d h ha hw = tt
-parts_judged s n (e ∷ es) t v c d h ha hw =
-    let one : Found = visit e v c in
-    let rest : List Found = visits c es one.next in
-    let p : Bool = is_typable_tree n e (λ x. false) in
-    let q : Bool = list_all (λ e. is_typable_tree n e (λ x. false)) es in
-    let a : MeetAll s (asked one.entries ++ asked (all_entries rest)) = subst (MeetAll s) (asked-append one.entries (all_entries rest)) ha in
-    let w : Each (HasChoice s) (waited one.entries ++ waited (all_entries rest)) = subst (Each (HasChoice s)) (waited-append one.entries (all_entries rest)) hw in (
-      tree_judged s n e (λ x. false) (and_left p q t) v c d h (meet_left s (asked one.entries) (asked (all_entries rest)) a)
-          (all_left (HasChoice s) (waited one.entries) (waited (all_entries rest)) w),
-      parts_judged s n es (and_right p q t) one.next c d h (meet_right s (asked one.entries) (asked (all_entries rest)) a)
-          (all_right (HasChoice s) (waited one.entries) (waited (all_entries rest)) w),
-    )
+module _ (s : Sub) (n : ℕ) where
+  parts_judged : (es : List Expr) → IsTrue (list_all (λ e. is_typable_tree n e (λ x. false)) es) → (v : ℕ) (c d : Context) → Sees s n c d →
+      MeetAll s (asked (all_entries (visits c es v))) → Each (HasChoice s) (waited (all_entries (visits c es v))) →
+      AllHaveTypes d es (map (map (apply s)) (map (λ k. k.types) (visits c es v)))
+  parts_judged [] t v c d h ha hw = tt
+  parts_judged (e ∷ es) t v c d h ha hw =
+      let one : Found = visit e v c in
+      let rest : List Entry = all_entries (visits c es one.next) in
+      let p : Bool = is_typable_tree n e (λ x. false) in
+      let q : Bool = list_all (λ e. is_typable_tree n e (λ x. false)) es in
+      let a = asked_both s n (one.entries ++ root_asks one ∷ []) rest ha in
+      let w = waited_both s n (one.entries ++ root_asks one ∷ []) rest hw in (
+        tree_judged s n e (λ x. false) (and_left p q t) v c d h (asked_both s n one.entries (root_asks one ∷ []) a.0).0
+            (waited_both s n one.entries (root_asks one ∷ []) w.0).0,
+        parts_judged es (and_right p q t) one.next c d h a.1 w.1,
+      )
+
+  -- the first type of each part is asked to be Bool
+  truths_met : (es : List Expr) (v : ℕ) (c : Context) → MeetAll s (asked (all_entries (visits c es v))) →
+      All IsTruthFirst (map (map (apply s)) (map (λ k. k.types) (visits c es v)))
+  truths_met [] v c h = All-nil IsTruthFirst
+  truths_met (e ∷ es) v c h =
+      let one : Found = visit e v c in
+      let a = asked_both s n (one.entries ++ root_asks one ∷ []) (all_entries (visits c es one.next)) h in
+      let own : bool_type ≡ apply s one.type = (asked_both s n one.entries (root_asks one ∷ []) a.0).1.0 in
+      let b = types_begin e v c in
+      let P : List Term → Type 0 = λ z. IsTruthFirst (map (apply s) z) in
+      All-cons IsTruthFirst (map (apply s) one.types) (map (map (apply s)) (map (λ k. k.types) (visits c es one.next)))
+      (subst P (sym b.1) (sym own)) (truths_met es one.next c a.1)
 
 -- ---- a typing
 
@@ -175,10 +188,20 @@ module _ (job : Job) (an : Annotations) (are : AreAnnotations job an) (can : IsT
       subst P (sym t.parts_are)
       (parts_judged (then_sub closing t.last) (length job.names) (parts_of job) can (first_unknown an) (outermost an) (outside_of an names) sees h met.1)
 
+  pub parts_true : All IsTruthFirst parts
+  unfolding all
+  parts_true =
+      let d : List Requirement = declared_types 0 (length an.declared) an.declared in
+      let h : MeetAll (then_sub closing t.last) (asked (system an job).entries) = meet_right (then_sub closing t.last) d (asked (system an job).entries) met.0 in
+      let P : List (List Term) → Type 0 = All IsTruthFirst in
+      subst P (sym t.parts_are)
+      (truths_met (then_sub closing t.last) (length job.names) (parts_of job) (first_unknown an) (outermost an) h)
+
 pub typed_meets : (job : Job) (t : Typed) → IsTrue (is_typable job) → IsTypedAs job t → MeetsRows job t
 typed_meets job t can h = record {
   annotations = h.annotations;
   are = h.are;
   names = names_met job h.annotations h.are can (types_of_names t) (types_of_parts t) h.defaults h.typing;
   parts = parts_met job h.annotations h.are can (types_of_names t) (types_of_parts t) h.defaults h.typing;
+  truths = parts_true job h.annotations h.are can (types_of_names t) (types_of_parts t) h.defaults h.typing;
 }

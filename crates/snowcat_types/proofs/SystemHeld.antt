@@ -12,7 +12,7 @@ use Rattle.snowcat_rows.specs.Operators.{HasNoOperator}
 use Rattle.snowcat_types.specs.Rows.{Context}
 use Rattle.snowcat_types.specs.Requirements.{Requirement}
 use Rattle.snowcat_types.specs.Waiting.{choice, default_kind}
-use Rattle.snowcat_types.specs.Systems.{Annotations, Found, visit, visits, behind, all_entries, count_declared, outermost, first_unknown, parts_of, system}
+use Rattle.snowcat_types.specs.Systems.{Annotations, Found, root_asks, visit, visits, behind, all_entries, count_declared, outermost, first_unknown, parts_of, system}
 use Rattle.snowcat_types.specs.Typings.{Reached, at_start, decided, by_default}
 use Rattle.snowcat_types.specs.Annotated.{Aliases, AreNameTypes, AreAnnotations, Says, Binds, all_notes}
 use Rattle.snowcat_types.specs.Answers.{is_typable_tree, is_typable}
@@ -38,7 +38,9 @@ visits_held P k n (e ∷ es) t v c hc h =
     let more : one.next ≤ behind one.next (visits c es one.next) = (trees_keyed c es one.next).order in
     let first : FoundHas P one = tree_held P k n e (λ x. false) (and_left p q t) v c hc (λ j i lt. h j i (omega (arith, lt, more))) in
     let rest = visits_held P k n es (and_right p q t) one.next c hc (λ j i lt. h j (omega (arith, i, le)) lt) in
-    ((first.0.0, rest.0), entries_append P one.entries (all_entries (visits c es one.next)) first.1 rest.1)
+    let own : AllEntries P (one.entries ++ root_asks one ∷ []) =
+    entries_append P one.entries (root_asks one ∷ []) first.1 (((k.plain.truth, first.0.1), tt), tt) in
+    ((first.0.0, rest.0), entries_append P (one.entries ++ root_asks one ∷ []) (all_entries (visits c es one.next)) own rest.1)
 
 -- ---- of a job
 

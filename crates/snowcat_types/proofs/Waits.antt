@@ -1,5 +1,6 @@
 -- The nodes that wait are different: each has an unknown type of its own.
 use Rattle.std.proofs.Common.{◌≡◌, ℕ, zero, suc, ◌+◌, ◌≤◌, ◌<◌, ◌⊎◌, inl, inr, List, [], ◌∷◌, ◌++◌, map, length, drop, ap, sym, ◌∙◌, subst, arith}
+use Rattle.std.proofs.lemmas.List.{append-nil}
 use Rattle.tla_meaning.specs.declared.expr.Expr.{Expr}
 use Rattle.tla_meaning.specs.declared.op.Op.{Op}
 use Rattle.tla_meaning.specs.declared.op.Op.TheVariants as op
@@ -10,7 +11,7 @@ use Rattle.snowcat_rows.specs.Types.{var}
 use Rattle.snowcat_types.specs.Rows.{Operand, Signature, TypeRow, Context, with_bound, row_of, tuple_row, sum, reached_number}
 use Rattle.snowcat_types.specs.Requirements.{Requirement}
 use Rattle.snowcat_types.specs.Waiting.{Sight, waiting, waiting_indexes, waiting_updates}
-use Rattle.snowcat_types.specs.Systems.{Annotations, Entry, Asks, Found, Visit, Children, children, under_first, others, visit, visit_node, visits, behind, all_entries, all_wait, waited, sights, operands_meet, fields_asked, outermost, first_unknown, system_of, all_waits}
+use Rattle.snowcat_types.specs.Systems.{Annotations, Entry, Asks, Found, Visit, Children, children, under_first, others, root_asks, visit, visit_node, visits, behind, all_entries, all_wait, waited, sights, operands_meet, fields_asked, outermost, first_unknown, system_of, all_waits}
 use Rattle.snowcat_types.specs.Typings.{Each}
 use Rattle.snowcat_types.proofs.Nodes.{by_nodes, visit-node, waited-append, waited-all}
 use Rattle.snowcat_types.proofs.Order.{In, Distinct, each_at}
@@ -162,12 +163,19 @@ tree_keyed = by_nodes IsKeyed (λ p o xs ys v c.
 
 -- ---- of a job
 
+-- the root of a part asks and does not wait
+pub part_waited : (f : Found) (es : List Entry) → waited ((f.entries ++ root_asks f ∷ []) ++ es) ≡ waited f.entries ++ waited es
+part_waited f es =
+    waited-append (f.entries ++ root_asks f ∷ []) es
+    ∙ ap (λ z. z ++ waited es) (waited-append f.entries (root_asks f ∷ []) ∙ append-nil (waited f.entries))
+
 pub trees_keyed : (c : Context) (es : List Expr) (v : ℕ) → Keyed v (behind v (visits c es v)) (waited (all_entries (visits c es v)))
 trees_keyed c [] v = keyed_none v v (omega arith)
 trees_keyed c (e ∷ es) v =
     let one : Found = visit e v c in
+    let rest : List Entry = all_entries (visits c es one.next) in
     let P : List Wait → Type 0 = Keyed v (behind one.next (visits c es one.next)) in
-    subst P (sym (waited-append one.entries (all_entries (visits c es one.next))))
+    subst P (sym (part_waited one rest))
     (keyed_append v one.next (behind one.next (visits c es one.next)) (waited one.entries) (waited (all_entries (visits c es one.next)))
     (tree_keyed e v c) (trees_keyed c es one.next))
 

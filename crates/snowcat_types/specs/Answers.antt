@@ -21,7 +21,7 @@ use Rattle.snowcat_rows.specs.declared.types.Typed.{Typed}
 use Rattle.snowcat_types.specs.declared.waiting.Wait.{Wait}
 use Rattle.snowcat_rows.specs.Throughout.{Throughout}
 use Rattle.snowcat_rows.specs.Operators.{IsNoOperator}
-use Rattle.snowcat_types.specs.TypeForms.{int_type}
+use Rattle.snowcat_types.specs.TypeForms.{bool_type, int_type}
 use Rattle.snowcat_types.specs.Rows.{Context, or_type}
 use Rattle.snowcat_types.specs.Systems.{Annotations, system, parts_of}
 use Rattle.snowcat_types.specs.Typings.{IsTyping, IsClash}
@@ -106,12 +106,19 @@ AllHaveTypes c [] [] = Unit {0}
 AllHaveTypes c (e ∷ es) (ts ∷ tss) = HasTypes c e ts × AllHaveTypes c es tss
 AllHaveTypes c es tss = ⊥
 
--- the names have their annotated types, and the nodes of each part have types by the rows of their operators
+-- of the types of a part the first, which is its root's, is Bool
+abbrev pub IsTruthFirst : List Term → Type 0
+IsTruthFirst [] = ⊥
+IsTruthFirst (t ∷ ts) = t ≡ bool_type
+
+-- the names have their annotated types, the nodes of each part have types by the rows of their operators, and each part
+-- is a truth value
 pub record MeetsRows (job : Job) (t : Typed) : Type 0 where
   pub annotations : Annotations
   pub are : AreAnnotations job annotations
   pub names : AreInstances annotations.declared (types_of_names t)
   pub parts : AllHaveTypes (outside_of annotations (types_of_names t)) (parts_of job) (types_of_parts t)
+  pub truths : All IsTruthFirst (types_of_parts t)
 
 -- no type of the typing has a variable or an operator type in it
 abbrev pub AllGround : Typed → Type 0

@@ -11,6 +11,7 @@ use Rattle.tla_meaning.specs.declared.job.Job.{Job}
 use Rattle.snowcat_rows.specs.Types.{Term, var}
 use Rattle.snowcat_rows.specs.Readings.{moved}
 use Rattle.snowcat_types.specs.declared.waiting.Wait.{Wait}
+use Rattle.snowcat_types.specs.TypeForms.{bool_type}
 use Rattle.snowcat_types.specs.Rows.{Scope, Operand, Signature, TypeRow, Context, with_bound, row_of}
 use Rattle.snowcat_types.specs.Requirements.{Requirement, Equal, FieldOf}
 use Rattle.snowcat_types.specs.Waiting.{Sight, literal_of, waiting}
@@ -117,9 +118,20 @@ abbrev pub declared_types : ℕ → ℕ → List (Term × ℕ) → List Requirem
 declared_types i v [] = []
 declared_types i v (t ∷ ts) = Equal (moved v t.0) (var i) ∷ declared_types (i + 1) (v + t.1) ts
 
+-- the initial predicate, the next-state action and an invariant are true or false, and so are assumptions and what
+-- constrains constants (Specifying Systems, section 2.2; the Apalache manual): the root of a part is asked to be Bool
+abbrev pub root_asks : Found → Entry
+root_asks f = Asks f.sight.place (Equal bool_type f.type ∷ [])
+
+-- behind all that its nodes add
+abbrev pub visit_part : Expr → Visit
+visit_part e v c =
+    let f : Found = visit e v c in
+    record { next = f.next; types = f.types; entries = f.entries ++ root_asks f ∷ []; type = f.type; sight = f.sight }
+
 abbrev pub visits : Context → List Expr → ℕ → List Found
 visits c [] v = []
-visits c (e ∷ es) v = visit e v c ∷ visits c es (visit e v c).next
+visits c (e ∷ es) v = visit_part e v c ∷ visits c es (visit_part e v c).next
 
 abbrev pub behind : ℕ → List Found → ℕ
 behind v [] = v

@@ -1,16 +1,18 @@
 // What a job asks of its types: begin with `gather` at the end.
 ghost use Rattle.std.specs.Prelude.{◌≡◌, ◌+◌, ◌++◌, ◌∷◌, [], IfOk, OnOk, length, map};
 ghost use Rattle.snowcat_rows.specs.Types.{mean};
-ghost use Rattle.snowcat_types.specs.Systems.{count_declared, declared_types, names_from, parts_of, system};
+ghost use Rattle.snowcat_types.specs.Requirements.{Equal};
+ghost use Rattle.snowcat_types.specs.Systems.{Asks, count_declared, declared_types, names_from, parts_of, system};
+ghost use Rattle.snowcat_types.specs.TypeForms.{bool_type};
 ghost use Rattle.snowcat_types.specs.inner.Built.{means};
-ghost use Rattle.snowcat_types.specs.inner.Gathered.{AllNamedIn, DeclaredNamed, IsNamed, NotesNamed, RequirementNamed, SystemNamed, ToldNamed, TypesNamed, annotations_of, requirements_of, system_of_built};
+ghost use Rattle.snowcat_types.specs.inner.Gathered.{AllNamedIn, DeclaredNamed, EntryNamed, IsNamed, NotesNamed, RequirementNamed, SystemNamed, ToldNamed, TypesNamed, annotations_of, entry_of, requirements_of, system_of_built};
 ghost use Rattle.snowcat_types.specs.inner.Named.{GatheringNamed};
 ghost use Rattle.snowcat_types.specs.inner.Visiting.{AddsParts, AreDeclared, IsStart};
 
 use crate::around::Around;
-use crate::gathered::{Requirement, System};
+use crate::gathered::{Entry, Requirement, System};
 use crate::told::Told;
-use crate::trees::{Gathering, visit};
+use crate::trees::{Gathering, Seen, visit};
 use crate::undecided::number_behind;
 use snowcat_rows::{Ty, copy_moved};
 use std::alloc::{AllocError, Global};
@@ -82,14 +84,27 @@ fn later(v: u32, n: u32) -> Result<u32, AllocError>
 
 // ---- the parts
 
+// A part with this root is a truth value.
+fn root_asks(alloc: Global, root: Seen) -> Result<Entry, AllocError>
+    ensures asked { IfOk result (λ e. entry_of e
+        ≡ Asks root.sight.place (Equal bool_type (mean root.of) ∷ [])) }
+    ensures named { IsNamed root.of → IfOk result (λ e. EntryNamed e) }
+{
+    let place = root.sight.place;
+    let asked = vec![in alloc; Requirement::Equal(Ty::Bool, root.of)]?;
+    Ok(Entry::Asks(place, List::from_vec(asked)))
+}
+
 impl Gathering {
-    // A part in which nothing is bound.
+    // A part: nothing is bound around it.
     fn add_part(&mut self, alloc: Global, e: &Expr) -> Result<(), AllocError>
         ensures added { OnOk result (AddsParts self.old self.new (e.now ∷ [])) }
         ensures named { GatheringNamed self.old → OnOk result (GatheringNamed self.new) }
     {
         self.types.clear();
-        let _ = visit(e, alloc, self)?;
+        let root = visit(e, alloc, self)?;
+        let asked = root_asks(alloc, root)?;
+        self.entries.push(asked)?;
         let types = mem::replace(&mut self.types, Vec::new(alloc));
         self.parts.push(List::from_vec(types))?;
         Ok(())

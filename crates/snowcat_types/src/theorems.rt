@@ -25,9 +25,9 @@ pub fn typings_are_ground()
     ensures { (job : Job) (t : Typed) → IsTrue (is_typable job) → IsTypedAs job t → AllGround t }
 {}
 
-/// In a typing each declared name has its annotated type, with some types in the place of variables; and each
-/// node and its children have types that some types make of the row of its operator, with a choice where the
-/// node is overloaded. It does nothing.
+/// In a typing each declared name has its annotated type, with some types in the place of variables; each node
+/// and its children have types that some types make of the row of its operator, with a choice where the node is
+/// overloaded; and each part is a truth value: the type of its root is Bool. It does nothing.
 pub fn typings_meet_rows()
     ensures { (job : Job) (t : Typed) → IsTrue (is_typable job) → IsTypedAs job t → MeetsRows job t }
 {}

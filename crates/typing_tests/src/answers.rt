@@ -4,7 +4,7 @@
 use crate::choices::{ACCESSES, DEFAULTS, TUPLES, UPDATES};
 use crate::notes::{ALIASES, CAUSES, DECLARED, DEFINITIONS, PARTS};
 use crate::operators::{BINDERS, FUNCTIONS, LOGIC, NUMBERS, SEQUENCES, SETS};
-use crate::refusals::{CLASHES, FIRST_CLASHES};
+use crate::refusals::{CLASHES, FIRST_CLASHES, ROOTS};
 use job_text::{job_of, read};
 use snowcat_rows::{Ty, Typed, renumbered, show_type};
 use snowcat_types::{TypeFault, is_typable, typing};
@@ -152,6 +152,12 @@ fn types_that_differ_clash_at_their_node(rt: HostRuntime) -> Result<(), Fail> {
     for table in [CLASHES, FIRST_CLASHES] {
         assert_eq!(rt; wrong(rt.alloc(), table)?.as_str(), "");
     }
+    Ok(())
+}
+
+#[test]
+fn parts_are_truth_values(rt: HostRuntime) -> Result<(), Fail> {
+    assert_eq!(rt; wrong(rt.alloc(), ROOTS)?.as_str(), "");
     Ok(())
 }
 

@@ -7,17 +7,18 @@ x: a; y: a | (and (eq x 1) (eq y "s")) ==> Bool; Bool; Int; Int; Bool; Str; Str
 x: <<a, a>> | (eq (apply x 1) "s") ==> Bool; Str; <<Str, Str>>; Int; Str
 x: <<a, a>> | (and (eq (apply:5 x 1) "s") (eq:9 (apply x 2) 1)) ==> Str # Int @9
 x: {f: Int, r}; y: {f: Int, r} | (and (eq (field [g] x) "s") (eq (field [g] y) 1)) ==> Bool; Bool; Str; {f: Int, g: Str}; Str; Bool; Int; {f: Int, g: Int}; Int
-x: Int @type: Str | x ==> Str
-x: Int;@type: Str | x ==> Int
+x: Int @type: Str | (in x {}) ==> Bool; Str; Set(Str)
+x: Int;@type: Str | (in x {}) ==> Bool; Int; Set(Int)
 x: Int; y: Str | (eq:9 x' y) ==> Int # Str @9"#;
 
-pub(crate) const ALIASES: &str = r#"$a = Int; x: $a -> Str | x ==> Int -> Str
-$a = Int; $b = Set($a); x: $b | x ==> Set(Int)
+pub(crate) const ALIASES: &str =
+    r#"$a = Int; x: $a -> Str | (in x {}) ==> Bool; Int -> Str; Set(Int -> Str)
+$a = Int; $b = Set($a); x: $b | (in x {}) ==> Bool; Set(Int); Set(Set(Int))
 x@4: $b | x ==> bad @4
 $a = Set($b); $b = Int; x@4: $a | x ==> bad @4
-$a = Set($b); $b = Int; x: $b | x ==> Int
-$a = Intt; $a = Str; $a = Int; x: $a | x ==> Str
-$a = Intt; x: Int | x ==> Int
+$a = Set($b); $b = Int; x: $b | (in x {}) ==> Bool; Int; Set(Int)
+$a = Intt; $a = Str; $a = Int; x: $a | (in x {}) ==> Bool; Str; Set(Str)
+$a = Intt; x: Int | (in x {}) ==> Bool; Int; Set(Int)
 $a = (Int) => Str; x@4: $a | TRUE ==> bad @4
 $a = (Int) => Str | (noted:5 [1 $a] "s") ==> Int # Str @5"#;
 
@@ -38,20 +39,20 @@ x@4: Set((Int) => Int) | TRUE ==> bad @4
 x@4: ((Int) => Int) | TRUE ==> bad @4"#;
 
 // Uses of annotated definitions: the result has the number 0 and an argument its own.
-pub(crate) const DEFINITIONS: &str = r#"(noted [0 Int] 1) ==> Int; Int
+pub(crate) const DEFINITIONS: &str = r#"(in (noted [0 Int] 1) {}) ==> Bool; Int; Int; Set(Int)
 (noted:5 [0 Int] "a") ==> Int # Str @5
-(noted [1 Int] "a") ==> Str; Str
+(in (noted [1 Int] "a") {}) ==> Bool; Str; Str; Set(Str)
 (noted:5 [0 (Int) => Int] (noted:5 [1 (Int) => Int] "a")) ==> Int # Str @5
 (noted:5 [0 (Int) => Str] 1) ==> Str # Int @5
 (noted:5 [0 () => Str] 1) ==> Str # Int @5
 (noted:5 [2 (Int, Str) => Bool] 1) ==> Str # Int @5
 (noted [3 (Int, Str) => Bool] TRUE) ==> Bool; Bool
 (noted:5 [0 ((Int) => Str)] 1) ==> Str # Int @5
-(map [a] {} (noted [0 Str] a)) ==> Set(Str); Set(Str); Str; Str
-(noted [0 Seq(Int)] <1>) ==> Seq(Int); Seq(Int); Int
-(noted [0 a] 1) ==> Int; Int
-(noted [1 (Int, a) => a] "s") ==> Str; Str
-(noted [1 ({f: Int, r}) => Int] "s") ==> Str; Str
+(in (map [a] {} (noted [0 Str] a)) {}) ==> Bool; Set(Str); Set(Str); Str; Str; Set(Set(Str))
+(in (noted [0 Seq(Int)] <1>) {}) ==> Bool; Seq(Int); Seq(Int); Int; Set(Seq(Int))
+(in (noted [0 a] 1) {}) ==> Bool; Int; Int; Set(Int)
+(in (noted [1 (Int, a) => a] "s") {}) ==> Bool; Str; Str; Set(Str)
+(in (noted [1 ({f: Int, r}) => Int] "s") {}) ==> Bool; Str; Str; Set(Str)
 (and (eq (noted:5 [0 (a) => a] (noted:5 [1 (a) => a] 1)) 1) (eq (noted:5 [0 (a) => a] (noted:5 [1 (a) => a] "a")) "a")) ==> Bool; Bool; Int; Int; Int; Int; Bool; Str; Str; Str; Str
 (and (eq (cup:5 {} {1}) {}) (eq (cup:5 {} {"s"}) {})) ==> Bool; Bool; Set(Int); Set(Int); Set(Int); Int; Set(Int); Bool; Set(Str); Set(Str); Set(Str); Str; Set(Str)
 (and (eq (add:5 1 1) 2) (eq (add:5 "a" 1) 2)) ==> Int # Str @5
@@ -66,7 +67,8 @@ x: {g: Int} | (noted:5 [0 Bool] (eq (noted:5 [1 ({g: Int}) => Bool] x) x)) ==> B
 
 // CInit, the assumptions, Init, Next and the invariants are one system.
 pub(crate) const PARTS: &str =
-    r#"x: Int | TRUE {x} (eq x 1) (add x' 2) (powerset {x}) (len <x>) ==> Bool / Set(Int); Int / Bool; Int; Int / Int; Int; Int / Set(Set(Int)); Set(Int); Int / Int; Seq(Int); Int
-x: a | TRUE TRUE (eq x "s") TRUE x ==> Bool / Bool / Bool; Str; Str / Bool / Str
-x: a | x (eq x "s") TRUE TRUE TRUE ==> Str / Bool; Str; Str / Bool / Bool / Bool
-<:9 1> (eq (domain:5 <:7 2>) {1}) TRUE TRUE (eq <:3 1> <:4 "a">) ==> Int # Str @4 defaults 3"#;
+    r#"x: Int | TRUE (in x {x}) (eq x 1) (lt x' 2) (in {x} {}) (lt (len <x>) 1) ==> Bool / Bool; Int; Set(Int); Int / Bool; Int; Int / Bool; Int; Int / Bool; Set(Int); Int; Set(Set(Int)) / Bool; Int; Seq(Int); Int; Int
+x: a | TRUE TRUE (eq x "s") TRUE (in x {}) ==> Bool / Bool / Bool; Str; Str / Bool / Bool; Str; Set(Str)
+x: a | (in x {}) (eq x "s") TRUE TRUE TRUE ==> Bool; Str; Set(Str) / Bool; Str; Str / Bool / Bool / Bool
+x: a; y: {f: a} | (field [f] y) x TRUE TRUE TRUE ==> Bool; {f: Bool} / Bool / Bool / Bool / Bool
+(in <:9 1> {}) (eq (domain:5 <:7 2>) {1}) TRUE TRUE (eq <:3 1> <:4 "a">) ==> Int # Str @4 defaults 3"#;

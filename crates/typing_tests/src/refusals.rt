@@ -77,7 +77,30 @@ x: {f: Int} | (eq (field:9 [g] x) 1) ==> {g: a, b} # {f: Int} @9
 (fold:9 [a b] "s" 0 <>) ==> Str # Int @9
 (exists [a] {} (in:9 a a)) ==> Set(a) # a @9"#;
 
-// Of several clashes the first in the order of visits is answered: a node behind its children, part by part.
+// A part is a truth value: its root asks for Bool, behind what its nodes ask.
+pub(crate) const ROOTS: &str = r#"5:9 ==> Bool # Int @9
+TRUE 5:9 ==> Bool # Int @9
+TRUE TRUE TRUE TRUE TRUE TRUE 5:9 ==> Bool # Int @9
+x: Int | (add:9 x' 1) TRUE ==> Bool # Int @9
+{:9} TRUE TRUE ==> Bool # Set(a) @9
+{:9 1} TRUE TRUE TRUE ==> Bool # Set(Int) @9
+"a":9 TRUE TRUE TRUE TRUE ==> Bool # Str @9
+x: Int -> Bool | x:9 ==> Bool # Int -> Bool @9
+x: Int -> Int | (apply:9 x 1) ==> Bool # Int @9
+(record:9 [f] 1) ==> Bool # {f: Int} @9
+(noted:9 [0 Int] 5:20) ==> Bool # Int @9
+(if:9 TRUE 1:5 2:3) ==> Bool # Int @9
+<:9 1 2> ==> Bool # <<Int, Int>> @9
+<:9> ==> Bool # Seq(a) @9
+(add:9 1 (neg:7 "a")) ==> Int # Str @7
+(add:9 1 "a") ==> Int # Str @9
+5:9 (not:4 1) TRUE ==> Bool # Int @9
+(not:9 1) 5:4 TRUE ==> Bool # Int @9
+TRUE 5:9 5:4 ==> Bool # Int @9
+(eq <:3 1> <:4 "a">) 5:9 ==> Bool # Int @9"#;
+
+// Of several clashes the first in the order of visits is answered: a node behind its children, part by part, and a
+// part's root behind its nodes.
 pub(crate) const FIRST_CLASHES: &str = r#"(and:3 (not:7 1) (not:5 "a")) ==> Bool # Int @7
 (and:3 1 (not:5 "a")) ==> Bool # Str @5
 TRUE TRUE (not:9 1) (not:5 "a") TRUE ==> Bool # Int @9

@@ -1,5 +1,0 @@
-use Rattle.std.proofs.Common.{◌≡◌, length}
-use Rattle.base_tests.proofs.chains.first_wrong.Given as goal
-
-abbrev pub invariant-steps : goal.invariant-steps
-invariant-steps l = record { codes : length l.chains.lists ≡ 6; room : l.chains.room ≡ 3 }

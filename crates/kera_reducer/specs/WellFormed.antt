@@ -1,0 +1,14 @@
+-- Jobs that can be reduced: what the types of a job do not say of its trees, and what its typing does not say of the types.
+-- Source: Specifying Systems, section 16.1, for the operands of operators; the Apalache manual, "Type System 1.2: Type
+-- annotations".
+use Rattle.std.specs.Prelude.{Bool, ◌&&◌, ◌==◌, map, length}
+use Rattle.tla_meaning.specs.declared.job.Job.{Job}
+use Rattle.snowcat_rows.specs.declared.types.Typed.{Typed}
+use Rattle.kernel_trees.specs.Systems.{constants_first}
+use Rattle.kera_reducer.specs.SoundLaws.{are_kinded, is_whole_job}
+
+-- each tree is whole, each type has a kind, each name has a type, and no constant stands behind a variable
+abbrev pub is_well_formed : Job → Typed → Bool
+is_well_formed job t =
+    (is_whole_job (length t.names) job && are_kinded t)
+    && (length t.names == length job.names && constants_first (map (λ d. d.constant) job.names))

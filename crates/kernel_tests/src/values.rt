@@ -1,0 +1,150 @@
+// The operators as values, `NAMES | TREES ==> KERNEL` a line, the front left out where nothing is declared: NAMES and
+// TREES as `job_text` reads them, KERNEL as `showing` writes it. What is expected was written from the rows of the
+// reduction, and not from what is answered. What is no truth value stands in front of `\in {}`, since the root of a part is
+// one.
+
+pub(crate) const LOGIC: &str = r#"TRUE ==> TRUE
+FALSE ==> FALSE
+(in 7 {}) ==> (member 7 {})
+(in "s" {}) ==> (member "s" {})
+(in "1_OF_P" {}) ==> (member "1_OF_P" {})
+x: Bool | x ==> x
+x: Bool; y: Bool | (and x y' TRUE) ==> (and x y' TRUE)
+(and) ==> (and)
+(or) ==> (or)
+x: Bool; y: Bool; z: Bool | (or x (and y z) FALSE) ==> (or x (and y z) FALSE)
+x: Bool | (not x) ==> (not x)
+x: Bool; y: Bool | (implies x y) ==> (not (and x (not y)))
+x: Bool; y: Bool | (implies x (implies y x)) ==> (not (and x (not (not (and y (not x))))))
+x: Bool; y: Bool | (implies (implies x y) x) ==> (not (and (not (and x (not y))) (not x)))
+x: Bool; y: Bool | (iff x y) ==> (first (fold-left [0 1] (push #0 (equal (not (item [1] #1)) (not (item [2] #1)))) (seq-of) (seq-of <x y>)))
+x: Bool; y: Bool | (iff x (iff y x)) ==> (first (fold-left [0 1] (push #0 (equal (not (item [1] #1)) (not (item [2] #1)))) (seq-of) (seq-of <x (first (fold-left [0 1] (push #0 (equal (not (item [1] #1)) (not (item [2] #1)))) (seq-of) (seq-of <y x>)))>)))
+x: Bool | (in (if x 1 2) {}) ==> (member (if x 1 2) {})
+x: Int | (if (eq x 1) (in x {2}) FALSE) ==> (if (equal x 1) (member x {2}) FALSE)
+x: Bool; y: Bool | (in (if x (if y 1 2) (if y 3 4)) {}) ==> (member (if x (if y 1 2) (if y 3 4)) {})
+x: Bool | (in (case x 1) {}) ==> (member (if x 1 (no-case)) {})
+x: Bool; y: Bool | (in (case x 1 y 2) {}) ==> (member (if x 1 (if y 2 (no-case))) {})
+x: Bool | (in (case-other x 1 2) {}) ==> (member (if x 1 2) {})
+x: Bool; y: Bool; z: Bool | (in (case-other x 1 y 2 z 3 4) {}) ==> (member (if x 1 (if y 2 (if z 3 4))) {})
+x: Int | (case (eq x 1) (case-other (eq x 2) TRUE FALSE)) ==> (if (equal x 1) (if (equal x 2) TRUE FALSE) (no-case))
+x: Bool | (noted [0 Bool] (implies x TRUE)) ==> (not (and x (not TRUE)))"#;
+
+pub(crate) const COMPARISONS: &str = r#"x: Int | (eq x 1) ==> (equal x 1)
+x: Int | (ne x 1) ==> (not (equal x 1))
+x: Int | (assign x' 1) ==> (equal x' 1)
+x: Int; y: Set(Int) | (in x y) ==> (member x y)
+x: Int; y: Set(Int) | (notin x y) ==> (not (member x y))
+x: Set(Int); y: Set(Int) | (subseteq x y) ==> (included x y)
+x: Int; y: Int | (lt x y) ==> (less x y)
+x: Int; y: Int | (gt (add x 1) y) ==> (less y (plus x 1))
+x: Int; y: Int | (le x (add y 1)) ==> (not (less (plus y 1) x))
+x: Int; y: Int | (ge x y) ==> (not (less x y))"#;
+
+// A power asks that its base is a number inside the width. An exponent past 7 stands in a pair: it may be too big.
+pub(crate) const NUMBERS: &str =
+    r#"(in (add 1 (sub 2 (mul 3 4))) {}) ==> (member (plus 1 (minus 2 (times 3 4))) {})
+(in (div 7 (mod 5 3)) {}) ==> (member (quotient 7 (remainder 5 3)) {})
+x: Int | (in (neg (neg x)) {}) ==> (member (minus 0 (minus 0 x)) {})
+x: Int | (in (range x 2) {}) ==> (member (range x 2) {})
+x: Int | (in (pow x 0) {}) ==> (member (first (fold-left [0 1] (push #0 (if (less #1 #1) 1 1)) (seq-of) (seq-of x))) {})
+x: Int | (in (pow x 1) {}) ==> (member (first (fold-left [0 1] (push #0 (if (less (times 1 #1) #1) #1 #1)) (seq-of) (seq-of x))) {})
+x: Int | (in (pow x 2) {}) ==> (member (first (fold-left [0 1] (push #0 (times #1 #1)) (seq-of) (seq-of x))) {})
+x: Int | (in (pow (add x 1) 3) {}) ==> (member (first (fold-left [0 1] (push #0 (times (times #1 #1) #1)) (seq-of) (seq-of (plus x 1)))) {})
+x: Int | (in (pow x 7) {}) ==> (member (first (fold-left [0 1] (push #0 (times (times (times (times (times (times #1 #1) #1) #1) #1) #1) #1)) (seq-of) (seq-of x))) {})
+x: Int | (in (pow x 8) {}) ==> (member (first (fold-left [0 1] (push #0 (times (times (times (times (times (times (times (item [1] #1) (item [1] #1)) (item [1] #1)) (item [1] #1)) (item [1] #1)) (item [1] #1)) (item [1] #1)) (item [1] #1))) (seq-of) (seq-of <x 8>))) {})
+x: Int | (in (pow x (noted [0 Int] 2)) {}) ==> (member (first (fold-left [0 1] (push #0 (times #1 #1)) (seq-of) (seq-of x))) {})
+x: Int | (in (pow (pow x 2) 2) {}) ==> (member (first (fold-left [0 1] (push #0 (times #1 #1)) (seq-of) (seq-of (first (fold-left [0 1] (push #0 (times #1 #1)) (seq-of) (seq-of x)))))) {})"#;
+
+pub(crate) const SETS: &str = r#"(in {} {}) ==> (member {} {})
+(in {1 2 1} {}) ==> (member {1 2 1} {})
+(in {{} {1}} {}) ==> (member {{} {1}} {})
+x: Set(Int); y: Set(Int) | (in (cup x (cap y (minus x y))) {}) ==> (member (union x (inter y (without x y))) {})
+x: Set(Int) | (in (union {x {1}}) {}) ==> (member (flatten {x {1}}) {})
+x: Set(Int) | (in (cardinality x) {}) ==> (member (count x) {})
+x: Set(Int) | (finite x) ==> (every [0] x TRUE)
+(in (boolean) {}) ==> (member {FALSE TRUE} {})"#;
+
+// Sets of subsets, functions, records and tuples, and infinite ones: behind a membership or an inclusion, inside such a
+// set, as the domain of a binder, and elsewhere as an operand.
+pub(crate) const FORMS: &str = r#"x: Int | (in x (int)) ==> (member x (int-form))
+x: Int | (notin x (nat)) ==> (not (member x (nat-form)))
+(in "s" (string)) ==> (member "s" (text-form))
+x: Seq(Int) | (in x (seqs (int))) ==> (member x (seq-form (int-form)))
+x: Set(Int) | (subseteq x (nat)) ==> (included x (nat-form))
+x: Set(Int) | (in x (powerset (nat))) ==> (member x (subsets (nat-form)))
+x: Int -> Int | (in x (funset {1} (nat))) ==> (member x (functions {1} (nat-form)))
+x: Int -> Int | (notin x (funset {1 2} {3})) ==> (not (member x (functions {1 2} {3})))
+x: Set(Int -> Int) | (subseteq x (funset {1} (int))) ==> (included x (functions {1} (int-form)))
+x: {a: Int, b: Set(Int)} | (in x (recset [a b] (int) (powerset (nat)))) ==> (member x (rec-form [a b] (int-form) (subsets (nat-form))))
+x: {a: Int, b: Str} | (notin x (recset [b a] {"s"} {1})) ==> (not (member x (rec-form [b a] {"s"} {1})))
+(subseteq {} (recset [a] (string))) ==> (included {} (rec-form [a] (text-form)))
+(in <1 "s" TRUE> (product (int) (string) (boolean))) ==> (member <1 "s" TRUE> (tup-form (int-form) (text-form) {FALSE TRUE}))
+x: Int -> {a: Int} | (in x (funset {1} (recset [a] (nat)))) ==> (member x (functions {1} (rec-form [a] (nat-form))))
+x: {a: Int -> Int} | (in x (recset [a] (funset {1} {2}))) ==> (member x (rec-form [a] (functions {1} {2})))
+x: (Int -> Int) -> Bool | (in x (funset (funset {1} {2}) (boolean))) ==> (member x (functions (functions {1} {2}) {FALSE TRUE}))
+x: Set(Int -> Int) | (eq x (funset {1} {2})) ==> (equal x (functions {1} {2}))
+x: Set({a: Int}) | (ne (recset [a] {1}) x) ==> (not (equal (rec-form [a] {1}) x))
+x: Set({a: Int}) | (subseteq (recset [a] {1}) x) ==> (included (rec-form [a] {1}) x)
+(in (cup (funset {1} {2}) (funset {1} {3})) {}) ==> (member (union (functions {1} {2}) (functions {1} {3})) {})
+(in {(recset [a] {1})} {}) ==> (member {(rec-form [a] {1})} {})
+(in (cardinality (funset {1} (powerset {2}))) {}) ==> (member (count (functions {1} (subsets {2}))) {})
+(in (union (powerset (recset [a] {1}))) {}) ==> (member (flatten (subsets (rec-form [a] {1}))) {})
+(exists [f] (funset {1} {2}) (eq (apply f 1) 2)) ==> (some [0] (functions {1} {2}) (equal (at #0 1) 2))
+(forall [r] (recset [a] {1}) (eq (field [a] r) 1)) ==> (every [0] (rec-form [a] {1}) (equal (field-of [a] #0) 1))
+(in (filter [f] (funset {1} {2}) (eq (apply f 1) 2)) {}) ==> (member (filter [0] (functions {1} {2}) (equal (at #0 1) 2)) {})
+(in (map [r] (recset [a] {1}) (field [a] r)) {}) ==> (member (map-over [0] (rec-form [a] {1}) (field-of [a] #0)) {})
+(in (lambda [r] (recset [a] {1}) r) {}) ==> (member (fun-of [0] (rec-form [a] {1}) #0) {})
+(in (lambda [s] (powerset {1}) s) {}) ==> (member (fun-of [0] (subsets {1}) #0) {})"#;
+
+// The number of a bound name is how many are bound around it and before it, and a made one is that of the names around.
+pub(crate) const BINDERS: &str = r#"(exists [a] {1} (eq a 1)) ==> (some [0] {1} (equal #0 1))
+(forall [a b] {1} {2} (lt a b)) ==> (every [0 1] {1} {2} (less #0 #1))
+(in (filter [a] {1 2} (gt a 1)) {}) ==> (member (filter [0] {1 2} (less 1 #0)) {})
+(in (map [a b c] {1} {2} {3} (add a (add b c))) {}) ==> (member (map-over [0 1 2] {1} {2} {3} (plus #0 (plus #1 #2))) {})
+(in (lambda [a] {1} (add a 1)) {}) ==> (member (fun-of [0] {1} (plus #0 1)) {})
+(in (lambda [a b] {1} {TRUE} <b a>) {}) ==> (member (fun-of [0 1] {1} {TRUE} <#1 #0>) {})
+(exists [a] {1} (forall [b] {a 2} (exists [c] {a b} (eq c a)))) ==> (some [0] {1} (every [1] {#0 2} (some [2] {#0 #1} (equal #2 #0))))
+(exists [a] {1} (exists [a] {a} (eq a 1))) ==> (some [0] {1} (some [1] {#0} (equal #1 1)))
+(and (exists [a] {1} (eq a 1)) (exists [b c] {2} {3} (eq b c))) ==> (and (some [0] {1} (equal #0 1)) (some [0 1] {2} {3} (equal #0 #1)))
+(exists [a] {1} (and (forall [b] {2} (lt a b)) (forall [c] {3} (lt c a)))) ==> (some [0] {1} (and (every [1] {2} (less #0 #1)) (every [1] {3} (less #1 #0))))
+(exists [a] (filter [b] {1} (lt b 2)) (eq a 1)) ==> (some [0] (filter [0] {1} (less #0 2)) (equal #0 1))
+(in (fold [a b] (add a b) 0 <1 2>) {}) ==> (member (fold-left [0 1] (plus #0 #1) 0 (seq-of 1 2)) {})
+(exists [i] {1} (eq (fold [a b] (add a (mul b i)) i <i>) 1)) ==> (some [0] {1} (equal (fold-left [1 2] (plus #1 (times #2 #0)) #0 (seq-of #0)) 1))
+(in (fold [a b] (fold [c d] (add c d) a <b>) 0 <1>) {}) ==> (member (fold-left [0 1] (fold-left [2 3] (plus #2 #3) #0 (seq-of #1)) 0 (seq-of 1)) {})
+(in (fold [a b] (add a b) (cardinality (filter [c] {1} (eq c 1))) <(cardinality (filter [c] {2} (eq c 2)))>) {}) ==> (member (fold-left [0 1] (plus #0 #1) (count (filter [0] {1} (equal #0 1))) (seq-of (count (filter [0] {2} (equal #0 2))))) {})
+(forall [i] {1} (iff TRUE (eq i 1))) ==> (every [0] {1} (first (fold-left [1 2] (push #1 (equal (not (item [1] #2)) (not (item [2] #2)))) (seq-of) (seq-of <TRUE (equal #0 1)>))))
+(iff (exists [a] {1} (eq a 1)) TRUE) ==> (first (fold-left [0 1] (push #0 (equal (not (item [1] #1)) (not (item [2] #1)))) (seq-of) (seq-of <(some [0] {1} (equal #0 1)) TRUE>)))
+(in (map [i j] {2} {3} (pow j 2)) {}) ==> (member (map-over [0 1] {2} {3} (first (fold-left [2 3] (push #2 (times #3 #3)) (seq-of) (seq-of #1)))) {})
+(forall [s] {{1}} (finite s)) ==> (every [0] {{1}} (every [1] #0 TRUE))
+(in (lambda [i] {1} (single i TRUE)) {}) ==> (member (fun-of [0] {1} (first (fold-left [1 2] (push #1 (fun-of [3] {(item [1] #2)} (item [2] #2))) (seq-of) (seq-of <#0 TRUE>)))) {})"#;
+
+// Functions, records and tuples. An item past 7 has its number in a pair, where it may be too big.
+pub(crate) const FUNCTIONS: &str = r#"x: Str -> Bool | (apply x "s") ==> (at x "s")
+x: <<Int, Int>> -> Bool | (apply x <1 2>) ==> (at x <1 2>)
+x: Seq(Str); y: Int | (in (apply x y) {}) ==> (member (at x y) {})
+x: <<Int, Str>> | (in (apply x 2) {}) ==> (member (item [2] x) {})
+x: <<Int, Str>> | (in (apply x (noted [0 Int] 2)) {}) ==> (member (item [2] x) {})
+x: <<Int, <<Str, Bool>>>> | (in (apply (apply x 2) 1) {}) ==> (member (item [1] (item [2] x)) {})
+x: <<Int, Int, Int, Int, Int, Int, Str, Bool>> | (in (apply x 7) {}) ==> (member (item [7] x) {})
+x: <<Int, Int, Int, Int, Int, Int, Str, Bool>> | (apply x 8) ==> (first (fold-left [0 1] (push #0 (item [8] (item [1] #1))) (seq-of) (seq-of <x 8>)))
+x: {f: Int, g: Str} | (in (apply x "g") {}) ==> (member (field-of [g] x) {})
+x: {f: Int, g: Str} | (in (field [g] x) {}) ==> (member (field-of [g] x) {})
+x: Str -> Int | (in (domain x) {}) ==> (member (domain x) {})
+x: {f: Int} | (in (domain x) {}) ==> (member (domain x) {})
+x: <<Str, Str>> | (in (domain x) {}) ==> (member (domain x) {})
+(in (record [b a] 1 "s") {}) ==> (member (rec-of [b a] 1 "s") {})
+x: Int -> Bool; y: Int -> Bool | (in (merge x y) {}) ==> (member (join x y) {})
+(in (single "s" TRUE) {}) ==> (member (first (fold-left [0 1] (push #0 (fun-of [2] {(item [1] #1)} (item [2] #1))) (seq-of) (seq-of <"s" TRUE>))) {})
+x: Int -> Int | (in (merge (single 1 2) x) {}) ==> (member (join (first (fold-left [0 1] (push #0 (fun-of [2] {(item [1] #1)} (item [2] #1))) (seq-of) (seq-of <1 2>))) x) {})
+(in <1 2> {}) ==> (member <1 2> {})
+(in <1 <"s">> {}) ==> (member <1 <"s">> {})"#;
+
+pub(crate) const SEQUENCES: &str = r#"(in <> {}) ==> (member (seq-of) {})
+x: Seq(Int) | (eq x <1 2>) ==> (equal x (seq-of 1 2))
+x: Seq(<<Int, Str>>) | (eq x <<1 "s"> <2 "t">>) ==> (equal x (seq-of <1 "s"> <2 "t">))
+x: Seq(Str) | (in (len x) {}) ==> (member (length x) {})
+(in (append <> "s") {}) ==> (member (push (seq-of) "s") {})
+x: Seq(Str); y: Seq(Str) | (in (concat x y) {}) ==> (member (glue x y) {})
+x: Seq(Str) | (in (head (tail x)) {}) ==> (member (first (rest x)) {})
+x: Seq(Str); y: Int | (in (subseq x 1 y) {}) ==> (member (slice x 1 y) {})
+x: Seq(Str) | (in (domain x) {}) ==> (member (domain x) {})"#;
