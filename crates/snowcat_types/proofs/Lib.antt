@@ -59,3 +59,4 @@ pub mod Leaving
 pub mod Turning
 pub mod Nexts
 pub mod GoingOn
+pub mod OneTyping

@@ -67,6 +67,11 @@ pub record IsTypedAs (job : Job) (t : Typed) : Type 0 where
   pub defaults : List Wait
   pub typing : IsTyping (system annotations job) (types_of_names t) (types_of_parts t) defaults
 
+-- the names and nodes have the same types, in whatever order a record has its fields
+pub record HaveSameTypes (t u : Typed) : Type 0 where
+  pub names : types_of_names t ≡ types_of_names u
+  pub parts : types_of_parts t ≡ types_of_parts u
+
 -- two types at p that cannot be made equal, where the nodes at these places took their default
 pub record IsClashOf (job : Job) (p : Place) (x y : Ty) (places : List Place) : Type 0 where
   pub annotations : Annotations

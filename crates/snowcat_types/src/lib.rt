@@ -41,7 +41,7 @@ pub use faults::TypeFault;
 pub use jobs::typing;
 pub use kinds::Kind;
 pub use theorems::{
-    clashes_have_no_typing, typings_are_ground, typings_meet_rows,
+    clashes_have_no_typing, jobs_have_one_typing, typings_are_ground, typings_meet_rows,
     unread_annotations_have_no_typing,
 };
 pub use typable::is_typable;

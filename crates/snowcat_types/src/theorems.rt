@@ -5,7 +5,7 @@ ghost use Rattle.tla_meaning.specs.declared.place.Place.{Place};
 ghost use Rattle.snowcat_rows.specs.declared.types.Ty.{Ty};
 ghost use Rattle.snowcat_rows.specs.declared.types.Typed.{Typed};
 ghost use Rattle.snowcat_types.specs.Annotated.{IsFirstWithout, IsLeastBad};
-ghost use Rattle.snowcat_types.specs.Answers.{AllGround, IsClashOf, IsTypedAs, MeetsRows, is_typable};
+ghost use Rattle.snowcat_types.specs.Answers.{AllGround, HaveSameTypes, IsClashOf, IsTypedAs, MeetsRows, is_typable};
 
 /// No job has a typing and a clash: where two types clash there is no typing at all, whatever nodes would take their
 /// default in it. It does nothing.
@@ -23,6 +23,11 @@ pub fn unread_annotations_have_no_typing()
 /// No type of a typing holds a variable or an operator type. It does nothing.
 pub fn typings_are_ground()
     ensures { (job : Job) (t : Typed) → IsTrue (is_typable job) → IsTypedAs job t → AllGround t }
+{}
+
+/// A job has one typing: whatever nodes are decided first, all end with the same types. It does nothing.
+pub fn jobs_have_one_typing()
+    ensures { (job : Job) (t u : Typed) → IsTrue (is_typable job) → IsTypedAs job t → IsTypedAs job u → HaveSameTypes t u }
 {}
 
 /// In a typing each declared name has its annotated type, with some types in the place of variables; each node
