@@ -13,13 +13,14 @@ use Rattle.snowcat_rows.specs.declared.types.Ty.TheVariants as ty
 use Rattle.kernel_trees.specs.declared.kernel.Ker.{Ker}
 use Rattle.kernel_trees.specs.declared.kernel.KerOp.TheVariants as ker
 use Rattle.kera_reducer.specs.declared.making.Made.{Made}
-use Rattle.kera_reducer.specs.Reduction.{any_mentioned}
+use Rattle.kera_reducer.specs.Reduction.{any_mentioned, upward}
 use Rattle.kera_reducer.specs.Builds.{passes_on}
 use Rattle.kera_reducer.specs.BuildsTyped as typed
 use Rattle.kera_reducer.specs.BuildsTyped.{ArmsTyped, BuildsTyped, EachTyped, TypedNode, no_arms, other_arm, one_arm}
 use Rattle.kera_reducer.specs.Rows.{guard_of, node, tree}
-use Rattle.kera_reducer.specs.inner.Settings.{AreBuilt, ChildrenBuilt, counted, is_odd, passing, positions, scopes, upward}
+use Rattle.kera_reducer.specs.inner.Settings.{AreBuilt, ChildrenBuilt, counted, is_odd, passing, positions, scopes}
 use Rattle.kera_reducer.specs.inner.Standing.{IsBranching, IsSplitCase, Makes, flat}
+use Rattle.kera_reducer.proofs.Counting.{long_counted}
 use Rattle.kera_reducer.proofs.ChildNumbers.{not_not}
 use Rattle.kera_reducer.proofs.Children.{back_built, each_built}
 use Rattle.kera_reducer.proofs.ScopesMade.{behind_sets, take_drop}
@@ -135,7 +136,8 @@ module _ (m : Made) (a : Assignable) where
       subst (λ z. Row names op.Exists es xs ts z us)
       (ap₂ (λ z w. tree m.place ty.Bool ker.Some z w) (take_drop (length xs) ks) (sym numbers) ∙ sym e)
       (typed.choice a (counted names) m.place m.ty.now es xs (take (length xs) ks) (drop (length xs) ks)
-      (upward m.depth (length xs)) ts r.between us r.fresh r.sets r.inside))
+      (upward m.depth (length xs)) ts r.between us r.fresh
+      (ap (λ n. upward n (length xs)) (sym l ∙ sym (long_counted 0 names))) r.sets r.inside))
 
   if_rest : (n : ℕ) → nat_le 1 n ≡ true → (if nat_lt 0 n then Some a else None) ≡ Some a
   if_rest zero h = absurd (false≢true h)

@@ -40,7 +40,7 @@ use Rattle.kera_reducer.proofs.Mentioned.{is_readable, mentions_is, readable_at}
 use Rattle.kera_reducer.proofs.Operands.{IsOperand, leaf, mentions_node, mentions_out, unmentioned, value_root}
 use Rattle.kera_reducer.proofs.RowNames.{case_children}
 use Rattle.kera_reducer.proofs.Normals.{matched_bind, outcome_normal, values_normal}
-use Rattle.kera_reducer.proofs.WaysKept.{first, at_is_first, first_part, second_part, fresh_length}
+use Rattle.kera_reducer.proofs.NodeWays.{first, at_is_first, first_part, second_part, fresh_length}
 
 -- ---- a kernel tree that is one operand
 

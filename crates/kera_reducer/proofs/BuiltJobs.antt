@@ -99,7 +99,7 @@ module _ (n : ℕ) where
 
 part_paths : (job : Job) (m : Assignable) (e : Expr) (k : Ker) → IsTrue (is_typable_tree (length job.names) e (λ x. false)) → Builds (Some m) [] e k → SamePathsOf job m e k
 part_paths job m e k h b ks =
-    keeps_paths_below (length job.names) m [] (record { tree = e; kinds = ks }) k (ap not (typable_below (length job.names) e (λ x. false) h)) b
+    keeps_paths_below (length job.names) m [] (record { tree = e; kinds = ks; around = [] }) k (ap not (typable_below (length job.names) e (λ x. false) h)) b
 
 pub keeps_job_paths : (job : Job) (k : KerJob) → KeepsJobPaths job k
 keeps_job_paths job k b h =

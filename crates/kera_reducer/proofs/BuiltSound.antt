@@ -542,7 +542,7 @@ module _ (names : List Kind) where
               (plain_at names c false p bool_ty ker.Or r.kinds ks [] Truth refl refl kind-Bool
               (direct_row ker.Or g xs (length es) (types_at met) Truth r.kinds refl has_bool r.are) r.all),
         )
-    node_sound _ _ _ _ _ _ _ _ _ _ (choice m ρ p t es xs ks bs ns ts us vs fr d1 d2) g kn c tie b tss met a q rest act reads =
+    node_sound _ _ _ _ _ _ _ _ _ _ (choice m ρ p t es xs ks bs ns ts us vs fr l d1 d2) g kn c tie b tss met a q rest act reads =
         let r =
         under_sound names (Some m) ρ es xs ts ks us bs vs ns fr (each_sound None ρ (take (length xs) es) ts ks us d1)
         (each_sound (Some m) (numbered xs ns ρ) (drop (length xs) es) us bs vs d2) g kn c tie (types_at met) bool_type

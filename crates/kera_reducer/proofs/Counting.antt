@@ -7,8 +7,8 @@ use Rattle.std.proofs.lemmas.Slice.Eq.{bytes_eq-Decides}
 use Rattle.tla_meaning.specs.Scopes.{find_last, or_else, same_text}
 use Rattle.tla_meaning.proofs.Laws.{find-append}
 use Rattle.kernel_trees.proofs.Steps.{same_text_same}
-use Rattle.kera_reducer.specs.Reduction.{fresh, are_fresh, numbered, all_fresh}
-use Rattle.kera_reducer.specs.inner.Settings.{counted, counted_from, upward}
+use Rattle.kera_reducer.specs.Reduction.{fresh, are_fresh, numbered, all_fresh, upward}
+use Rattle.kera_reducer.specs.inner.Settings.{counted, counted_from}
 use Rattle.kera_reducer.proofs.Listing.{take_more}
 
 pub counted_snoc : (n : ℕ) (xs : List (List ℕ)) (x : List ℕ) →
@@ -17,6 +17,10 @@ counted_snoc n [] x = let e : n ≡ n + 0 = omega arith in ap (λ m. (x, m) ∷ 
 counted_snoc n (y ∷ xs) x =
     let e : suc n + length xs ≡ n + suc (length xs) = omega arith in
     ap (λ l. (y, n) ∷ l) (counted_snoc (suc n) xs x ∙ ap (λ m. counted_from (suc n) xs ++ (x, m) ∷ []) e)
+
+pub long_counted : (n : ℕ) (xs : List (List ℕ)) → length (counted_from n xs) ≡ length xs
+long_counted n [] = refl
+long_counted n (x ∷ xs) = ap suc (long_counted (suc n) xs)
 
 pub long_snoc : {X : Type 0} (xs : List X) (x : X) → length (xs ++ x ∷ []) ≡ suc (length xs)
 long_snoc [] x = refl

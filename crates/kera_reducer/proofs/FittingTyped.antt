@@ -18,7 +18,7 @@ use Rattle.kernel_shapes.specs.Trees.{domain_row, first_kind, tuple_row}
 use Rattle.kernel_shapes.specs.Kernel.{kind_or_truth, kinds_in, node_kinds}
 use Rattle.kernel_shapes.specs.Rows.{a_sequence, a_tuple}
 use Rattle.kera_reducer.specs.JobPaths.{nodes}
-use Rattle.kera_reducer.specs.Reduction.{Numbering, numbered}
+use Rattle.kera_reducer.specs.Reduction.{Numbering, numbered, upward}
 use Rattle.kera_reducer.specs.Making.{pair_type, let_of, pairs_type, RestsTyped}
 use Rattle.kera_reducer.specs.Rows.{type_of, Let, Level, Change, all_levels, level_numbers}
 use Rattle.kera_reducer.specs.Builds as rows
@@ -26,6 +26,7 @@ use Rattle.kera_reducer.specs.Builds.{Builds, BuildsEach, BuildsArms, BuildsPath
 use Rattle.kera_reducer.specs.BuildsTyped as typed
 use Rattle.kera_reducer.specs.BuildsTyped.{BuildsTyped, EachTyped, ArmsTyped, PathTyped, ChangesTyped, TypedNode}
 use Rattle.kera_reducer.specs.Fitting.{the_kind, behind, first_of, LetTypes, IsSequenceType, IsTupleType, PairTypes, SameTable, Fitting, FittingEach, FittingArms, FittingPath, FittingChanges, FittingNode}
+use Rattle.kera_reducer.proofs.Levelled.{Levelled, LevelledEach, LevelledArms, LevelledNode, numbered_long}
 use Rattle.kera_reducer.proofs.JobTrees.{nodes-roll}
 use Rattle.kera_reducer.proofs.PathNumbers.{changes_fresh, under}
 use Rattle.kera_reducer.proofs.ShadowNumbers.{shadow_last}
@@ -261,25 +262,28 @@ rows_first _ _ _ _ _ ks (typed.one_more _ ρ e k es kers _ us vs d ds) (more_tre
 
 -- ---- what is built
 
-record TreeFits (i : Option Assignable) (τ : Numbering) (e : Expr) (ts : List Ty) (k : Ker) (us : List Ty)
+record TreeFits (i : Option Assignable) (ρ τ : Numbering) (e : Expr) (ts : List Ty) (k : Ker) (us : List Ty)
     (ks : List Kind) : Type 0 where
   left : us ≡ drop (nodes e) ts
   built : Builds i τ e k
   fits : Fitting built ks
+  levels : length τ ≡ length ρ → Levelled built
   root : RootHas i k
 
-record EachFits (i : Option Assignable) (τ : Numbering) (es : List Expr) (ts : List Ty) (kers : List Ker) (us : List Ty)
+record EachFits (i : Option Assignable) (ρ τ : Numbering) (es : List Expr) (ts : List Ty) (kers : List Ker) (us : List Ty)
     (ks : List Kind) : Type 0 where
   left : us ≡ past es ts
   built : BuildsEach i τ es kers
   fits : FittingEach built ks
+  levels : length τ ≡ length ρ → LevelledEach built
   roots : AllHave i kers
 
-record ArmsFit (m : Assignable) (τ : Numbering) (es : List Expr) (ts : List Ty) (xs : List (Ker × Ker)) (o : Option Ker)
+record ArmsFit (m : Assignable) (ρ τ : Numbering) (es : List Expr) (ts : List Ty) (xs : List (Ker × Ker)) (o : Option Ker)
     (us : List Ty) (ks : List Kind) : Type 0 where
   left : us ≡ past es ts
   built : BuildsArms m τ es xs o
   fits : FittingArms built ks
+  levels : length τ ≡ length ρ → LevelledArms built
 
 record PathFits (τ : Numbering) (x : List ℕ) (n : ℕ) (es : List Expr) (ls : List Level) (k : Ker) (ks : List Kind) :
     Type 0 where
@@ -294,11 +298,12 @@ record ChangesFit (τ : Numbering) (x cs : List ℕ) (es : List Expr) (ts : List
   fits : FittingChanges built ks
   indexes : AllIndexes (all_levels ds)
 
-record NodeFits (i : Option Assignable) (τ : Numbering) (p : Place) (o : Op) (es : List Expr) (xs : List (List ℕ))
+record NodeFits (i : Option Assignable) (ρ τ : Numbering) (p : Place) (o : Op) (es : List Expr) (xs : List (List ℕ))
     (ts : List Ty) (k : Ker) (us : List Ty) (ks : List Kind) : Type 0 where
   left : us ≡ past es ts
   built : BuildsNode i τ p o es xs k
   fits : FittingNode built ks
+  levels : length τ ≡ length ρ → LevelledNode built
 
 -- kinds that begin with those of a node's types
 record Starts (t : Ty) (es : List Expr) (ts : List Ty) (ks : List Kind) : Type 0 where
@@ -329,21 +334,22 @@ left_parts n es ts us vs q r = r ∙ ap (past (drop n es)) q ∙ past_parts n es
 mutual
   tree_fits : {i : Option Assignable} {ρ : Numbering} {e : Expr} {ts : List Ty} {k : Ker} {us : List Ty} →
       BuildsTyped i ρ e ts k us → (τ : Numbering) → Shadows ρ τ → KindsAgree e ts → (ks : List Kind) →
-      Front (nodes e) ts ks → TreeFits i τ e ts k us ks
+      Front (nodes e) ts ks → TreeFits i ρ τ e ts k us ks
   tree_fits (typed.at_node i ρ e t ts k us d) τ h (at_tree _ _ _ has r a) ks f =
       let s = starts e t ts ks f in
       let q = node_fits d τ h a ks s has in record {
         left = q.left ∙ past_is (out-Expr e).args ts ∙ ap (λ n. drop n (t ∷ ts)) (sym (nodes_out e));
         built = rows.at_node i τ e k q.built;
         fits = q.fits;
+        levels = q.levels;
         root = root_has i ρ e (t ∷ ts) k us (typed.at_node i ρ e t ts k us d) (at_tree e t ts has r a);
       }
 
   each_fits : {i : Option Assignable} {ρ : Numbering} {es : List Expr} {ts : List Ty} {kers : List Ker} {us : List Ty} →
       EachTyped i ρ es ts kers us → (τ : Numbering) → Shadows ρ τ → EachAgrees es ts → (ks : List Kind) →
-      FrontEach es ts ks → EachFits i τ es ts kers us ks
+      FrontEach es ts ks → EachFits i ρ τ es ts kers us ks
   each_fits (typed.none_left i ρ ts) τ h a ks f =
-      record { left = refl; built = rows.none_left i τ; fits = tt; roots = tt }
+      record { left = refl; built = rows.none_left i τ; fits = tt; levels = λ z. tt; roots = tt }
   each_fits (typed.one_more i ρ e k es kers ts us vs d ds) τ h (more_trees _ _ _ a as') ks f =
       let r = tree_fits d τ h a (take (nodes e) ks) (front_cut (nodes e) ts ks f.0) in
       let q = each_fits ds τ h (subst (EachAgrees es) (sym r.left) as') (drop (nodes e) ks)
@@ -352,16 +358,17 @@ mutual
         left = q.left ∙ ap (past es) r.left;
         built = rows.one_more i τ e k es kers r.built q.built;
         fits = (r.fits, q.fits);
+        levels = λ z. (r.levels z, q.levels z);
         roots = (r.root, q.roots);
       }
 
   arms_fit : {m : Assignable} {ρ : Numbering} {es : List Expr} {ts : List Ty} {xs : List (Ker × Ker)} {o : Option Ker}
       {us : List Ty} → ArmsTyped m ρ es ts xs o us → (τ : Numbering) → Shadows ρ τ → EachAgrees es ts →
-      (ks : List Kind) → FrontEach es ts ks → ArmsFit m τ es ts xs o us ks
-  arms_fit (typed.no_arms m ρ ts) τ h a ks f = record { left = refl; built = rows.no_arms m τ; fits = tt }
+      (ks : List Kind) → FrontEach es ts ks → ArmsFit m ρ τ es ts xs o us ks
+  arms_fit (typed.no_arms m ρ ts) τ h a ks f = record { left = refl; built = rows.no_arms m τ; fits = tt; levels = λ z. tt }
   arms_fit (typed.other_arm m ρ e k ts us d) τ h (more_trees _ _ _ a as') ks f =
       let r = tree_fits d τ h a (take (nodes e) ks) (front_cut (nodes e) ts ks f.0) in
-      record { left = r.left; built = rows.other_arm m τ e k r.built; fits = r.fits }
+      record { left = r.left; built = rows.other_arm m τ e k r.built; fits = r.fits; levels = r.levels }
   arms_fit (typed.one_arm m ρ c e g k es xs o ts us vs ws d1 d2 d3) τ h
       (more_trees _ _ _ a (more_trees _ _ _ b as')) ks f =
       let r = tree_fits d1 τ h a (take (nodes c) ks) (front_cut (nodes c) ts ks f.0) in
@@ -374,6 +381,7 @@ mutual
         left = v.left ∙ ap (past es) (q.left ∙ ap (drop (nodes e)) r.left);
         built = rows.one_arm m τ c e g k es xs o r.built q.built v.built;
         fits = (r.fits, (q.fits, v.fits));
+        levels = λ z. (q.levels z, v.levels z);
       }
 
   -- behind a level, whose number is the last one so far; the kinds are those from its index on
@@ -432,59 +440,60 @@ mutual
   node_fits : {i : Option Assignable} {ρ : Numbering} {p : Place} {t : Ty} {o : Op} {es : List Expr}
       {xs : List (List ℕ)} {ts : List Ty} {k : Ker} {us : List Ty} → TypedNode i ρ p t o es xs ts k us →
       (τ : Numbering) → Shadows ρ τ → EachAgrees es ts → (ks : List Kind) → Starts t es ts ks → HasKind t →
-      NodeFits i τ p o es xs ts k us ks
+      NodeFits i ρ τ p o es xs ts k us ks
   node_fits (typed.boolean ρ p t b xs ts) τ h a ks s has =
-      record { left = refl; built = rows.boolean τ p b xs t; fits = tt }
+      record { left = refl; built = rows.boolean τ p b xs t; fits = tt; levels = λ z. tt }
   node_fits (typed.integer ρ p t i xs ts) τ h a ks s has =
-      record { left = refl; built = rows.integer τ p i xs t; fits = tt }
+      record { left = refl; built = rows.integer τ p i xs t; fits = tt; levels = λ z. tt }
   node_fits (typed.text ρ p t s' xs ts) τ h a ks s has =
-      record { left = refl; built = rows.text τ p s' xs t; fits = tt }
+      record { left = refl; built = rows.text τ p s' xs t; fits = tt; levels = λ z. tt }
   node_fits (typed.declared ρ p t i primed xs ts) τ h a ks s has =
-      record { left = refl; built = rows.declared τ p i primed [] xs t; fits = tt }
+      record { left = refl; built = rows.declared τ p i primed [] xs t; fits = tt; levels = λ z. tt }
   node_fits (typed.bound_name ρ p t x n xs ts e) τ h a ks s has =
-      record { left = refl; built = rows.bound_name τ p x n xs t (sym (h.same x) ∙ e); fits = tt }
+      record { left = refl; built = rows.bound_name τ p x n xs t (sym (h.same x) ∙ e); fits = tt; levels = λ z. tt }
   node_fits (typed.truth_values ρ p t xs ts) τ h a ks s has =
-      record { left = refl; built = rows.truth_values τ p xs t ty.Bool; fits = tt }
+      record { left = refl; built = rows.truth_values τ p xs t ty.Bool; fits = tt; levels = λ z. tt }
   node_fits (typed.same ρ p t o ko es xs kers ts us e i ch d) τ h a ks s has =
       let q = each_fits d τ h a (drop 1 ks) s.rest in
       record {
         left = q.left;
         built = rows.same τ p o ko es xs t kers e i q.built;
         fits = (same_table ko t kers ks s.first (rows_first ρ es ts kers us (drop 1 ks) d a s.rest), q.fits);
+        levels = λ z. tt;
       }
   node_fits (typed.range ρ p t es xs k l ts us d) τ h a ks s has =
       let q = each_fits d τ h a (drop 1 ks) s.rest in
-      record { left = q.left; built = rows.range τ p es xs t k l q.built; fits = q.fits }
+      record { left = q.left; built = rows.range τ p es xs t k l q.built; fits = q.fits; levels = λ z. tt }
   node_fits (typed.noted i ρ p t x es xs k ts us d) τ h a ks s has =
       let q = each_fits d τ h a (drop 1 ks) s.rest in
-      record { left = q.left; built = rows.noted i τ p x es xs k q.built; fits = q.fits }
+      record { left = q.left; built = rows.noted i τ p x es xs k q.built; fits = q.fits; levels = q.levels }
   node_fits (typed.assign ρ p t es xs kers ts us d) τ h a ks s has =
       let q = each_fits d τ h a (drop 1 ks) s.rest in
-      record { left = q.left; built = rows.assign τ p es xs ty.Bool kers q.built; fits = q.fits }
+      record { left = q.left; built = rows.assign τ p es xs ty.Bool kers q.built; fits = q.fits; levels = λ z. tt }
   node_fits (typed.implies ρ p t es xs k l ts us d) τ h a ks s has =
       let q = each_fits d τ h a (drop 1 ks) s.rest in
-      record { left = q.left; built = rows.implies τ p es xs ty.Bool k l q.built; fits = q.fits }
+      record { left = q.left; built = rows.implies τ p es xs ty.Bool k l q.built; fits = q.fits; levels = λ z. tt }
   node_fits (typed.unequal ρ p t es xs kers ts us d) τ h a ks s has =
       let q = each_fits d τ h a (drop 1 ks) s.rest in
-      record { left = q.left; built = rows.unequal τ p es xs ty.Bool kers q.built; fits = q.fits }
+      record { left = q.left; built = rows.unequal τ p es xs ty.Bool kers q.built; fits = q.fits; levels = λ z. tt }
   node_fits (typed.no_member ρ p t es xs kers ts us d) τ h a ks s has =
       let q = each_fits d τ h a (drop 1 ks) s.rest in
-      record { left = q.left; built = rows.no_member τ p es xs ty.Bool kers q.built; fits = q.fits }
+      record { left = q.left; built = rows.no_member τ p es xs ty.Bool kers q.built; fits = q.fits; levels = λ z. tt }
   node_fits (typed.greater ρ p t es xs k l ts us d) τ h a ks s has =
       let q = each_fits d τ h a (drop 1 ks) s.rest in
-      record { left = q.left; built = rows.greater τ p es xs ty.Bool k l q.built; fits = q.fits }
+      record { left = q.left; built = rows.greater τ p es xs ty.Bool k l q.built; fits = q.fits; levels = λ z. tt }
   node_fits (typed.at_most ρ p t es xs k l ts us d) τ h a ks s has =
       let q = each_fits d τ h a (drop 1 ks) s.rest in
-      record { left = q.left; built = rows.at_most τ p es xs ty.Bool k l q.built; fits = q.fits }
+      record { left = q.left; built = rows.at_most τ p es xs ty.Bool k l q.built; fits = q.fits; levels = λ z. tt }
   node_fits (typed.at_least ρ p t es xs kers ts us d) τ h a ks s has =
       let q = each_fits d τ h a (drop 1 ks) s.rest in
-      record { left = q.left; built = rows.at_least τ p es xs ty.Bool kers q.built; fits = q.fits }
+      record { left = q.left; built = rows.at_least τ p es xs ty.Bool kers q.built; fits = q.fits; levels = λ z. tt }
   node_fits (typed.negative ρ p t es xs k ts us d) τ h a ks s has =
       let q = each_fits d τ h a (drop 1 ks) s.rest in
-      record { left = q.left; built = rows.negative τ p es xs ty.Int (k ∷ []) q.built; fits = q.fits }
+      record { left = q.left; built = rows.negative τ p es xs ty.Int (k ∷ []) q.built; fits = q.fits; levels = λ z. tt }
   node_fits (typed.finite ρ p t es xs k n ts us f d) τ h a ks s has =
       let q = each_fits d τ h a (drop 1 ks) s.rest in
-      record { left = q.left; built = rows.finite τ p es xs ty.Bool k n q.built; fits = q.fits }
+      record { left = q.left; built = rows.finite τ p es xs ty.Bool k n q.built; fits = q.fits; levels = λ z. tt }
   node_fits (typed.equivalent ρ p t es xs u n k m ts us y f d) τ h a ks s has =
       let q = each_fits d τ h a (drop 1 ks) s.rest in
       record {
@@ -495,6 +504,7 @@ mutual
               (pair_has (type_of k) (type_of m) q.roots.0 q.roots.1.0),
           (is_pair_type (type_of k) (type_of m), q.fits),
         );
+        levels = λ z. tt;
       }
   node_fits (typed.one_pair ρ p t es xs u n z k m ts us y f e d) τ h a ks s has =
       let q = each_fits d τ h a (drop 1 ks) s.rest in
@@ -505,6 +515,7 @@ mutual
           let_has t (both k m) u n has (pair_has (type_of k) (type_of m) q.roots.0 q.roots.1.0),
           (is_pair_type (type_of k) (type_of m), q.fits),
         );
+        levels = λ z. tt;
       }
   node_fits (typed.power ρ p t es xs u n k m j ts us y f e le d) τ h a ks s has =
       let q = each_fits d τ h a (drop 1 ks) s.rest in
@@ -512,6 +523,7 @@ mutual
         left = q.left;
         built = rows.power τ p es xs (let_of t (type_of k) u n) ty.Bool k m j y e le q.built;
         fits = (let_has t (type_of k) u n has q.roots.0, q.fits);
+        levels = λ z. tt;
       }
   node_fits (typed.high_power ρ p t es xs u n k m j ts us y f e le d) τ h a ks s has =
       let q = each_fits d τ h a (drop 1 ks) s.rest in
@@ -522,13 +534,14 @@ mutual
           let_has t (both k m) u n has (pair_has (type_of k) (type_of m) q.roots.0 q.roots.1.0),
           (is_pair_type (type_of k) (type_of m), q.fits),
         );
+        levels = λ z. tt;
       }
   node_fits (typed.field ρ p t es xs k m x ts us r e d) τ h a ks s has =
       let q = each_fits d τ h a (drop 1 ks) s.rest in
-      record { left = q.left; built = rows.field τ p es xs t k m x e q.built; fits = q.fits }
+      record { left = q.left; built = rows.field τ p es xs t k m x e q.built; fits = q.fits; levels = λ z. tt }
   node_fits (typed.low_item ρ p t es xs k m j ts us r e le d) τ h a ks s has =
       let q = each_fits d τ h a (drop 1 ks) s.rest in
-      record { left = q.left; built = rows.low_item τ p es xs t k m j e le q.built; fits = q.fits }
+      record { left = q.left; built = rows.low_item τ p es xs t k m j e le q.built; fits = q.fits; levels = λ z. tt }
   node_fits (typed.high_item ρ p t es xs u n k m j ts us y f r e le d) τ h a ks s has =
       let q = each_fits d τ h a (drop 1 ks) s.rest in
       record {
@@ -538,19 +551,20 @@ mutual
           let_has t (both k m) u n has (pair_has (type_of k) (type_of m) q.roots.0 q.roots.1.0),
           (is_pair_type (type_of k) (type_of m), q.fits),
         );
+        levels = λ z. tt;
       }
   node_fits (typed.cases ρ p t other es xs kers ts us y d) τ h a ks s has =
       let q = each_fits d τ h a (drop 1 ks) s.rest in
-      record { left = q.left; built = rows.cases τ p other es xs t kers y q.built; fits = q.fits }
+      record { left = q.left; built = rows.cases τ p other es xs t kers y q.built; fits = q.fits; levels = λ z. tt }
   node_fits (typed.conjunction m ρ p t es xs kers ts us d) τ h a ks s has =
       let q = each_fits d τ h a (drop 1 ks) s.rest in
-      record { left = q.left; built = rows.conjunction m τ p es xs ty.Bool kers q.built; fits = q.fits }
+      record { left = q.left; built = rows.conjunction m τ p es xs ty.Bool kers q.built; fits = q.fits; levels = q.levels }
   node_fits (typed.disjunction m ρ p t es xs kers ts us d) τ h a ks s has =
       let q = each_fits d τ h a (drop 1 ks) s.rest in
-      record { left = q.left; built = rows.disjunction m τ p es xs ty.Bool kers q.built; fits = q.fits }
+      record { left = q.left; built = rows.disjunction m τ p es xs ty.Bool kers q.built; fits = q.fits; levels = q.levels }
   node_fits (typed.as_value m ρ p t o es xs k ts us e d) τ h a ks s has =
       let q = node_fits d τ h a ks s has in
-      record { left = q.left; built = rows.as_value m τ p o es xs k e q.built; fits = q.fits }
+      record { left = q.left; built = rows.as_value m τ p o es xs k e q.built; fits = q.fits; levels = λ z. tt }
   node_fits (typed.binder ρ p t o ko es xs kers bs ns ts us vs e i f d1 d2) τ h a ks s has =
       let js : List Kind = drop 1 ks in
       let n : ℕ = length xs in
@@ -560,6 +574,7 @@ mutual
         left = left_parts n es ts us vs q.left r.left;
         built = rows.binder τ p o ko es xs t kers bs ns e i (shadow_new xs ns ρ τ h f) q.built r.built;
         fits = (q.fits, r.fits);
+        levels = λ z. tt;
       }
   node_fits (typed.fold ρ p t es xs bs kers ns ts us vs f d1 d2) τ h a ks s has =
       let js : List Kind = drop 1 ks in
@@ -571,8 +586,9 @@ mutual
         left = left_parts n es ts us vs q.left r.left;
         built = rows.fold τ p es xs t bs kers ns (shadow_new xs ns ρ τ h f) q.built r.built;
         fits = (q.fits, r.fits);
+        levels = λ z. tt;
       }
-  node_fits (typed.choice m ρ p t es xs kers bs ns ts us vs f d1 d2) τ h a ks s has =
+  node_fits (typed.choice m ρ p t es xs kers bs ns ts us vs f l d1 d2) τ h a ks s has =
       let js : List Kind = drop 1 ks in
       let n : ℕ = length xs in
       let q = each_fits d1 τ h (agrees_take n es ts a) js (front_take n es ts js s.rest) in
@@ -581,6 +597,7 @@ mutual
         left = left_parts n es ts us vs q.left r.left;
         built = rows.choice m τ p es xs ty.Bool kers bs ns (shadow_new xs ns ρ τ h f) q.built r.built;
         fits = (q.fits, r.fits);
+        levels = λ z. (l ∙ ap (λ n. upward n (length xs)) (sym z), r.levels (numbered_long xs ns τ ρ z));
       }
   node_fits (typed.branches m ρ p t c es xs g k l ts us vs me d1 d2) τ h (more_trees _ _ _ a as') ks s has =
       let js : List Kind = drop 1 ks in
@@ -590,6 +607,7 @@ mutual
         left = r.left ∙ ap (past es) q.left;
         built = rows.branches m τ p c es xs ty.Bool ty.Bool g k l me q.built r.built;
         fits = (q.fits, r.fits);
+        levels = r.levels;
       }
   node_fits (typed.except ρ p t cs e es x u n f d ds ts us vs pl le d1 d2) τ h (more_trees _ _ _ a as') ks s has =
       let js : List Kind = drop 1 ks in
@@ -600,6 +618,7 @@ mutual
         built = rows.except τ p cs e es x t f d ds pl
             (shadow_fresh (level_numbers (d ∷ ds)) ρ τ h (changes_fresh d2)) q.built r.built;
         fits = (q.fits, r.fits);
+        levels = λ z. tt;
       }
   node_fits (typed.except_let ρ p t cs e es x u n f ds ts us vs pl le re d1 d2) τ h (more_trees _ _ _ a as') ks s has =
       let js : List Kind = drop 1 ks in
@@ -615,10 +634,11 @@ mutual
           let_has t w u n has (pairs_have f (all_levels ds) q.root r.indexes),
           (pairs_typed f (all_levels ds) re, (q.fits, r.fits)),
         );
+        levels = λ z. tt;
       }
   node_fits (typed.split_cases m ρ p t other es xs ys o ts us me d) τ h a ks s has =
       let q = arms_fit d τ h a (drop 1 ks) s.rest in
-      record { left = q.left; built = rows.split_cases m τ p other es xs ty.Bool ys o me q.built; fits = q.fits }
+      record { left = q.left; built = rows.split_cases m τ p other es xs ty.Bool ys o me q.built; fits = q.fits; levels = q.levels }
 
 -- what is built with types, and that it fits
 pub typed_fits : (i : Option Assignable) (ρ : Numbering) (e : Expr) (ts : List Ty) (k : Ker) (us : List Ty) →
@@ -626,3 +646,10 @@ pub typed_fits : (i : Option Assignable) (ρ : Numbering) (e : Expr) (ts : List 
 typed_fits i ρ e ts k us d a =
     let r = tree_fits d ρ (record { same = λ z. refl; new = λ n q. q }) a (map the_kind ts) (front_all (nodes e) ts) in
     (r.built, r.fits)
+
+-- and that its numbers are those of names around
+pub typed_levels : (i : Option Assignable) (ρ : Numbering) (e : Expr) (ts : List Ty) (k : Ker) (us : List Ty) →
+    BuildsTyped i ρ e ts k us → KindsAgree e ts → (b : Builds i ρ e k) × (Fitting b (map the_kind ts) × Levelled b)
+typed_levels i ρ e ts k us d a =
+    let r = tree_fits d ρ (record { same = λ z. refl; new = λ n q. q }) a (map the_kind ts) (front_all (nodes e) ts) in
+    (r.built, (r.fits, r.levels refl))

@@ -1,13 +1,26 @@
 -- Shapes and numbers of small jobs' own trees, by computing: at 32 bits.
-use Rattle.std.proofs.Common.{◌≡◌, ℕ, true, false, List, [], ◌∷◌, pos, Some, None, ap}
+use Rattle.std.proofs.Common.{◌≡◌, ℕ, true, false, List, [], ◌∷◌, map, pos, Some, None, ap}
 use Rattle.tla_meaning.specs.declared.expr.Expr.{Expr, roll-Expr, out-roll-Expr}
 use Rattle.tla_meaning.specs.declared.op.Op.{Op}
 use Rattle.tla_meaning.specs.declared.op.Op.TheVariants as op
 use Rattle.tla_meaning.specs.declared.place.Place.{Place}
-use Rattle.kernel_trees.specs.Paths.{Marks}
+use Rattle.tla_values.specs.declared.value.Value.TheVariants as value
+use Rattle.snowcat_rows.specs.declared.types.Ty.TheVariants.{Bool as bool_type}
+use Rattle.kernel_trees.specs.declared.kernel.Ker.{Ker, roll-Ker, out-roll-Ker}
+use Rattle.kernel_trees.specs.declared.kernel.KerOp.{KerOp}
+use Rattle.kernel_trees.specs.declared.kernel.KerOp.TheVariants as ker
+use Rattle.kernel_trees.specs.declared.path.AssignedStep.{AssignedStep}
+use Rattle.kernel_trees.specs.declared.path.AssignedStep.TheVariants as mark
+use Rattle.kernel_trees.specs.declared.path.KerPath.{KerPath}
+use Rattle.kernel_trees.specs.Assignments.{marked}
+use Rattle.kernel_trees.specs.Paths.{Marks, paths}
+use Rattle.kernel_trees.proofs.LawOfPaths.{ways-roll}
+use Rattle.kernel_shapes.specs.Systems.{sized_path}
+use Rattle.kernel_shapes.proofs.KernelNodes.{ker-counts-roll, ker-literal-roll, ker-shape-roll}
 use Rattle.kernel_shapes.specs.Shape.{Num, Set, Fun, Rec, Empty, shapes}
 use Rattle.kernel_shapes.specs.Counts.{Count, refusal}
-use Rattle.kernel_shapes.specs.Levels.{Path, Parts, Guard, Pick, Equals, Among, level_numbers, refused}
+use Rattle.kernel_trees.specs.Trees.{number_name}
+use Rattle.kernel_shapes.specs.Levels.{Path, Parts, Guard, Pick, Equals, Among, in_next, after_path, path_numbers, level_numbers, refused}
 use Rattle.kernel_shapes.specs.Sized.{Extent, Sizing, no_size, walked, picked_from}
 use Rattle.kernel_shapes.proofs.TreeLemmas.{size-roll, shape-roll, counts-roll, literal-roll}
 use Rattle.kera_reducer.specs.JobParts.{sized_job_paths, typed_sized}
@@ -46,7 +59,7 @@ abbrev becomes : ℕ → Expr → Expr
 becomes n e = tree n op.Eq (next n ∷ e ∷ [])
 
 abbrev typed : Expr → TypedTree
-typed e = record { tree = e; kinds = [] }
+typed e = record { tree = e; kinds = []; around = [] }
 
 abbrev primed : Marks
 primed i b = b
@@ -97,20 +110,83 @@ guarded = simp (job_ways-roll, nodes-roll, below-roll, out-roll-Expr)
 never_reached : on_step (tree 1 op.And (tree 2 (op.Bool false) [] ∷ becomes 4 (many 5) ∷ [])) ≡ (Guard (of_tree (tree 2 (op.Bool false) [])) ∷ []) ∷ []
 never_reached = simp (job_ways-roll, nodes-roll, below-roll, out-roll-Expr)
 
--- \E x \in 1..2: (\E x \in 1..70000: x' = 1) /\ 1..x = {} has a name bound again, as a definition that is written out
--- may have. Along the path the last step reads the inner one, where the language reads the outer one: see `JobParts`
-abbrev two : Expr
-two = tree 30 op.Range (number 30 1 ∷ number 31 2 ∷ [])
+-- Q == \E i \in 1..4: x' = i and Next == \E i \in 1..2: Q /\ s' = 1..i, written out: i is bound again in its scope, and the
+-- last step reads the outer one, whose number is 0
+abbrev name_i : List ℕ
+name_i = 105 ∷ []
 
-abbrev some_name : ℕ → Expr → Expr → Expr
-some_name n a b = roll-Expr (record { place = at n; op = op.Exists; args = a ∷ b ∷ []; binds = name_x ∷ [] })
+abbrev some_i : ℕ → Expr → Expr → Expr
+some_i n a b = roll-Expr (record { place = at n; op = op.Exists; args = a ∷ b ∷ []; binds = name_i ∷ [] })
 
-abbrev last : Expr
-last = tree 41 op.Eq (tree 40 op.Range (number 40 1 ∷ tree 42 (op.Bound name_x) [] ∷ []) ∷ empty 43 ∷ [])
+abbrev up_to : ℕ → Expr → Expr
+up_to n e = tree n op.Range (number n 1 ∷ e ∷ [])
 
-bound_again : on_step (some_name 28 two (tree 35 op.And (some_name 32 (many 33) (becomes 34 (number 34 1)) ∷ last ∷ [])))
-    ≡ (Pick ((name_x, of_tree two) ∷ []) ∷ Pick ((name_x, of_tree (many 33)) ∷ []) ∷ Equals 0 (of_tree (number 34 1)) ∷ Guard (of_tree last) ∷ []) ∷ []
-bound_again = simp (job_ways-roll, nodes-roll, below-roll, out-roll-Expr)
+abbrev read_i : ℕ → Expr
+read_i n = tree n (op.Bound name_i) []
+
+abbrev bound_again : Expr
+bound_again =
+    some_i 28 (up_to 30 (number 31 2)) (tree 35 op.And (some_i 32 (up_to 33 (number 33 4)) (becomes 34 (read_i 34)) ∷ tree 41 op.Eq (tree 40 (op.Name 1 true) [] ∷ up_to 42 (read_i 43) ∷ []) ∷ []))
+
+abbrev under : List (List ℕ) → Expr → Sizing
+under around e = typed_sized 32 (record { tree = e; kinds = []; around = around })
+
+abbrev with_numbers : Path
+with_numbers =
+    Pick ((number_name 0, of_tree (up_to 30 (number 31 2))) ∷ [])
+    ∷ Pick ((number_name 1, under (name_i ∷ []) (up_to 33 (number 33 4))) ∷ [])
+    ∷ Equals 0 (under (name_i ∷ name_i ∷ []) (read_i 34)) ∷ Equals 1 (under (name_i ∷ []) (up_to 42 (read_i 43))) ∷ []
+
+steps_of_numbers : on_step bound_again ≡ with_numbers ∷ []
+steps_of_numbers = simp (job_ways-roll, nodes-roll, below-roll, out-roll-Expr)
+
+abbrev two_names : Extent
+two_names = record { now = None ∷ None ∷ []; next = None ∷ None ∷ []; bound = [] }
+
+-- what x and s have behind it, and what counts
+outer_is_meant : (after_path in_next with_numbers two_names).next ≡ Some (Num (pos 1) (pos 4)) ∷ Some (Set 2 (Num (pos 1) (pos 2))) ∷ []
+outer_is_meant = simp (size-roll, shape-roll, counts-roll, literal-roll)
+
+counts_of_numbers : path_numbers in_next with_numbers two_names ≡ members 30 2 ∷ members 33 4 ∷ members 42 2 ∷ []
+counts_of_numbers = simp (size-roll, shape-roll, counts-roll, literal-roll)
+
+-- its kernel binds the numbers 0 and 1, and the same is left and counts
+abbrev kernel_tree : ℕ → KerOp → List Ker → List ℕ → Ker
+kernel_tree n o ks ns = roll-Ker (record { place = at n; ty = bool_type; op = o; args = ks; binds = ns })
+
+abbrev kernel_number : ℕ → ℕ → Ker
+kernel_number n i = kernel_tree n (ker.Const (value.Int (pos i))) [] []
+
+abbrev kernel_up_to : ℕ → Ker → Ker
+kernel_up_to n k = kernel_tree n ker.Range (kernel_number n 1 ∷ k ∷ []) []
+
+abbrev kernel_next : ℕ → ℕ → Ker
+kernel_next n i = kernel_tree n (ker.Name i true) [] []
+
+abbrev bound_number : ℕ → ℕ → Ker
+bound_number n i = kernel_tree n (ker.Bound i) [] []
+
+abbrev kernel_bound_again : Ker
+kernel_bound_again =
+    kernel_tree 28 ker.Some
+    (kernel_up_to 30 (kernel_number 31 2)
+    ∷ kernel_tree 35 ker.And
+    (kernel_tree 32 ker.Some (kernel_up_to 33 (kernel_number 33 4) ∷ kernel_tree 34 ker.Equal (kernel_next 34 0 ∷ bound_number 34 1 ∷ []) [] ∷ []) (1 ∷ [])
+    ∷ kernel_tree 41 ker.Equal (kernel_next 40 1 ∷ kernel_up_to 42 (bound_number 43 0) ∷ []) [] ∷ []) [] ∷ []) (0 ∷ [])
+
+abbrev kernel_steps : List AssignedStep
+kernel_steps =
+    mark.Pick ((0, kernel_up_to 30 (kernel_number 31 2)) ∷ []) ∷ mark.Pick ((1, kernel_up_to 33 (kernel_number 33 4)) ∷ [])
+    ∷ mark.Equals 0 (bound_number 34 1) ∷ mark.Equals 1 (kernel_up_to 42 (bound_number 43 0)) ∷ []
+
+steps_of_kernel : map (λ (x : KerPath). marked primed [] x.steps) (paths primed kernel_bound_again) ≡ kernel_steps ∷ []
+steps_of_kernel = simp (ways-roll, out-roll-Ker)
+
+same_is_left : (after_path in_next (sized_path 32 kernel_steps) two_names).next ≡ Some (Num (pos 1) (pos 4)) ∷ Some (Set 2 (Num (pos 1) (pos 2))) ∷ []
+same_is_left = simp (ker-shape-roll, ker-counts-roll, ker-literal-roll, value.outs-Int)
+
+same_counts : path_numbers in_next (sized_path 32 kernel_steps) two_names ≡ members 30 2 ∷ members 33 4 ∷ members 42 2 ∷ []
+same_counts = simp (ker-shape-roll, ker-counts-roll, ker-literal-roll, value.outs-Int)
 
 -- ---- levels
 

@@ -18,7 +18,7 @@ primed i b = b
 
 -- a tree whose types are of no account
 abbrev typed : Expr → TypedTree
-typed e = record { tree = e; kinds = [] }
+typed e = record { tree = e; kinds = []; around = [] }
 
 abbrev paths_of : Expr → List JobPath
 paths_of e = job_paths primed (typed e)
@@ -212,11 +212,17 @@ other_steps = simp (job_ways-roll, has_name-roll, nodes-roll, below-roll, out-ro
 abbrev two_choices : Expr
 two_choices = tree 1 op.And (for_some 2 (105 ∷ []) (set 3) (is_one 4 0) ∷ for_some 6 (105 ∷ []) (set 7) (tree 9 op.In (next 8 1 ∷ set 10 ∷ [])) ∷ [])
 
+abbrev name_i : List ℕ
+name_i = 105 ∷ []
+
+abbrev under_i : Expr → TypedTree
+under_i e = record { tree = e; kinds = []; around = name_i ∷ [] }
+
 choices : shown two_choices ≡ one 1 false (0 ∷ 1 ∷ []) ∷ []
 choices = simp (job_ways-roll, nodes-roll, below-roll, out-roll-Expr)
 
 choice_steps : steps two_choices
-    ≡ (Picks ((105 ∷ [], typed (set 3)) ∷ []) ∷ Sets 0 (typed (number 4 1)) ∷ Picks ((105 ∷ [], typed (set 7)) ∷ []) ∷ SetsFrom 1 (typed (set 10)) ∷ []) ∷ []
+    ≡ (Picks ((name_i, typed (set 3)) ∷ []) ∷ Sets 0 (under_i (number 4 1)) ∷ Picks ((name_i, typed (set 7)) ∷ []) ∷ SetsFrom 1 (under_i (set 10)) ∷ []) ∷ []
 choice_steps = simp (job_ways-roll, nodes-roll, below-roll, out-roll-Expr)
 
 -- ---- sets of which a name takes a member

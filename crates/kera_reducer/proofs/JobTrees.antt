@@ -1,15 +1,16 @@
 -- The equations of a job's trees, node by node: recursion that sees trees, names, annotations, paths.
-use Rattle.std.proofs.Common.{◌≡◌, ℕ, suc, Bool, List, [], ◌∷◌, map, refl, ◌∙◌, ap, ap₂, subst}
+use Rattle.std.proofs.Common.{◌≡◌, ℕ, zero, suc, Bool, List, [], ◌∷◌, map, refl, ◌∙◌, ap, ap₂, subst}
 use Rattle.std.specs.Prelude.{sum, take, drop}
 use Rattle.tla_meaning.specs.declared.expr.Expr.{Expr, roll-Expr}
 use Rattle.tla_meaning.specs.declared.expr.Expr.TheOpen.{Expr-F}
 use Rattle.tla_meaning.specs.declared.expr.Expr.TheFolds.{fold-roll-Expr, map-Expr, ind-Expr}
+use Rattle.tla_meaning.specs.declared.op.Op.{Op}
 use Rattle.tla_meaning.specs.declared.place.Place.{Place}
 use Rattle.kernel_trees.specs.Paths.{Marks}
 use Rattle.kernel_trees.specs.TypeKinds.{Kind}
 use Rattle.kernel_shapes.specs.Trees.{with_trees, recur}
 use Rattle.kernel_trees.specs.Ways.{Way}
-use Rattle.kera_reducer.specs.JobPaths.{TypedTree, JobStep, JobParted, below_notes, below_of, has_name, has_name_at, job_ways, job_ways_at, job_ways_of, nodes, parted, tree_of, typed_trees}
+use Rattle.kera_reducer.specs.JobPaths.{TypedTree, JobStep, JobParted, JobWays, names_inside, below_notes, below_of, has_name, has_name_at, job_ways, job_ways_at, job_ways_of, nodes, parted, set_count, tree_of, typed_trees}
 
 -- ---- induction over trees
 
@@ -87,15 +88,26 @@ nodes-roll x = fold-roll-Expr ℕ (λ x. suc (sum x.args)) x
 abbrev pub with_job_ways : Marks → List TypedTree → List JobParted
 with_job_ways m ts = map (λ t. (t, job_ways m t)) ts
 
-parted_are : (m : Marks) (es : List Expr) (ks : List Kind) →
-    parted (map (λ e. (e, recur (job_ways_at m) e)) es) ks ≡ with_job_ways m (typed_trees es ks)
-parted_are m [] ks = refl
-parted_are m (e ∷ es) ks = ap (λ l. (record { tree = e; kinds = take (nodes e) ks }, job_ways m (record { tree = e; kinds = take (nodes e) ks })) ∷ l) (parted_are m es (drop (nodes e) ks))
+parted_are : (m : Marks) (n : ℕ) (outer inner : List (List ℕ)) (es : List Expr) (ks : List Kind) →
+    parted n outer inner (map (λ e. (e, recur (job_ways_at m) e)) es) ks ≡ with_job_ways m (typed_trees n outer inner es ks)
+parted_are m n outer inner [] ks = refl
+parted_are m zero outer inner (e ∷ es) ks =
+    let t : TypedTree = record { tree = e; kinds = take (nodes e) ks; around = inner } in
+    ap (λ l. (t, job_ways m t) ∷ l) (parted_are m zero outer inner es (drop (nodes e) ks))
+parted_are m (suc n) outer inner (e ∷ es) ks =
+    let t : TypedTree = record { tree = e; kinds = take (nodes e) ks; around = outer } in
+    ap (λ l. (t, job_ways m t) ∷ l) (parted_are m n outer inner es (drop (nodes e) ks))
 
-pub job_ways-roll : (m : Marks) (x : Expr-F Expr) (ks : List Kind) →
-    job_ways m (record { tree = roll-Expr x; kinds = ks })
-    ≡ job_ways_of m x.op (record { tree = roll-Expr x; kinds = ks }) x.place x.binds (with_job_ways m (typed_trees x.args (drop 1 ks)))
-job_ways-roll m x ks =
-    ap (λ (f : List Kind → List (Way JobStep)). f ks) (recur-roll (job_ways_at m) x)
-    ∙ ap₂ (λ es l. job_ways_of m x.op (record { tree = roll-Expr (with_args x es); kinds = ks }) x.place x.binds l)
-    (trees_of (recur (job_ways_at m)) x.args) (parted_are m x.args (drop 1 ks))
+-- the children of a node through which a path leads
+abbrev pub inside_trees : Op → List (List ℕ) → List (List ℕ) → List Expr → List Kind → List TypedTree
+inside_trees o xs around es ks = typed_trees (set_count o xs) around (names_inside o xs around) es ks
+
+pub job_ways-roll : (m : Marks) (x : Expr-F Expr) (around : List (List ℕ)) (ks : List Kind) →
+    job_ways m (record { tree = roll-Expr x; kinds = ks; around = around })
+    ≡ job_ways_of m x.op (record { tree = roll-Expr x; kinds = ks; around = around }) x.place x.binds
+    (with_job_ways m (inside_trees x.op x.binds around x.args (drop 1 ks)))
+job_ways-roll m x around ks =
+    ap (λ (f : JobWays). f around ks) (recur-roll (job_ways_at m) x)
+    ∙ ap₂ (λ es l. job_ways_of m x.op (record { tree = roll-Expr (with_args x es); kinds = ks; around = around }) x.place x.binds l)
+    (trees_of (recur (job_ways_at m)) x.args)
+    (parted_are m (set_count x.op x.binds) around (names_inside x.op x.binds around) x.args (drop 1 ks))

@@ -31,7 +31,8 @@ use Rattle.kera_reducer.specs.BuildsTyped.{BuildsTyped, PathTyped, ChangesTyped,
 use Rattle.kera_reducer.proofs.KindsOf.{same_of, is_truth, is_number}
 use Rattle.kera_reducer.proofs.SameRows.{signature}
 use Rattle.kera_reducer.proofs.BuiltParts.{Have, Reads}
-use Rattle.kera_reducer.proofs.FittingTyped.{KindsAgree, EachAgrees, at_tree, no_trees, more_trees, plus, count, nodes_out, typed_fits}
+use Rattle.kera_reducer.proofs.FittingTyped.{KindsAgree, EachAgrees, at_tree, no_trees, more_trees, plus, count, nodes_out, typed_fits, typed_levels}
+use Rattle.kera_reducer.proofs.Levelled.{Levelled}
 use Rattle.kera_reducer.proofs.Lengths.{cons_first, cons_rest}
 
 -- ---- roots
@@ -217,4 +218,12 @@ pub rows_fit : (i : Option Assignable) (ρ : Numbering) (e : Expr) (ts : List Ty
     (b : Builds i ρ e k) × Fitting b (map the_kind ts)
 rows_fit i ρ e ts k us d c h has =
     typed_fits i ρ e ts k us d
+    (kinds_agree c e (map mean ts) h ts [] (sym (append-nil (map mean ts)), all_have ts has))
+
+-- and its numbers are those of names around
+pub rows_levelled : (i : Option Assignable) (ρ : Numbering) (e : Expr) (ts : List Ty) (k : Ker) (us : List Ty) →
+    BuildsTyped i ρ e ts k us → (c : Context) → HasTypes c e (map mean ts) → list_all has_kind ts ≡ true →
+    (b : Builds i ρ e k) × (Fitting b (map the_kind ts) × Levelled b)
+rows_levelled i ρ e ts k us d c h has =
+    typed_levels i ρ e ts k us d
     (kinds_agree c e (map mean ts) h ts [] (sym (append-nil (map mean ts)), all_have ts has))

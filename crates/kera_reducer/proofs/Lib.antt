@@ -31,7 +31,17 @@ pub mod StepsTold
 pub mod BuiltTrees
 pub mod Operands
 pub mod CaseWays
+pub mod NodeWays
 pub mod WaysKept
+pub mod Unshaped
+pub mod Filled
+pub mod SizedSteps
+pub mod SizedPaths
+pub mod SizedTrees
+pub mod SizedWays
+pub mod SizedParts
+pub mod SizedLevels
+pub mod SizedJobs
 pub mod CaseEffects
 pub mod ActsKept
 pub mod MarksBelow
@@ -110,6 +120,7 @@ pub mod ExceptSteps
 pub mod Excepted
 pub mod ExceptSettings
 pub mod ShadowNumbers
+pub mod Levelled
 pub mod FittingTyped
 pub mod KindsAgreed
 pub mod KernelTexts

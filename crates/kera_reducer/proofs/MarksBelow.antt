@@ -1,6 +1,6 @@
 -- Names count only where a tree holds them: of a tree whose names are the first n, the paths are those by the marks of the
 -- first n names.
-use Rattle.std.proofs.Common.{◌≡◌, ℕ, Bool, true, false, not, ◌||◌, List, [], ◌∷◌, map, take, true≢false, refl, sym, ◌∙◌, ap, ap₂}
+use Rattle.std.proofs.Common.{◌≡◌, ℕ, zero, suc, Bool, true, false, not, ◌||◌, List, [], ◌∷◌, map, take, true≢false, refl, sym, ◌∙◌, ap, ap₂}
 use Rattle.std.specs.Prelude.{drop, nat_lt}
 use Rattle.std.specs.List.{list_any}
 use Rattle.tla_meaning.specs.declared.expr.Expr.{Expr}
@@ -12,11 +12,12 @@ use Rattle.kernel_trees.specs.declared.kernel.KerOp.{KerOp}
 use Rattle.kernel_trees.specs.declared.kernel.KerOp.TheVariants as ker
 use Rattle.kernel_trees.specs.Paths.{Marks, Parted, any_mentions, mentions, mentions_at, ways, ways_of}
 use Rattle.kernel_trees.specs.TypeKinds.{Kind}
+use Rattle.kernel_trees.specs.Ways.{Way}
 use Rattle.kernel_trees.proofs.LawOfPaths.{ways-roll}
 use Rattle.kernel_trees.proofs.Marking.{SameMarks}
 use Rattle.kernel_trees.proofs.Trees.{mentions-roll}
 use Rattle.kernel_trees.proofs.Trees as kernel
-use Rattle.kera_reducer.specs.JobPaths.{JobParted, TypedTree, any_holds, has_name, has_name_at, job_ways, job_ways_of, nodes, outside, tree_mentions, typed_trees}
+use Rattle.kera_reducer.specs.JobPaths.{JobParted, JobStep, TypedTree, names_inside, any_holds, has_name, has_name_at, job_ways, job_ways_of, nodes, outside, set_count, tree_mentions, typed_trees}
 use Rattle.kera_reducer.proofs.Basics.{or_left, or_right}
 use Rattle.kera_reducer.proofs.JobTrees.{Each, by_nodes, has_name-roll, job_ways-roll, with_job_ways}
 use Rattle.kera_reducer.proofs.KernelNames.{ker_has, ker_has_at, has-roll}
@@ -35,7 +36,8 @@ module _ (n : ℕ) (m m' : Marks) (same : SameMarks n m m') where
   abbrev Fine : Expr → Type 0
   Fine e = has_name (outside n) e ≡ false →
       (tree_mentions m e ≡ tree_mentions m' e)
-      × ((ks : List Kind) → job_ways m (record { tree = e; kinds = ks }) ≡ job_ways m' (record { tree = e; kinds = ks }))
+      × ((around : List (List ℕ)) (ks : List Kind) →
+      job_ways m (record { tree = e; kinds = ks; around = around }) ≡ job_ways m' (record { tree = e; kinds = ks; around = around }))
 
   all_mentions : (es : List Expr) → Each Fine es → Within (map (has_name (outside n)) es) → map (tree_mentions m) es ≡ map (tree_mentions m') es
   all_mentions [] h q = refl
@@ -43,17 +45,29 @@ module _ (n : ℕ) (m m' : Marks) (same : SameMarks n m m') where
       let rest : Bool = list_any (λ b. b) (map (has_name (outside n)) es) in
       ap₂ (λ (b : Bool) (bs : List Bool). b ∷ bs) (h.0 (or_left (has_name (outside n) e) rest q)).0 (all_mentions es h.1 (or_right (has_name (outside n) e) rest q))
 
-  all_ways : (es : List Expr) (ks : List Kind) → Each Fine es → Within (map (has_name (outside n)) es) → with_job_ways m (typed_trees es ks) ≡ with_job_ways m' (typed_trees es ks)
-  all_ways [] ks h q = refl
-  all_ways (e ∷ es) ks h q =
-      let rest : Bool = list_any (λ b. b) (map (has_name (outside n)) es) in
-      ap₂ (λ (x : JobParted) (xs : List JobParted). x ∷ xs)
-      (ap (λ ys. (record { tree = e; kinds = take (nodes e) ks }, ys)) ((h.0 (or_left (has_name (outside n) e) rest q)).1 _))
-      (all_ways es _ h.1 (or_right (has_name (outside n) e) rest q))
+  one_way : (e : Expr) (around : List (List ℕ)) (ks : List Kind) → Fine e → has_name (outside n) e ≡ false → (ts us : List JobParted) → ts ≡ us →
+      let t : TypedTree = record { tree = e; kinds = ks; around = around } in (t, job_ways m t) ∷ ts ≡ (t, job_ways m' t) ∷ us
+  one_way e around ks h q ts us r =
+      let t : TypedTree = record { tree = e; kinds = ks; around = around } in
+      ap₂ (λ (ys : List (Way JobStep)) (zs : List JobParted). (t, ys) ∷ zs) ((h q).1 around ks) r
 
-  any_is : (m l : Marks) (es : List Expr) (ks : List Kind) → any_holds m (with_job_ways l (typed_trees es ks)) ≡ list_any (λ b. b) (map (tree_mentions m) es)
-  any_is m l [] ks = refl
-  any_is m l (e ∷ es) ks = ap (λ b. tree_mentions m e || b) (any_is m l es _)
+  all_ways : (k : ℕ) (outer inner : List (List ℕ)) (es : List Expr) (ks : List Kind) → Each Fine es → Within (map (has_name (outside n)) es) →
+      with_job_ways m (typed_trees k outer inner es ks) ≡ with_job_ways m' (typed_trees k outer inner es ks)
+  all_ways k outer inner [] ks h q = refl
+  all_ways zero outer inner (e ∷ es) ks h q =
+      let rest : Bool = list_any (λ b. b) (map (has_name (outside n)) es) in
+      one_way e inner (take (nodes e) ks) h.0 (or_left (has_name (outside n) e) rest q) _ _
+      (all_ways zero outer inner es _ h.1 (or_right (has_name (outside n) e) rest q))
+  all_ways (suc k) outer inner (e ∷ es) ks h q =
+      let rest : Bool = list_any (λ b. b) (map (has_name (outside n)) es) in
+      one_way e outer (take (nodes e) ks) h.0 (or_left (has_name (outside n) e) rest q) _ _
+      (all_ways k outer inner es _ h.1 (or_right (has_name (outside n) e) rest q))
+
+  any_is : (m l : Marks) (k : ℕ) (outer inner : List (List ℕ)) (es : List Expr) (ks : List Kind) →
+      any_holds m (with_job_ways l (typed_trees k outer inner es ks)) ≡ list_any (λ b. b) (map (tree_mentions m) es)
+  any_is m l k outer inner [] ks = refl
+  any_is m l zero outer inner (e ∷ es) ks = ap (λ b. tree_mentions m e || b) (any_is m l zero outer inner es _)
+  any_is m l (suc k) outer inner (e ∷ es) ks = ap (λ b. tree_mentions m e || b) (any_is m l k outer inner es _)
 
   node_mentions : (p : Place) (o : Op) (bs cs ds : List Bool) → has_name_at (outside n) p o bs ≡ false → (Within bs → cs ≡ ds) →
       has_name_at (λ i primed p. m i primed) p o cs ≡ has_name_at (λ i primed p. m' i primed) p o ds
@@ -77,17 +91,20 @@ module _ (n : ℕ) (m m' : Marks) (same : SameMarks n m m') where
   fine = by_nodes Fine (λ x h b.
       let c : has_name_at (outside n) x.place x.op (map (has_name (outside n)) x.args) ≡ false = sym (has_name-roll (outside n) x) ∙ b in (
         has_name-roll _ x ∙ node_mentions x.place x.op _ _ _ c (all_mentions x.args h) ∙ sym (has_name-roll _ x),
-        λ ks.
-            job_ways-roll m x ks
+        λ around ks.
+            let many : ℕ = set_count x.op x.binds in
+            let inner : List (List ℕ) = names_inside x.op x.binds around in
+            job_ways-roll m x around ks
             ∙ node_ways x.op _ x.place x.binds _ _ _ c (λ q. (
-              all_ways x.args (drop 1 ks) h q,
-              any_is m m' x.args (drop 1 ks) ∙ ap (list_any (λ b. b)) (all_mentions x.args h q) ∙ sym (any_is m' m' x.args (drop 1 ks)),
+              all_ways many around inner x.args (drop 1 ks) h q,
+              any_is m m' many around inner x.args (drop 1 ks) ∙ ap (list_any (λ b. b)) (all_mentions x.args h q)
+                  ∙ sym (any_is m' m' many around inner x.args (drop 1 ks)),
             ))
-            ∙ sym (job_ways-roll m' x ks),
+            ∙ sym (job_ways-roll m' x around ks),
       ))
 
   pub same_job_ways : (t : TypedTree) → has_name (outside n) t.tree ≡ false → job_ways m t ≡ job_ways m' t
-  same_job_ways t h = (fine t.tree h).1 t.kinds
+  same_job_ways t h = (fine t.tree h).1 t.around t.kinds
 
   -- ---- the kernel's
 

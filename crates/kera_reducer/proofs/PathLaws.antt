@@ -33,7 +33,7 @@ keeps_reads m i ρ e k n p h = names_kept (is_read m n p) h ∙ sym (reads_has m
 
 -- the paths of its expression, step by step
 keeps_steps : (m : Assignable) (ρ : Numbering) (t : TypedTree) (k : Ker) → Builds (Some m) ρ t.tree k → SameWays SameStep (job_ways (counts m) t) (ways (counts m) k)
-keeps_steps m ρ t k h = tree_ways m h t.kinds
+keeps_steps m ρ t k h = tree_ways m h t.around t.kinds
 
 -- steps that are built tell the same
 all_told : (m : Marks) (xs : List JobStep) (zs : List Step) → Pairs SameStep xs zs → Pairs (SameTold m) xs zs

@@ -379,7 +379,7 @@ module _ (m : ℕ) where
         node_in p ty.Bool ker.And ks B refl refl (each_scoped d B c (λ n. form_child op.And n b) 0 f.below)
     node_scoped (typed.disjunction a ρ p t es xs ks ts us d) B c b f =
         node_in p ty.Bool ker.Or ks B refl refl (each_scoped d B c (λ n. form_child op.Or n b) 0 f.below)
-    node_scoped (typed.choice a ρ p t es xs ks bs ns ts us vs fr d1 d2) B c b f =
+    node_scoped (typed.choice a ρ p t es xs ks bs ns ts us vs fr u d1 d2) B c b f =
         let g : ℕ → Bool = λ n. form_child op.Exists n b in
         let q = fine_dropped g (length xs) 0 es f.below in
         let l = over_count ker.Some op.Exists xs (length es) refl refl ∙ f.count in

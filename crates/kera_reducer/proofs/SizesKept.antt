@@ -50,11 +50,11 @@ abbrev SilentNode : Option Assignable → Op → List Expr → Type 0
 SilentNode None o es = Unit {0}
 SilentNode (Some m) o es = mentioned_at m o (map (mentioned m) es) ≡ false
 
-mentioned_out : (m : Assignable) (e : Expr) → mentioned m e ≡ mentioned_at m (out-Expr e).op (map (mentioned m) (out-Expr e).args)
+pub mentioned_out : (m : Assignable) (e : Expr) → mentioned m e ≡ mentioned_at m (out-Expr e).op (map (mentioned m) (out-Expr e).args)
 unfolding mentioned
 mentioned_out m e = ap (mentioned m) (sym (roll-out-Expr e)) ∙ fold-roll-Expr Bool (λ x. mentioned_at m x.op x.args) (out-Expr e)
 
-any_map : (m : Assignable) (es : List Expr) → list_any (λ b. b) (map (mentioned m) es) ≡ any_mentioned m es
+pub any_map : (m : Assignable) (es : List Expr) → list_any (λ b. b) (map (mentioned m) es) ≡ any_mentioned m es
 any_map m [] = refl
 any_map m (e ∷ es) = ap (λ b. mentioned m e || b) (any_map m es)
 

@@ -130,7 +130,7 @@ all_sound names g kn gb (i ∷ is) (e ∷ es) (ts ∷ tss) (k ∷ ks) b w f h x 
     (and_right (list_all has_kind ts) rest h) (All-tail IsTruthFirst (map mean ts) (map (map mean) tss) x) t.1)
 all_sound names g kn gb is es tss ks b w f h x t = absurd (b)
 
-long_there : (ts : List Ty) (as' : List Kind) → all_there (map kind_of ts) ≡ Some as' → length ts ≡ length as'
+pub long_there : (ts : List Ty) (as' : List Kind) → all_there (map kind_of ts) ≡ Some as' → length ts ≡ length as'
 long_there [] as' h = ap length (some_of h)
   where
     some_of : {x y : List Kind} → Some x ≡ Some y → x ≡ y

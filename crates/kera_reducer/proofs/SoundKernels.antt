@@ -17,6 +17,7 @@ use Rattle.kera_reducer.specs.Infinite.{IsLeastIfAny, infinite_places}
 use Rattle.kera_reducer.specs.Kernels.{IsKernelOf, IsSoundKernel}
 use Rattle.kera_reducer.specs.Literals.{all_literals}
 use Rattle.kera_reducer.specs.SoundLaws.{are_kinded, is_whole_job, texts_among}
+use Rattle.kera_reducer.specs.WellFormed.{are_apart}
 use Rattle.kera_reducer.proofs.KernelTexts.{job_texts_among, once_distinct}
 use Rattle.kera_reducer.proofs.SoundJobs.{parts_are_sound}
 
@@ -31,8 +32,9 @@ kernel_is_sound job t k h finite meets =
     let wide : Bool = is_whole_job (length t.names) job in
     let many : Bool = length t.names == length job.names in
     let behind : Bool = constants_first (map (λ (d : Decl). d.constant) job.names) in
-    let front = and_left (wide && are_kinded t) (many && behind) h.well_formed in
-    let back = and_right (wide && are_kinded t) (many && behind) h.well_formed in
+    let formed = and_left ((wide && are_kinded t) && (many && behind)) (are_apart job) h.well_formed in
+    let front = and_left (wide && are_kinded t) (many && behind) formed in
+    let back = and_right (wide && are_kinded t) (many && behind) formed in
     let texts : list_all (texts_among k.texts) (parts_of job) ≡ true = subst
     (λ ts. list_all (texts_among ts) (parts_of job) ≡ true) (sym h.texts) (job_texts_among job) in
     let counts : (length k.names == length k.fixed) ≡ true =

@@ -91,55 +91,55 @@ two_marked o o' make make' q h = by o ∙ ap (λ o. kernel_mark (option_map (λ 
     by (Some i) = ap (λ (s : ToldStep). Some (i, s)) (h i)
 
 module _ (m : Marks) (before : List ℕ) where
-  left_kept : {i : Option Assignable} {ρ : Numbering} {e : Expr} {k : Ker} (ks : List Kind) → Builds i ρ e k →
-      left_side m before (record { tree = e; kinds = ks }) ≡ target m before (out-Ker k).op
-  left_kept ks h = same_target m before (tree_root h).root
+  pub left_kept : {i : Option Assignable} {ρ : Numbering} {e : Expr} {k : Ker} (around : List (List ℕ)) (ks : List Kind) → Builds i ρ e k →
+      left_side m before (record { tree = e; kinds = ks; around = around }) ≡ target m before (out-Ker k).op
+  left_kept around ks h = same_target m before (tree_root h).root
 
-  right_kept : {i : Option Assignable} {ρ : Numbering} {e : Expr} {k : Ker} (ks : List Kind) → Builds i ρ e k →
-      job_reads ((record { tree = e; kinds = ks }) ∷ []) ≡ kernel_reads (k ∷ [])
-  right_kept {e = e} {k = k} ks h = same_reads (record { tree = e; kinds = ks }) k (λ test. names_kept test h)
+  right_kept : {i : Option Assignable} {ρ : Numbering} {e : Expr} {k : Ker} (around : List (List ℕ)) (ks : List Kind) → Builds i ρ e k →
+      job_reads ((record { tree = e; kinds = ks; around = around }) ∷ []) ≡ kernel_reads (k ∷ [])
+  right_kept {e = e} {k = k} around ks h = same_reads (record { tree = e; kinds = ks; around = around }) k (λ test. names_kept test h)
 
-  equal_marks : {i : Option Assignable} {ρ : Numbering} {es : List Expr} {ks : List Ker} → BuildsEach i ρ es ks → (kk : List Kind) →
-      job_mark (job_assignment_of m before op.Eq (typed_trees es kk)) ≡ kernel_mark (assignment_of m before ker.Equal ks)
-  equal_marks (none_left i ρ) kk = refl
-  equal_marks (one_more i ρ e k es ks h (none_left _ _)) kk = refl
-  equal_marks (one_more i ρ e k es ks h (one_more _ _ f l fs ls g (none_left _ _))) kk =
-      two_marked _ _ (λ i. Sets i (record { tree = f; kinds = take (nodes f) (drop (nodes e) kk) })) (λ i. mark.Equals i l) (left_kept (take (nodes e) kk) h)
-      (λ i. ap (λ r. record { assigns = Some i; among = None; reads = r }) (right_kept (take (nodes f) (drop (nodes e) kk)) g))
-  equal_marks (one_more i ρ e k es ks h (one_more _ _ f l fs ls g (one_more _ _ _ _ _ _ _ _))) kk = refl
+  equal_marks : {i : Option Assignable} {ρ : Numbering} {es : List Expr} {ks : List Ker} → BuildsEach i ρ es ks → (around : List (List ℕ)) (kk : List Kind) →
+      job_mark (job_assignment_of m before op.Eq (typed_trees 0 around around es kk)) ≡ kernel_mark (assignment_of m before ker.Equal ks)
+  equal_marks (none_left i ρ) around kk = refl
+  equal_marks (one_more i ρ e k es ks h (none_left _ _)) around kk = refl
+  equal_marks (one_more i ρ e k es ks h (one_more _ _ f l fs ls g (none_left _ _))) around kk =
+      two_marked _ _ (λ i. Sets i (record { tree = f; kinds = take (nodes f) (drop (nodes e) kk); around = around })) (λ i. mark.Equals i l) (left_kept around (take (nodes e) kk) h)
+      (λ i. ap (λ r. record { assigns = Some i; among = None; reads = r }) (right_kept around (take (nodes f) (drop (nodes e) kk)) g))
+  equal_marks (one_more i ρ e k es ks h (one_more _ _ f l fs ls g (one_more _ _ _ _ _ _ _ _))) around kk = refl
 
-  assign_marks : {i : Option Assignable} {ρ : Numbering} {es : List Expr} {ks : List Ker} → BuildsEach i ρ es ks → (kk : List Kind) →
-      job_mark (job_assignment_of m before op.Assign (typed_trees es kk)) ≡ kernel_mark (assignment_of m before ker.Equal ks)
-  assign_marks (none_left i ρ) kk = refl
-  assign_marks (one_more i ρ e k es ks h (none_left _ _)) kk = refl
-  assign_marks (one_more i ρ e k es ks h (one_more _ _ f l fs ls g (none_left _ _))) kk =
-      two_marked _ _ (λ i. Sets i (record { tree = f; kinds = take (nodes f) (drop (nodes e) kk) })) (λ i. mark.Equals i l) (left_kept (take (nodes e) kk) h)
-      (λ i. ap (λ r. record { assigns = Some i; among = None; reads = r }) (right_kept (take (nodes f) (drop (nodes e) kk)) g))
-  assign_marks (one_more i ρ e k es ks h (one_more _ _ f l fs ls g (one_more _ _ _ _ _ _ _ _))) kk = refl
+  assign_marks : {i : Option Assignable} {ρ : Numbering} {es : List Expr} {ks : List Ker} → BuildsEach i ρ es ks → (around : List (List ℕ)) (kk : List Kind) →
+      job_mark (job_assignment_of m before op.Assign (typed_trees 0 around around es kk)) ≡ kernel_mark (assignment_of m before ker.Equal ks)
+  assign_marks (none_left i ρ) around kk = refl
+  assign_marks (one_more i ρ e k es ks h (none_left _ _)) around kk = refl
+  assign_marks (one_more i ρ e k es ks h (one_more _ _ f l fs ls g (none_left _ _))) around kk =
+      two_marked _ _ (λ i. Sets i (record { tree = f; kinds = take (nodes f) (drop (nodes e) kk); around = around })) (λ i. mark.Equals i l) (left_kept around (take (nodes e) kk) h)
+      (λ i. ap (λ r. record { assigns = Some i; among = None; reads = r }) (right_kept around (take (nodes f) (drop (nodes e) kk)) g))
+  assign_marks (one_more i ρ e k es ks h (one_more _ _ f l fs ls g (one_more _ _ _ _ _ _ _ _))) around kk = refl
 
-  member_marks : {i : Option Assignable} {ρ : Numbering} {es : List Expr} {ks : List Ker} → BuildsEach i ρ es ks → (kk : List Kind) →
-      job_mark (job_assignment_of m before op.In (typed_trees es kk)) ≡ kernel_mark (assignment_of m before ker.Member ks)
-  member_marks (none_left i ρ) kk = refl
-  member_marks (one_more i ρ e k es ks h (none_left _ _)) kk = refl
-  member_marks (one_more i ρ e k es ks h (one_more _ _ f l fs ls g (none_left _ _))) kk =
-      two_marked _ _ (λ i. SetsFrom i (record { tree = f; kinds = take (nodes f) (drop (nodes e) kk) })) (λ i. mark.Among i l) (left_kept (take (nodes e) kk) h)
-      (λ i. ap₂ (λ r ps. record { assigns = Some i; among = Some ps; reads = r }) (right_kept (take (nodes f) (drop (nodes e) kk)) g) (infinite_kept g))
-  member_marks (one_more i ρ e k es ks h (one_more _ _ f l fs ls g (one_more _ _ _ _ _ _ _ _))) kk = refl
+  member_marks : {i : Option Assignable} {ρ : Numbering} {es : List Expr} {ks : List Ker} → BuildsEach i ρ es ks → (around : List (List ℕ)) (kk : List Kind) →
+      job_mark (job_assignment_of m before op.In (typed_trees 0 around around es kk)) ≡ kernel_mark (assignment_of m before ker.Member ks)
+  member_marks (none_left i ρ) around kk = refl
+  member_marks (one_more i ρ e k es ks h (none_left _ _)) around kk = refl
+  member_marks (one_more i ρ e k es ks h (one_more _ _ f l fs ls g (none_left _ _))) around kk =
+      two_marked _ _ (λ i. SetsFrom i (record { tree = f; kinds = take (nodes f) (drop (nodes e) kk); around = around })) (λ i. mark.Among i l) (left_kept around (take (nodes e) kk) h)
+      (λ i. ap₂ (λ r ps. record { assigns = Some i; among = Some ps; reads = r }) (right_kept around (take (nodes f) (drop (nodes e) kk)) g) (infinite_kept g))
+  member_marks (one_more i ρ e k es ks h (one_more _ _ f l fs ls g (one_more _ _ _ _ _ _ _ _))) around kk = refl
 
-  same_marks : {i : Option Assignable} {ρ : Numbering} {es : List Expr} {ks : List Ker} (ko : KerOp) → is_same ko ≡ true → BuildsEach i ρ es ks → (kk : List Kind) →
-      job_mark (job_assignment_of m before (op_of ko) (typed_trees es kk)) ≡ kernel_mark (assignment_of m before ko ks)
-  same_marks (ker.Const v) h g kk = absurd (false≢true h)
-  same_marks ker.Equal h g kk = equal_marks g kk
-  same_marks ker.Member h g kk = member_marks g kk
-  same_marks ko h g kk = refl
+  same_marks : {i : Option Assignable} {ρ : Numbering} {es : List Expr} {ks : List Ker} (ko : KerOp) → is_same ko ≡ true → BuildsEach i ρ es ks → (around : List (List ℕ)) (kk : List Kind) →
+      job_mark (job_assignment_of m before (op_of ko) (typed_trees 0 around around es kk)) ≡ kernel_mark (assignment_of m before ko ks)
+  same_marks (ker.Const v) h g around kk = absurd (false≢true h)
+  same_marks ker.Equal h g around kk = equal_marks g around kk
+  same_marks ker.Member h g around kk = member_marks g around kk
+  same_marks ko h g around kk = refl
 
-  no_job_assignment : (o : Op) (ts : List TypedTree) → is_assigning o ≡ false → job_assignment_of m before o ts ≡ None
+  pub no_job_assignment : (o : Op) (ts : List TypedTree) → is_assigning o ≡ false → job_assignment_of m before o ts ≡ None
   no_job_assignment op.Eq ts h = absurd (true≢false h)
   no_job_assignment op.Assign ts h = absurd (true≢false h)
   no_job_assignment op.In ts h = absurd (true≢false h)
   no_job_assignment o ts h = refl
 
-  no_kernel_assignment : (o : KerOp) (ks : List Ker) → may_assign o ≡ false → assignment_of m before o ks ≡ None
+  pub no_kernel_assignment : (o : KerOp) (ks : List Ker) → may_assign o ≡ false → assignment_of m before o ks ≡ None
   no_kernel_assignment ker.Equal ks h = absurd (true≢false h)
   no_kernel_assignment ker.Member ks h = absurd (true≢false h)
   no_kernel_assignment o ks h = refl
@@ -150,10 +150,10 @@ module _ (m : Marks) (before : List ℕ) where
       ap job_mark (no_job_assignment o ts h)
       ∙ sym (ap kernel_mark (no_kernel_assignment (out-Ker k).op (out-Ker k).args (sym (same_assigning r.root) ∙ h)))
 
-  at_tree : (p : Place) (a : Ty) (ko : KerOp) (ks : List Ker) (xs : List ℕ) → assignment m before (tree p a ko ks xs) ≡ assignment_of m before ko ks
+  pub at_tree : (p : Place) (a : Ty) (ko : KerOp) (ks : List Ker) (xs : List ℕ) → assignment m before (tree p a ko ks xs) ≡ assignment_of m before ko ks
   at_tree p a ko ks xs = ap (λ (x : Ker-F Ker). assignment_of m before x.op x.args) (out-roll-Ker _)
 
-  binder_assigns : (ko : KerOp) → is_binder ko ≡ true → is_assigning (op_of ko) ≡ false
+  pub binder_assigns : (ko : KerOp) → is_binder ko ≡ true → is_assigning (op_of ko) ≡ false
   binder_assigns ker.Filter h = refl
   binder_assigns ker.MapOver h = refl
   binder_assigns ker.FunOf h = refl
@@ -162,17 +162,17 @@ module _ (m : Marks) (before : List ℕ) where
   binder_assigns ko h = absurd (false≢true h)
 
   marks_kept : {i : Option Assignable} {ρ : Numbering} {p : Place} {o : Op} {es : List Expr} {xs : List (List ℕ)} {k : Ker} →
-      BuildsNode i ρ p o es xs k → is_note o ≡ false → (kk : List Kind) →
-      job_mark (job_assignment_of m before o (typed_trees es kk)) ≡ kernel_mark (assignment m before k)
-  marks_kept (same ρ p o ko es xs a ks e h g) q kk =
-      ap (λ z. job_mark (job_assignment_of m before z (typed_trees es kk))) (sym e)
-      ∙ same_marks ko h g kk ∙ sym (ap kernel_mark (at_tree p a ko ks []))
-  marks_kept (assign ρ p es xs a ks g) q kk = assign_marks g kk ∙ sym (ap kernel_mark (at_tree p a ker.Equal ks []))
-  marks_kept (binder ρ p o ko es xs a ks bs ns e h f g r) q kk =
-      none_both (typed_trees es kk) (root_of (binder ρ p o ko es xs a ks bs ns e h f g r) q) (ap is_assigning (sym e) ∙ binder_assigns ko h)
-  marks_kept (noted i ρ p x es xs k g) q kk = absurd (true≢false q)
-  marks_kept (as_value m ρ p o es xs k z h) q kk = marks_kept h q kk
-  marks_kept {es = es} h q kk = none_both (typed_trees es kk) (root_of h q) refl
+      BuildsNode i ρ p o es xs k → is_note o ≡ false → (around : List (List ℕ)) (kk : List Kind) →
+      job_mark (job_assignment_of m before o (typed_trees 0 around around es kk)) ≡ kernel_mark (assignment m before k)
+  marks_kept (same ρ p o ko es xs a ks e h g) q around kk =
+      ap (λ z. job_mark (job_assignment_of m before z (typed_trees 0 around around es kk))) (sym e)
+      ∙ same_marks ko h g around kk ∙ sym (ap kernel_mark (at_tree p a ko ks []))
+  marks_kept (assign ρ p es xs a ks g) q around kk = assign_marks g around kk ∙ sym (ap kernel_mark (at_tree p a ker.Equal ks []))
+  marks_kept (binder ρ p o ko es xs a ks bs ns e h f g r) q around kk =
+      none_both (typed_trees 0 around around es kk) (root_of (binder ρ p o ko es xs a ks bs ns e h f g r) q) (ap is_assigning (sym e) ∙ binder_assigns ko h)
+  marks_kept (noted i ρ p x es xs k g) q around kk = absurd (true≢false q)
+  marks_kept (as_value m ρ p o es xs k z h) q around kk = marks_kept h q around kk
+  marks_kept {es = es} h q around kk = none_both (typed_trees 0 around around es kk) (root_of h q) refl
 
 -- ---- steps
 
@@ -185,17 +185,17 @@ module _ (m : Marks) where
       by (at_node i ρ e k h) = record {
         told = λ before.
             job_by t before (job_assignment m before t)
-            ∙ (λ z. by_mark (same_reads t k (λ test. names_kept test b) z) before (marks_kept m before h q (drop 1 t.kinds) z))
+            ∙ (λ z. by_mark (same_reads t k (λ test. names_kept test b) z) before (marks_kept m before h q t.around (drop 1 t.kinds) z))
             ∙ sym (kernel_by_is k before (assignment m before k));
         ends = same_end_at (root_of h q).root;
         ended = same_end_at (root_of h q).root;
       }
 
   -- a tree that neither assigns nor ends
-  abbrev IsPlain : Ker → Type 0
+  abbrev pub IsPlain : Ker → Type 0
   IsPlain k = (may_assign (op_at k) ≡ false) × (is_end (op_at k) ≡ false)
 
-  no_assignment : (before : List ℕ) (k : Ker) → may_assign (op_at k) ≡ false → assignment m before k ≡ None
+  pub no_assignment : (before : List ℕ) (k : Ker) → may_assign (op_at k) ≡ false → assignment m before k ≡ None
   no_assignment before k h = no_kernel_assignment m before (out-Ker k).op (out-Ker k).args h
 
   guard_reads : (before : List ℕ) (t : TypedTree) (k : Ker) → SameNames t.tree k → may_assign (op_at k) ≡ false →
@@ -203,10 +203,10 @@ module _ (m : Marks) where
   guard_reads before t k h q =
       ap (λ r. (record { assigns = None; among = None; reads = r }, before)) (same_reads t k h) ∙ ap (kernel_by m before k) (sym (no_assignment before k q))
 
-  negation_plain : (p : Place) (a : Ty) (k : Ker) → IsPlain (negation p a k)
+  pub negation_plain : (p : Place) (a : Ty) (k : Ker) → IsPlain (negation p a k)
   negation_plain p a k = (ap (λ (x : Ker-F Ker). may_assign x.op) (out-roll-Ker _), ap (λ (x : Ker-F Ker). is_end x.op) (out-roll-Ker _))
 
-  guard_plain : (p : Place) (a : Ty) (k : Ker) → IsPlain (guard_of p a k)
+  pub guard_plain : (p : Place) (a : Ty) (k : Ker) → IsPlain (guard_of p a k)
   guard_plain p a k = by (may_assign (op_at k) || is_end (op_at k)) refl
     where
       by : (c : Bool) → (may_assign (op_at k) || is_end (op_at k)) ≡ c → IsPlain (if c then twice_negated p a k else k)

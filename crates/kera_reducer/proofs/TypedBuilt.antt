@@ -124,7 +124,7 @@ mutual
   node_built (typed.as_value m ρ p t o es xs k ts us e d) = built.as_value m ρ p o es xs k e (node_built d)
   node_built (typed.conjunction m ρ p t es xs ks ts us d) = built.conjunction m ρ p es xs ty.Bool ks (each_built d)
   node_built (typed.disjunction m ρ p t es xs ks ts us d) = built.disjunction m ρ p es xs ty.Bool ks (each_built d)
-  node_built (typed.choice m ρ p t es xs ks bs ns ts us vs f d1 d2) =
+  node_built (typed.choice m ρ p t es xs ks bs ns ts us vs f l d1 d2) =
       built.choice m ρ p es xs ty.Bool ks bs ns f (each_built d1) (each_built d2)
   node_built (typed.branches m ρ p t c es xs g k l ts us vs me d1 d2) =
       built.branches m ρ p c es xs ty.Bool ty.Bool g k l me (typed_is_built d1) (each_built d2)

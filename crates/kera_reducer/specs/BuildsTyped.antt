@@ -5,7 +5,8 @@
 -- A tree is built where these types are still to be read, and those are left behind it. The root that stands for a node
 -- carries the node's type; truth values and numbers that are made carry Bool and Int, pairs the types of their
 -- operands, the sequences of a LET those of what they hold, and what stands at an index along the path of an EXCEPT the
--- type of that part. The numbers that are made are those of no name around.
+-- type of that part. The numbers that are made are those of no name around; a name that an `\E` binds in an action
+-- position has the number of names that have one around its binder and before it.
 use Rattle.std.specs.Prelude.{◌≡◌, ℕ, suc, Bool, true, false, not, ◌&&◌, nat_eq, nat_le, List, [], ◌∷◌, ◌++◌, map, take, drop, length, Option, Some, None, ℤ, pos}
 use Rattle.tla_values.specs.declared.value.Value.TheVariants as value
 use Rattle.tla_meaning.specs.declared.actions.Assignable.{Assignable}
@@ -21,7 +22,7 @@ use Rattle.kernel_trees.specs.declared.kernel.Ker.{Ker}
 use Rattle.kernel_trees.specs.declared.kernel.KerOp.{KerOp}
 use Rattle.kernel_trees.specs.declared.kernel.KerOp.TheVariants as ker
 use Rattle.kernel_trees.specs.Trees.{op_of}
-use Rattle.kera_reducer.specs.Reduction.{Numbering, fresh, are_fresh, numbered, all_fresh, any_mentioned}
+use Rattle.kera_reducer.specs.Reduction.{Numbering, fresh, are_fresh, numbered, all_fresh, any_mentioned, upward}
 use Rattle.kera_reducer.specs.Builds.{is_same, is_binder, passes_on, has_arm}
 use Rattle.kera_reducer.specs.Making.{pair_type, let_of, AllLead, pairs_type, RestsTyped}
 use Rattle.kera_reducer.specs.Rows.{tree, node, op_at, type_of, truth, number, bound, negation, implication, equivalence, single, item_by_let, small_power, large_power, Level, Change, changed, all_levels, indexes, all_plain, except_by_let, nested_ifs, split_case, guard_of}
@@ -250,7 +251,7 @@ mutual
           → TypedNode (Some m) ρ p t op.Or es xs ts (node p ty.Bool ker.Or ks) us
       choice : (m : Assignable) (ρ : Numbering) (p : Place) (t : Ty) (es : List Expr) (xs : List (List ℕ))
           (ks bs : List Ker) (ns : List ℕ) (ts us vs : List Ty)
-          → all_fresh xs ns ρ ≡ true
+          → all_fresh xs ns ρ ≡ true → ns ≡ upward (length ρ) (length xs)
           → EachTyped None ρ (take (length xs) es) ts ks us
           → EachTyped (Some m) (numbered xs ns ρ) (drop (length xs) es) us bs vs
           → TypedNode (Some m) ρ p t op.Exists es xs ts (tree p ty.Bool ker.Some (ks ++ bs) ns) vs

@@ -59,7 +59,7 @@ KeepsJobOutcomes job k w s t =
 
 -- by the job's names, whatever types are told of its nodes
 abbrev pub SamePathsOf : Job → Assignable → Expr → Ker → Type 0
-SamePathsOf job m e k = (ks : List Kind) → SamePaths (marks_below (length job.names) m) (record { tree = e; kinds = ks }) k
+SamePathsOf job m e k = (ks : List Kind) → SamePaths (marks_below (length job.names) m) (record { tree = e; kinds = ks; around = [] }) k
 
 pub record SameJobPaths (job : Job) (k : KerJob) : Type 0 where
   pub cinit : SamePathsOf job (in_cinit job) job.cinit k.cinit

@@ -3,7 +3,7 @@
 -- assign, and makes one choice for each `\E`; a conjunction goes on with each path of its next operand, unless a path
 -- has ended. Source: Konnov, Kukovec and Tran, "TLA+ Model Checking Made Symbolic", OOPSLA 2019, on symbolic transitions
 -- and assignments.
-use Rattle.std.specs.Prelude.{◌≡◌, ℕ, suc, Bool, true, false, not, ◌&&◌, sum, nat_eq, nat_lt, List, [], ◌∷◌, ◌++◌, map, zip, take, drop, length, flat_map, Option, Some, None, option_map, slice_get, if◌then◌else◌}
+use Rattle.std.specs.Prelude.{◌≡◌, ℕ, zero, suc, Bool, true, false, not, ◌&&◌, sum, nat_eq, nat_lt, List, [], ◌∷◌, ◌++◌, map, zip, take, drop, length, flat_map, Option, Some, None, option_map, slice_get, if◌then◌else◌}
 use Rattle.std.specs.List.{list_any}
 use Rattle.std.specs.Ordering.{is_eq}
 use Rattle.tla_meaning.specs.declared.expr.Expr.{Expr, roll-Expr, out-Expr}
@@ -83,22 +83,29 @@ below_notes = recur (λ x. below_of x.op (tree_of x) (map (λ k. k.1) x.args))
 
 -- ---- trees with types
 
--- a tree with the types of its nodes in preorder
+-- a tree with the types of its nodes in preorder, and the names that are bound around it, from the outermost: a text may
+-- stand in them twice, and the last one is meant
 pub record TypedTree : Type 0 where
   pub tree : Expr
   pub kinds : List Kind
+  pub around : List (List ℕ)
 
 -- how many nodes a tree has
 unfoldable pub nodes : Expr → ℕ
 nodes = fold-Expr ℕ (λ x. suc (sum x.args))
 
--- trees beside each other, from the types that stand behind their parent's own
-abbrev pub typed_trees : List Expr → List Kind → List TypedTree
-typed_trees [] ks = []
-typed_trees (e ∷ es) ks = record { tree = e; kinds = take (nodes e) ks } ∷ typed_trees es (drop (nodes e) ks)
+-- trees beside each other, from the types that stand behind their parent's own: around the first n stand the outer names,
+-- and around those behind the inner ones
+abbrev pub typed_trees : ℕ → List (List ℕ) → List (List ℕ) → List Expr → List Kind → List TypedTree
+typed_trees n outer inner [] ks = []
+typed_trees zero outer inner (e ∷ es) ks =
+    record { tree = e; kinds = take (nodes e) ks; around = inner } ∷ typed_trees zero outer inner es (drop (nodes e) ks)
+typed_trees (suc n) outer inner (e ∷ es) ks =
+    record { tree = e; kinds = take (nodes e) ks; around = outer } ∷ typed_trees n outer inner es (drop (nodes e) ks)
 
+-- of a tree that binds nothing
 abbrev pub children : TypedTree → List TypedTree
-children t = typed_trees (out-Expr t.tree).args (drop 1 t.kinds)
+children t = typed_trees 0 t.around t.around (out-Expr t.tree).args (drop 1 t.kinds)
 
 -- ---- steps
 
@@ -171,19 +178,37 @@ job_ways_of m op.Exists self p xs ks =
 job_ways_of m (op.Noted x) self p xs ks = job_noted_ways self ks
 job_ways_of m o self p xs ks = alone (Operand self)
 
--- children with their paths, from the types that stand behind their parent's own
-abbrev pub parted : List (Expr × (List Kind → List (Way JobStep))) → List Kind → List JobParted
-parted [] ks = []
-parted (e ∷ es) ks =
-    (record { tree = e.0; kinds = take (nodes e.0) ks }, e.1 (take (nodes e.0) ks)) ∷ parted es (drop (nodes e.0) ks)
+-- of the operators through which a path leads, `\E` alone binds names: around its body, behind a set for each
+abbrev pub set_count : Op → List (List ℕ) → ℕ
+set_count op.Exists xs = length xs
+set_count o xs = 0
 
-abbrev pub job_ways_at : Marks → Expr-F (Expr × (List Kind → List (Way JobStep))) → List Kind → List (Way JobStep)
-job_ways_at m x ks =
-    job_ways_of m x.op (record { tree = tree_of x; kinds = ks }) x.place x.binds (parted x.args (drop 1 ks))
+abbrev pub names_inside : Op → List (List ℕ) → List (List ℕ) → List (List ℕ)
+names_inside op.Exists xs around = around ++ xs
+names_inside o xs around = around
+
+-- the paths of a tree, by the names around it and the types of its nodes
+abbrev pub JobWays : Type 0
+JobWays = List (List ℕ) → List Kind → List (Way JobStep)
+
+-- children with their paths, as `typed_trees`
+abbrev pub parted : ℕ → List (List ℕ) → List (List ℕ) → List (Expr × JobWays) → List Kind → List JobParted
+parted n outer inner [] ks = []
+parted zero outer inner (e ∷ es) ks =
+    (record { tree = e.0; kinds = take (nodes e.0) ks; around = inner }, e.1 inner (take (nodes e.0) ks))
+    ∷ parted zero outer inner es (drop (nodes e.0) ks)
+parted (suc n) outer inner (e ∷ es) ks =
+    (record { tree = e.0; kinds = take (nodes e.0) ks; around = outer }, e.1 outer (take (nodes e.0) ks))
+    ∷ parted n outer inner es (drop (nodes e.0) ks)
+
+abbrev pub job_ways_at : Marks → Expr-F (Expr × JobWays) → JobWays
+job_ways_at m x around ks =
+    job_ways_of m x.op (record { tree = tree_of x; kinds = ks; around = around }) x.place x.binds
+    (parted (set_count x.op x.binds) around (names_inside x.op x.binds around) x.args (drop 1 ks))
 
 -- the paths of an action, from left to right
 abbrev pub job_ways : Marks → TypedTree → List (Way JobStep)
-job_ways m t = recur (job_ways_at m) t.tree t.kinds
+job_ways m t = recur (job_ways_at m) t.tree t.around t.kinds
 
 -- a path with the place of the last branch that it takes, or of the part's root where it takes none
 pub record JobPath : Type 0 where

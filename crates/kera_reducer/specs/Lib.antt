@@ -18,4 +18,5 @@ pub mod BuildsTyped
 pub mod SoundLaws
 pub mod WellFormed
 pub mod Kernels
+pub mod JobSizes
 pub mod inner

@@ -1,6 +1,6 @@
 -- What a reduction keeps: what a tree stands for, where numbers stand for its bound names. Source: Konnov, Kukovec and
 -- Tran, "TLA+ Model Checking Made Symbolic", OOPSLA 2019, on the reduction to KerA+.
-use Rattle.std.specs.Prelude.{◌≡◌, ℕ, Bool, true, false, not, ◌&&◌, nat_eq, nat_le, List, [], ◌∷◌, ◌++◌, Some, None, option_and_then}
+use Rattle.std.specs.Prelude.{◌≡◌, ℕ, zero, suc, Bool, true, false, not, ◌&&◌, nat_eq, nat_le, List, [], ◌∷◌, ◌++◌, Some, None, option_and_then}
 use Rattle.std.specs.List.{list_all, list_any}
 use Rattle.tla_meaning.specs.declared.actions.Assignable.{Assignable}
 use Rattle.tla_meaning.specs.declared.expr.Expr.{Expr}
@@ -49,6 +49,11 @@ abbrev pub all_fresh : List (List ℕ) → List ℕ → Numbering → Bool
 all_fresh [] [] ρ = true
 all_fresh (x ∷ xs) (n ∷ ns) ρ = fresh n ρ && all_fresh xs ns (ρ ++ (x, n) ∷ [])
 all_fresh xs ns ρ = false
+
+-- so many numbers, from n on
+abbrev pub upward : ℕ → ℕ → List ℕ
+upward n zero = []
+upward n (suc k) = n ∷ upward (suc n) k
 
 -- no width, or one from 4 on
 abbrev pub is_wide : Width → Bool

@@ -21,6 +21,7 @@ mod powers;
 mod reducer;
 mod reducing;
 mod scoping;
+mod separating;
 mod size_theorems;
 mod sound_theorems;
 mod texts;
@@ -34,7 +35,7 @@ pub use path_theorems::{
     built_trees_keep_places_and_names,
 };
 pub use reducing::reduce;
-pub use size_theorems::built_trees_keep_shapes_and_refusals;
+pub use size_theorems::{built_jobs_keep_their_refusals, built_trees_keep_shapes_and_refusals};
 pub use sound_theorems::built_jobs_are_sound;
 pub use texts::texts_of;
 pub use theorems::what_is_built_keeps_its_outcomes;

@@ -10,6 +10,7 @@ ghost use Rattle.kernel_trees.specs.Systems.{constants_first};
 use crate::finite::least_infinite;
 use crate::kinded::are_kinded;
 use crate::reducer::Reducer;
+use crate::separating::are_apart;
 use crate::texts::texts_of;
 use crate::wholes::is_whole_job;
 use kernel_trees::{ActionKind, Ker, KerFault, KerJob, marks_of};
@@ -96,7 +97,11 @@ fn is_well_formed(job: &Job, typed: &Typed) -> bool
 {
     let count = typed.names.as_slice().len();
     let names = job.names.as_slice();
-    is_whole_job(count, job) && are_kinded(typed) && count == names.len() && constants_first(names)
+    is_whole_job(count, job)
+        && are_kinded(typed)
+        && count == names.len()
+        && constants_first(names)
+        && are_apart(job)
 }
 
 fn kernel_of(alloc: Global, job: &Job, typed: &Typed) -> Result<KerJob, AllocError>
@@ -135,8 +140,8 @@ fn kernel_of(alloc: Global, job: &Job, typed: &Typed) -> Result<KerJob, AllocErr
 
 /// The kernel trees of a job, whose nodes have these types: of the same outcomes, with the same paths of actions. A job
 /// in which an infinite set stands outside a form position has none, and the least place of such a set is told. So it is
-/// of a job whose trees are whole and whose types have kinds, as those of modules are; of another one it answers want of
-/// memory. Where the types are those of a typing, the kernel is sound.
+/// of a job whose trees are whole, whose types have kinds and whose EXCEPTs are apart, as those of modules are; of another one
+/// it answers want of memory. Where the types are those of a typing, the kernel is sound.
 /// (Konnov, Kukovec and Tran, OOPSLA 2019, on the language KerA+.)
 pub fn reduce(alloc: Global, job: &Job, typed: &Typed) -> Result<KerJob, KerFault>
     ensures kernel { IfOk result (λ k. IsKernelOf job.now typed.now k) }

@@ -19,7 +19,7 @@ x: Int -> Int; y: Int | (in (except [1] x (add y 1) (add @ y)) {}) ==> (member (
 x: Int -> Int; y: Int | (in (except [1 1] x y 2 1 3) {}) ==> (member (update [2] (update [2] x y 2) 1 3) {})
 x: Int -> Int | (in (except [1] x 8 1) {}) ==> (member (update [2] x 8 1) {})
 x: Int -> Seq(Int); y: Int | (in (except [2] x (add y 1) 7 (add @ y)) {}) ==> (member (update [2] x (plus y 1) (update [3] #2 7 (plus #3 y))) {})
-x: Int -> Int -> Int | (in (except [1] x 1 (except [1] @ 2 (add @ 1))) {}) ==> (member (update [2] x 1 (update [5] #2 2 (plus #5 1))) {})
+x: Int -> Int -> Int | (in (except:1 [1] x 1 (except:2 [1] @ 2 (add @ 1))) {}) ==> (member (update [2] x 1 (update [5] #2 2 (plus #5 1))) {})
 x: Int -> Int; y: Int -> Int | (in (except [1] x 1 (apply (except [1] y @ (add @ 1)) @)) {}) ==> (member (update [2] x 1 (at (update [5] y #2 (plus #5 1)) #2)) {})
 x: Int -> Int | (in (except [1] (except [1] x 1 2) 3 (add @ 1)) {}) ==> (member (update [2] (update [2] x 1 2) 3 (plus #2 1)) {})
 x: {a: Seq(Int)} | (in (except [2] x "a" (noted [0 Int] 1) @) {}) ==> (member (update [2] x "a" (update [3] #2 1 #3)) {})

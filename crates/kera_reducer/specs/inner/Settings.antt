@@ -13,11 +13,6 @@ use Rattle.kera_reducer.specs.Reduction.{Numbering}
 
 -- ---- numbers
 
--- so many numbers, from one on
-abbrev pub upward : ℕ → ℕ → List ℕ
-upward n zero = []
-upward n (suc k) = n ∷ upward (suc n) k
-
 abbrev pub counted_from : ℕ → List (List ℕ) → Numbering
 counted_from n [] = []
 counted_from n (x ∷ xs) = (x, n) ∷ counted_from (suc n) xs

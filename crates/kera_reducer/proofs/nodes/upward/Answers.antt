@@ -1,5 +1,5 @@
 use Rattle.std.proofs.Common.{arith, rules, ◌∙◌, ◌+◌, ◌++◌, ◌-◌, ◌∷◌, ◌≡◌, [], ap, ap₂, sym}
-use Rattle.kera_reducer.specs.inner.Settings.{upward}
+use Rattle.kera_reducer.specs.Reduction.{upward}
 use Rattle.kera_reducer.proofs.Counting.{upward_more}
 use Rattle.kera_reducer.proofs.nodes.upward.Goals as goal
 
