@@ -9,6 +9,7 @@ use crate::extending_cases::EXTENDING;
 use crate::further_cases::FURTHER;
 use crate::generated_cases::GENERATED;
 use crate::instances_cases::INSTANCES;
+use crate::lines::line_of;
 use crate::names_cases::NAMES;
 use crate::reader::{Case, Part, cases};
 use crate::room_cases::ROOM;
@@ -16,8 +17,8 @@ use crate::showing::put_names;
 use crate::sources_cases::SOURCES;
 use crate::trees::{extent, is_tree};
 use crate::users_cases::USERS;
+use front_end::FrontFault;
 use op_inliner::{InlineFault, PartKind, expand, is_known, job_of};
-use plain_modules::inline_line;
 use std::alloc::{AllocError, Global};
 use std::test::Fail;
 use tla_meaning::{Expr, Flat, Job};
@@ -34,8 +35,8 @@ fn part_kind(word: &str) -> PartKind {
 }
 
 // Whether the line tells this refusal.
-fn tells(alloc: Global, line: &[u8], flat: &Flat, fault: &InlineFault) -> Result<bool, AllocError> {
-    let given = inline_line(alloc, flat.files.as_slice(), fault)?;
+fn tells(alloc: Global, line: &[u8], flat: &Flat, fault: InlineFault) -> Result<bool, AllocError> {
+    let given = line_of(alloc, &flat.files, FrontFault::Inline(fault))?;
     Ok(given.as_slice().strip_suffix(b"\n") == Some(line))
 }
 
@@ -62,10 +63,10 @@ fn is_answer(
     alloc: Global,
     text: &[u8],
     flat: &Flat,
-    answer: &Result<Expr, InlineFault>,
+    answer: Result<Expr, InlineFault>,
 ) -> Result<bool, AllocError> {
     match answer {
-        Ok(tree) => is_told(alloc, text, flat, tree),
+        Ok(tree) => is_told(alloc, text, flat, &tree),
         Err(fault) => tells(alloc, text, flat, fault),
     }
 }
@@ -76,7 +77,7 @@ fn expands_so(alloc: Global, part: &Part, flat: &Flat) -> Result<bool, AllocErro
         return Ok(false);
     }
     let answer = expand(alloc, flat, name, part_kind(kind));
-    is_answer(alloc, trimmed(&part.body), flat, &answer)
+    is_answer(alloc, trimmed(&part.body), flat, answer)
 }
 
 // ---- jobs
@@ -147,10 +148,10 @@ fn is_made(
     alloc: Global,
     text: &[u8],
     flat: &Flat,
-    answer: &Result<Job, InlineFault>,
+    answer: Result<Job, InlineFault>,
 ) -> Result<bool, AllocError> {
     match answer {
-        Ok(job) => is_job(alloc, text, flat, job),
+        Ok(job) => is_job(alloc, text, flat, &job),
         Err(fault) => tells(alloc, text, flat, fault),
     }
 }
@@ -175,7 +176,7 @@ fn makes_so(alloc: Global, part: &Part, flat: &Flat) -> Result<bool, AllocError>
         return Ok(false);
     }
     let answer = job_of(alloc, flat, init, next, cinit, &invariants);
-    is_made(alloc, trimmed(&part.body), flat, &answer)
+    is_made(alloc, trimmed(&part.body), flat, answer)
 }
 
 // ---- sets

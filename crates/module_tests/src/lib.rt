@@ -18,6 +18,8 @@ mod generated_cases;
 #[cfg(test)]
 mod instances_cases;
 #[cfg(test)]
+mod lines;
+#[cfg(test)]
 mod names_cases;
 #[cfg(test)]
 mod reader;

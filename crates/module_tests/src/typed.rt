@@ -5,12 +5,13 @@
 //                      `x: T` for each declared name in the order of their numbers, or the line that tells the refusal
 use crate::badly_typed_cases::BADLY_TYPED;
 use crate::expanding::{flat_of, invariants_of, trimmed};
+use crate::lines::line_of;
 use crate::reader::{Case, Part, cases};
 use crate::showing::put_words;
 use crate::typed_cases::TYPED;
 use crate::users_cases::USERS;
+use front_end::FrontFault;
 use op_inliner::{is_known, job_of};
-use plain_modules::{inline_line, type_line};
 use snowcat_rows::{Typed, show_type};
 use snowcat_types::{is_typable, typing};
 use std::alloc::{AllocError, Global};
@@ -41,7 +42,7 @@ fn put_job(alloc: Global, job: &Job, out: &mut Vec<u8>) -> Result<(), AllocError
     match typing(alloc, job) {
         Ok(typed) => put_types(alloc, job.names.as_slice(), &typed, out),
         Err(fault) => {
-            let line = type_line(alloc, job.files.as_slice(), &fault)?;
+            let line = line_of(alloc, &job.files, FrontFault::Type(fault))?;
             out.extend_from_slice(&line)
         }
     }
@@ -66,7 +67,7 @@ fn put_answer(
     match job_of(alloc, flat, init, next, cinit, &invariants) {
         Ok(job) => put_job(alloc, &job, out),
         Err(fault) => {
-            let line = inline_line(alloc, flat.files.as_slice(), &fault)?;
+            let line = line_of(alloc, &flat.files, FrontFault::Inline(fault))?;
             out.extend_from_slice(&line)
         }
     }

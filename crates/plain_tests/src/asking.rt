@@ -5,37 +5,80 @@ ghost use Rattle.std.specs.Prelude.{◌≤◌, length, IfSome};
 
 use crate::cases::{BADLY_TYPED, MODULES, NOT_PLAIN, PLAIN, WITHOUT_JOB};
 use crate::showing::put_plain;
-use plain_modules::{Source, inline_line, module_line, read_job, type_line};
+use front_end::{FrontFault, Refusal, refusal_text};
+use op_inliner::{is_known, job_of};
+use plain_jobs::plain_of;
+use snowcat_rows::Typed;
+use snowcat_types::{is_typable, typing};
 use std::alloc::{AllocError, Global};
 use std::test::Fail;
-use tla_values::List;
+use tla_meaning::{Flat, Job};
+use tla_modules::{ModuleRefusal, resolve};
+use tla_values::{List, Text};
 use tool_outside::MemoryFiles;
 
-// What the text of the module in this file makes.
-fn source_of(alloc: Global, name: &str, text: &[u8]) -> Result<Source, AllocError> {
+// What the text of the module in this file says, or why it makes no job.
+fn shown(alloc: Global, name: &str, text: &[u8]) -> Result<Vec<u8>, AllocError> {
     let mut files = MemoryFiles::new(alloc, List::new(alloc));
     files.put(name, text)?;
-    read_job(alloc, name, &mut files)
-}
-
-// What it says, or why it makes no job.
-fn said(alloc: Global, source: &Source) -> Result<Vec<u8>, AllocError> {
-    match source {
-        Source::Said(_, plain) => {
-            let mut out = Vec::new(alloc);
-            put_plain(&mut out, plain)?;
-            Ok(out)
-        }
-        Source::NotBuilt => Vec::from_slice(alloc, b"not plain"),
-        Source::Unjoined(refusal) => told(alloc, &module_line(alloc, refusal)?),
-        Source::Unmade(files, fault) => told(alloc, &inline_line(alloc, files.as_slice(), fault)?),
-        Source::Untyped(files, fault) => told(alloc, &type_line(alloc, files.as_slice(), fault)?),
+    match resolve(alloc, name, &mut files) {
+        Ok(flat) => of_flat(alloc, flat),
+        Err(ModuleRefusal { files, fault }) => refused(alloc, files, FrontFault::Module(fault)),
     }
 }
 
-fn shown(alloc: Global, name: &str, text: &[u8]) -> Result<Vec<u8>, AllocError> {
-    let source = source_of(alloc, name, text)?;
-    said(alloc, &source)
+fn of_flat(alloc: Global, flat: Flat) -> Result<Vec<u8>, AllocError> {
+    if !is_known(alloc, &flat)? {
+        return Vec::from_slice(alloc, b"not known");
+    }
+    let invariants = one_name(alloc, b"Inv")?;
+    match job_of(alloc, &flat, "Init", "Next", None, &invariants) {
+        Ok(job) => of_job(alloc, job),
+        Err(fault) => refused(alloc, flat.files, FrontFault::Inline(fault)),
+    }
+}
+
+fn one_name(alloc: Global, name: &[u8]) -> Result<List<Text>, AllocError> {
+    let mut names = Vec::new(alloc);
+    names.push(Text::from_vec(Vec::from_slice(alloc, name)?))?;
+    Ok(List::from_vec(names))
+}
+
+fn of_job(alloc: Global, job: Job) -> Result<Vec<u8>, AllocError> {
+    if !is_typable(alloc, &job)? {
+        return Vec::from_slice(alloc, b"not typable");
+    }
+    match typing(alloc, &job) {
+        Ok(typed) => of_typed(alloc, &job, &typed),
+        Err(fault) => refused(alloc, job.files, FrontFault::Type(fault)),
+    }
+}
+
+fn of_typed(alloc: Global, job: &Job, typed: &Typed) -> Result<Vec<u8>, AllocError> {
+    match plain_of(alloc, job, typed)? {
+        Some(plain) => {
+            let mut out = Vec::new(alloc);
+            put_plain(&mut out, &plain)?;
+            Ok(out)
+        }
+        None => Vec::from_slice(alloc, b"not plain"),
+    }
+}
+
+// The cause of a refusal.
+fn refused(alloc: Global, files: List<Text>, fault: FrontFault) -> Result<Vec<u8>, AllocError> {
+    cause(
+        alloc,
+        &Refusal {
+            files,
+            names: List::new(alloc),
+            fault,
+        },
+    )
+}
+
+fn cause(alloc: Global, refusal: &Refusal) -> Result<Vec<u8>, AllocError> {
+    told(alloc, &refusal_text(alloc, refusal)?)
 }
 
 // The cause that a line tells.

@@ -1,5 +1,5 @@
 -- Why an answer is given.
-use Rattle.std.proofs.Common.{◌≡◌, ℕ, ◌≤◌, inl, inr, false, List, length, Option, Some, None, refl, sym, ◌∙◌, ap, subst, arith}
+use Rattle.std.proofs.Common.{◌≡◌, ◌⊎◌, ℕ, ◌≤◌, inl, inr, Bool, true, false, List, length, Option, Some, None, refl, sym, ◌∙◌, ap, subst, arith}
 use Rattle.std.specs.Prelude.{IfSome}
 use Rattle.tool_outside.specs.Causes.{Holds, HandedOut, IsCut, IsLong}
 use Rattle.tool_outside.specs.Outside.{Folder, Changes, Rose, file_at}
@@ -12,25 +12,27 @@ use Rattle.refutation_checker.specs.declared.answers.Recheck.{Recheck}
 use Rattle.refutation_checker.specs.declared.section.Section.{Section}
 use Rattle.refutation_checker.specs.Certificate.{certificate_text}
 use Rattle.refutation_checker.specs.Rechecking.{IsRechecked, RefutesClosed, WhereAccepted}
-use Rattle.plain_jobs.specs.Plain.{IsPlain}
+use Rattle.front_end.specs.Accepted.{IsAcceptedFor}
+use Rattle.front_end.specs.Refused.{IsRefusal, is_want}
+use Rattle.front_end.specs.declared.fault.FrontFault.{FrontFault}
+use Rattle.front_end.specs.declared.fault.FrontFault.TheVariants as front
+use Rattle.front_end.specs.declared.fault.Refusal.{Refusal}
+use Rattle.front_end.specs.declared.request.Accepted.{Accepted as Module}
+use Rattle.front_end.specs.declared.request.Request.{Request}
+use Rattle.plain_jobs.specs.Plain.{IsPlain, IsPlainBy}
 use Rattle.plain_jobs.specs.declared.plain.Plain.{Plain}
+use Rattle.tla_meaning.specs.declared.expr.Decl.{Decl}
 use Rattle.tla_meaning.specs.declared.job.Job.{Job}
 use Rattle.trace_text.specs.declared.verdict.Verdict.{Verdict}
 use Rattle.symbolic_mc.specs.declared.answer.Answer.{Answer}
-use Rattle.symbolic_mc.specs.declared.answer.Answer.TheVariants.{Unjoined, Unmade, Untyped, NotBuilt, WriteFault, Checked, NoCertificate, Rechecked}
-use Rattle.plain_modules.specs.Jobs.{IsOnlyPlainJob, IsSource, IsTypedPlain, IsUnjoined, is_want}
-use Rattle.plain_modules.specs.declared.reading.Source.TheVariants as source
+use Rattle.symbolic_mc.specs.declared.answer.Answer.TheVariants.{Refused, NotBuilt, WriteFault, Checked, NoCertificate, Rechecked}
 use Rattle.symbolic_mc.specs.Naming.{certificate_name}
-use Rattle.symbolic_mc.specs.Top.{Checks, IsAnswer, ReadFailed, IsTooLong, NotJoined, NotMade, NotTyped, NotPlain, WriteFailed, Found, NoFile, Reread, Saves, SavesPart, Touches, certificate_limit}
-use Rattle.op_inliner.specs.declared.parts.InlineFault.{InlineFault}
-use Rattle.snowcat_types.specs.declared.faults.TypeFault.{TypeFault}
-use Rattle.tla_modules.specs.Refusals.{IsCounted}
-use Rattle.tla_modules.specs.declared.fault.ModuleFault.{ModuleFault}
+use Rattle.symbolic_mc.specs.Report.{refusal_status}
+use Rattle.symbolic_mc.specs.Top.{Checks, IsAnswer, IsPlainModule, ReadFailed, IsTooLong, NotAccepted, NotPlain, WriteFailed, Found, NoFile, Reread, Saves, SavesPart, Touches, asked_of, certificate_limit}
 use Rattle.tla_modules.specs.declared.fault.ModuleFault.TheVariants as modules
-use Rattle.tla_modules.specs.declared.fault.ModuleRefusal.{ModuleRefusal}
 use Rattle.symbolic_mc.specs.Verdicts.{IsChecked}
 use Rattle.symbolic_mc.specs.Words.{Command}
-use Rattle.symbolic_mc.specs.inner.Told.{IsCalm, IsJobRead, IsReadFault, requests}
+use Rattle.symbolic_mc.specs.inner.Told.{IsCalm, IsReadFault, requests}
 
 -- ---- the bytes that were handed out
 
@@ -71,56 +73,68 @@ no_certificate cert old new before now none stay = NoFile cert refl none stay
 -- ---- modules
 
 module _ (file : List ℕ) (longest : ℕ) (budget : Option ℕ) (again : Option (List ℕ)) (old new : Option Folder) (before now : ℕ) (stay : new ≡ old) where
-  pub not_joined : (refusal : ModuleRefusal) → IsSource old before now file (source.Unjoined refusal)
-      → IsAnswer (requests file longest budget again) old new before now (Unjoined refusal)
-  not_joined refusal unjoined = NotJoined file longest budget refusal refl unjoined stay
+  pub not_accepted : (r : Refusal) (answer : Answer) → answer ≡ Refused r → IsRefusal old before now (asked_of file longest) r.files r.names r.fault
+      → is_want r.fault ≡ false → IsAnswer (requests file longest budget again) old new before now answer
+  not_accepted r answer is refused want =
+      subst (IsAnswer (requests file longest budget again) old new before now) (sym is) (NotAccepted file longest budget r refl refused want stay)
 
-  pub not_made : (files : List (List ℕ)) (fault : InlineFault) → IsSource old before now file (source.Unmade files fault)
-      → IsAnswer (requests file longest budget again) old new before now (Unmade files fault)
-  not_made files fault unmade = NotMade file longest budget files fault refl unmade.0 stay
-
-  pub not_typed : (files : List (List ℕ)) (fault : TypeFault) → IsSource old before now file (source.Untyped files fault)
-      → IsAnswer (requests file longest budget again) old new before now (Untyped files fault)
-  not_typed files fault untyped = NotTyped file longest budget files fault refl untyped.0 stay
-
-  pub not_plain : IsSource old before now file source.NotBuilt → IsAnswer (requests file longest budget again) old new before now NotBuilt
-  not_plain not = NotPlain file longest budget refl not.0 stay
-
-counted_calm : (before now : ℕ) (files : List (List ℕ)) (fault : ModuleFault) → IsCounted before now fault → is_want fault ≡ false
-    → IsCalm before now (Unjoined (record { files = files; fault = fault }))
-counted_calm before now files (modules.Read file) counted want = inr (inl refl)
-counted_calm before now files (modules.TooLong file) counted want = inr (inl refl)
-counted_calm before now files (modules.Memory e) counted want = absurd (true≢false want)
-counted_calm before now files fault counted want = inl counted
+  pub not_plain : (m : Module) → IsAcceptedFor old (asked_of file longest) m → ((says : Plain) → IsPlainBy m.job m.typed says → ⊥)
+      → IsAnswer (requests file longest budget again) old new before now NotBuilt
+  not_plain m accepted none = NotPlain file longest budget m refl accepted none stay
 
 -- the count of the files' faults rises with a failed read alone
-pub unjoined_calm : (held : Option Folder) (before now : ℕ) (file : List ℕ) (refusal : ModuleRefusal) → IsUnjoined held before now file refusal
-    → IsCalm before now (Unjoined refusal)
-unjoined_calm held before now file refusal unjoined = counted_calm before now refusal.files refusal.fault unjoined.counted unjoined.no_want
+refused_calm : (held : Option Folder) (before now : ℕ) (asked : Request) (files : List (List ℕ)) (names : List Decl) (f : FrontFault)
+    → IsRefusal held before now asked files names f → is_want f ≡ false → (now ≡ before) ⊎ (refusal_status f ≡ 40)
+refused_calm held before now asked files names (front.Module (modules.Read file)) h want = inr refl
+refused_calm held before now asked files names (front.Module (modules.TooLong file)) h want = inr refl
+refused_calm held before now asked files names (front.Module (modules.Missing x)) h want = inl h.0.counted
+refused_calm held before now asked files names (front.Module (modules.NameDiffers x y)) h want = inl h.0.counted
+refused_calm held before now asked files names (front.Module (modules.Cycle xs)) h want = inl h.0.counted
+refused_calm held before now asked files names (front.Module modules.TooMany) h want = inl h.0.counted
+refused_calm held before now asked files names (front.Module (modules.Unknown x p)) h want = inl h.0.counted
+refused_calm held before now asked files names (front.Module (modules.Twice x p q)) h want = inl h.0.counted
+refused_calm held before now asked files names (front.Module (modules.Arity p m n)) h want = inl h.0.counted
+refused_calm held before now asked files names (front.Module (modules.Lex e)) h want = inl h.0.counted
+refused_calm held before now asked files names (front.Module (modules.Parse e)) h want = inl h.0.counted
+refused_calm held before now asked files names (front.Module (modules.Memory e)) h want = absurd (let d = h.0.no_want in cc)
+refused_calm held before now asked files names front.UseUnknown h want = inl h.1.2
+refused_calm held before now asked files names (front.Inline f) h want = inl h.1.2
+refused_calm held before now asked files names front.NameUnbound h want = inl h.1.2
+refused_calm held before now asked files names (front.«Type» f) h want = inl h.1.2
+refused_calm held before now asked files names (front.Ker f) h want = inl h.1.2
+refused_calm held before now asked files names (front.Split f) h want = inl h.1.2
+refused_calm held before now asked files names (front.Assign f) h want = inl h.1.2
+refused_calm held before now asked files names (front.Shape f) h want = inl h.1.2
+refused_calm held before now asked files names (front.Memory e) h want = absurd (true≢false want)
 
--- the job was read where no fault was counted and no file changed
-pub job_read : (old held : Option Folder) (file : List ℕ) (job : Job) (m : Plain) → held ≡ old → IsOnlyPlainJob old file job → IsTypedPlain job m
-    → IsJobRead held file job m
-job_read old held file job m stay form plain =
-    record { form = subst (λ (h : Option Folder). IsOnlyPlainJob h file job) (sym stay) form; plain = plain.plain.plain }
+pub calm_refusal : (held : Option Folder) (before now : ℕ) (asked : Request) (r : Refusal) (answer : Answer) → answer ≡ Refused r
+    → IsRefusal held before now asked r.files r.names r.fault → is_want r.fault ≡ false → IsCalm before now answer
+calm_refusal held before now asked r answer is h want =
+    let P : Answer → Type 0 = λ a. IsCalm before now a in
+    subst P (sym is) (either (refused_calm held before now asked r.files r.names r.fault h want))
+  where
+    either : (now ≡ before) ⊎ (refusal_status r.fault ≡ 40) → IsCalm before now (Refused r)
+    either (inl e) = inl e
+    either (inr e) = inr (inl e)
 
 -- ---- a module that was checked
 
-module _ (m : Plain) (file : List ℕ) (job : Job) (longest : ℕ) (budget : Option ℕ) (again : Option (List ℕ)) (old new : Option Folder) (before now : ℕ) (verdict : Verdict) (sections : List Section) (read : IsJobRead old file job m) (checked : (x : Job) → IsPlain x m → IsChecked x longest budget verdict sections) where
+module _ (m : Plain) (file : List ℕ) (of : Module) (longest : ℕ) (budget : Option ℕ) (again : Option (List ℕ)) (old new : Option Folder) (before now : ℕ) (verdict : Verdict) (sections : List Section) (read : IsPlainModule old file longest of m) (checked : (x : Job) → IsPlain x m → IsChecked x longest budget verdict sections) where
   abbrev checks : Checks (requests file longest budget again) old verdict sections
   checks = record {
     file = file;
     longest = longest;
     budget = budget;
     asked = refl;
-    job = job;
-    form = read.form;
-    checked = checked job read.plain;
+    of = of;
+    says = m;
+    form = read;
+    checked = checked of.job read.is_plain.plain;
   }
 
   pub found_answer : (name : List ℕ) (seen : List Section) → name ≡ certificate_name file → seen ≡ sections
       → Changes old new name (λ _ is. is ≡ Some (certificate_text seen))
-      → IsAnswer (requests file longest budget again) old new before now (Checked job.names job.files verdict)
+      → IsAnswer (requests file longest budget again) old new before now (Checked of.job.names of.job.files verdict)
   found_answer name seen name_is seen_is saved =
       let here : Saves file sections old new =
       subst (λ (x : List ℕ). Changes old new x (λ _ is. is ≡ Some (certificate_text sections))) name_is

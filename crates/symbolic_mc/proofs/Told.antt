@@ -6,18 +6,29 @@ use Rattle.refutation_checker.specs.declared.answers.Recheck.TheVariants.{Accept
 use Rattle.tool_outside.specs.Causes.{IsLong, WritesPrefix, Stayed}
 use Rattle.tool_outside.specs.Outside.{Folder, Rose, file_at}
 use Rattle.tool_outside.proofs.Prefixes.{all_of}
+use Rattle.tla_meaning.specs.declared.expr.Decl.{Decl}
 use Rattle.tla_meaning.specs.declared.job.Job.{Job}
-use Rattle.plain_modules.specs.Jobs.{IsPlainJob, is_want}
+use Rattle.front_end.proofs.Apart.{not_refused, one_accepted_job}
+use Rattle.front_end.proofs.OneKernel.{same_numbers}
+use Rattle.front_end.specs.Accepted.{IsAcceptedFor}
+use Rattle.front_end.specs.Refused.{IsPassing, IsRefusal, is_want}
+use Rattle.front_end.specs.declared.fault.FrontFault.{FrontFault}
+use Rattle.front_end.specs.declared.fault.FrontFault.TheVariants as front
+use Rattle.front_end.specs.declared.fault.Refusal.{Refusal}
+use Rattle.front_end.specs.declared.request.Accepted.{Accepted as Module}
+use Rattle.front_end.specs.declared.request.Request.{Request as Asked}
+use Rattle.plain_jobs.specs.Plain.{IsPlainBy}
+use Rattle.plain_jobs.specs.declared.plain.Plain.{Plain}
+use Rattle.plain_jobs.proofs.EachTyping.{each_typing}
+use Rattle.snowcat_types.specs.Answers.{IsTypedAs}
 use Rattle.tla_modules.specs.Answers as joined
-use Rattle.tla_modules.specs.Refusals.{IsCounted, IsOutside}
-use Rattle.tla_modules.specs.declared.fault.ModuleFault.{ModuleFault}
 use Rattle.tla_modules.specs.declared.fault.ModuleFault.TheVariants as modules
 use Rattle.trace_text.specs.declared.verdict.Verdict.{Verdict}
 use Rattle.trace_text.specs.declared.verdict.Verdict.TheVariants.{Clean, Inductive, Error, Overflow, Spent, NotInductive}
 use Rattle.trace_text.specs.declared.verdict.Where.TheVariants.{Level, Typed}
 use Rattle.symbolic_mc.specs.declared.answer.Answer.{Answer}
-use Rattle.symbolic_mc.specs.Report.{status_of, unjoined_status, verdict_status, report_of, memory_line}
-use Rattle.symbolic_mc.specs.Top.{IsAnswer, NoCommand, NotJoined, NotMade, NotTyped, NotPlain, WriteFailed, Found, ReadFailed, IsTooLong, NoFile, Reread, AsksForPlainJob, AsksToRecheck, IsStatus, IsVerdictStatus, IsCutStatus, Tells, TellsPart, WritesError, WritesClean, WritesSpent, WritesAccepted, certificate_limit}
+use Rattle.symbolic_mc.specs.Report.{status_of, refusal_status, verdict_status, report_of, memory_line}
+use Rattle.symbolic_mc.specs.Top.{IsAnswer, NoCommand, NotAccepted, NotPlain, WriteFailed, Found, ReadFailed, IsTooLong, NoFile, Reread, AsksForPlainJob, AsksToRecheck, IsStatus, IsVerdictStatus, IsCutStatus, Tells, TellsPart, WritesError, WritesClean, WritesSpent, WritesAccepted, asked_of, certificate_limit}
 use Rattle.symbolic_mc.specs.Verdicts.{IsVerdict}
 use Rattle.symbolic_mc.specs.Words.{Command, Request}
 use Rattle.std.proofs.lemmas.Bool.{true≢false}
@@ -39,17 +50,17 @@ found_status job longest budget Inductive is = absurd is
 found_status job longest budget (Overflow w part place trace) is = absurd is
 found_status job longest budget (NotInductive fault trace) is = absurd is
 
-unjoined_either : (fault : ModuleFault) → (unjoined_status fault ≡ 30) ⊎ (unjoined_status fault ≡ 40)
-unjoined_either (modules.Read file) = inr refl
-unjoined_either (modules.TooLong file) = inr refl
-unjoined_either fault = inl refl
+refusal_either : (fault : FrontFault) → (refusal_status fault ≡ 30) ⊎ (refusal_status fault ≡ 40)
+refusal_either (front.Module (modules.Read file)) = inr refl
+refusal_either (front.Module (modules.TooLong file)) = inr refl
+refusal_either fault = inl refl
 
-unjoined_answer : (status : ℕ) → (status ≡ 30) ⊎ (status ≡ 40) → IsStatus status × (status ≤ 41)
-unjoined_answer status (inl refused) = (inr (inr (inl refused)), omega arith)
-unjoined_answer status (inr unread) = (inr (inr (inr (inr (inl unread)))), omega arith)
+refusal_answer : (status : ℕ) → (status ≡ 30) ⊎ (status ≡ 40) → IsStatus status × (status ≤ 41)
+refusal_answer status (inl refused) = (inr (inr (inl refused)), omega arith)
+refusal_answer status (inr unread) = (inr (inr (inr (inr (inl unread)))), omega arith)
 
-unjoined_not : (fault : ModuleFault) (status : ℕ) → unjoined_status fault ≡ status → (status ≡ 30 → ⊥) → (status ≡ 40 → ⊥) → ⊥
-unjoined_not fault status is not_refused not_unread = elim (unjoined_either fault) [
+refusal_not : (fault : FrontFault) (status : ℕ) → refusal_status fault ≡ status → (status ≡ 30 → ⊥) → (status ≡ 40 → ⊥) → ⊥
+refusal_not fault status is not_refused not_unread = elim (refusal_either fault) [
   | inl refused ↦ not_refused (sym is ∙ refused)
   | inr unread ↦ not_unread (sym is ∙ unread)
 ]
@@ -60,13 +71,11 @@ pub answer_status : (c : Command) (old new : Option Folder) (before now : ℕ) (
 answer_status c old new before now _ (NoCommand none again stay) = (inr (inr (inr (inl refl))), omega arith)
 answer_status c old new before now _ (ReadFailed cert asked rose stay) = (inr (inr (inr (inr (inl refl)))), omega arith)
 answer_status c old new before now _ (IsTooLong cert asked long stay) = (inr (inr (inr (inr (inl refl)))), omega arith)
-answer_status c old new before now _ (NotJoined file longest budget refusal asked unjoined stay) = unjoined_answer (unjoined_status refusal.fault) (unjoined_either refusal.fault)
-answer_status c old new before now _ (NotMade file longest budget files fault asked unmade stay) = (inr (inr (inl refl)), omega arith)
-answer_status c old new before now _ (NotTyped file longest budget files fault asked untyped stay) = (inr (inr (inl refl)), omega arith)
-answer_status c old new before now _ (NotPlain file longest budget asked not stay) = (inr (inr (inl refl)), omega arith)
+answer_status c old new before now _ (NotAccepted file longest budget r asked refused want stay) = refusal_answer (refusal_status r.fault) (refusal_either r.fault)
+answer_status c old new before now _ (NotPlain file longest budget m asked accepted nothing stay) = (inr (inr (inl refl)), omega arith)
 answer_status c old new before now _ (WriteFailed verdict sections k rose saved) = (inr (inr (inr (inr (inr (inl refl))))), omega arith)
 answer_status c old new before now _ (Found verdict sections k saved) =
-    let of = found_status k.job k.longest k.budget verdict k.checked.verdict_is in
+    let of = found_status k.of.job k.longest k.budget verdict k.checked.verdict_is in
     (inl of.0, omega (arith, of.1))
 answer_status c old new before now _ (NoFile cert asked none stay) = (inr (inl refl), omega arith)
 answer_status c old new before now _ (Reread cert bytes (Accepted r o) asked handed is refutes stay) = (inl (inl refl), omega arith)
@@ -98,47 +107,61 @@ too_long_not held folder file limit told short long =
 
 -- ---- an answer to modules that make a job, and of a certificate
 
--- such modules are refused for a failed read alone
-outside_not : (before now : ℕ) (fault : ModuleFault) → IsCounted before now fault → is_want fault ≡ false → IsOutside fault → Stayed before now → ⊥
-outside_not before now (modules.Read file) counted want out stayed = let rose = counted.0 in omega arith
-outside_not before now (modules.Memory e) counted want out stayed = true≢false want
-outside_not before now fault counted want out stayed = out
+-- a cause that may come besides the one answer is want of memory, or a read that failed
+passing_not : (held : Option Folder) (before now : ℕ) (asked : Asked) (files : List (List ℕ)) (names : List Decl) (f : FrontFault)
+    → IsRefusal held before now asked files names f → is_want f ≡ false → IsPassing f → Stayed before now → ⊥
+passing_not held before now asked files names (front.Module (modules.Read file)) h want out stayed = let rose = h.0.counted.0 in omega arith
+passing_not held before now asked files names (front.Module (modules.Memory e)) h want out stayed = absurd (let d = h.0.no_want in cc)
+passing_not held before now asked files names (front.Module f) h want out stayed = out
+passing_not held before now asked files names (front.Memory e) h want out stayed = true≢false want
+passing_not held before now asked files names f h want out stayed = out
 
--- the job that the modules of the file make, where the command names it
-job_made : (c : Command) (old : Option Folder) (file : List ℕ) (longest : ℕ) (budget : Option ℕ) → c.0 ≡ Some (file, longest, budget)
-    → (form : AsksForPlainJob c old) → IsPlainJob old file form.job
-job_made c old file longest budget asked form =
-    subst (λ (x : List ℕ). IsPlainJob old x form.job) (sym (same_file c _ _ _ _ _ _ asked form.asked)) form.form
+-- what the command asks of the file that it names
+one_request : (c : Command) (file other : List ℕ) (n m : ℕ) (b d : Option ℕ) → c.0 ≡ Some (file, n, b) → c.0 ≡ Some (other, m, d)
+    → asked_of other m ≡ asked_of file n
+one_request c file other n m b d asked again = ap (λ (r : Request). asked_of r.0 r.1) (the_same (other, m, d) (file, n, b) (sym again ∙ asked))
 
 is_told : (c : Command) (old : Option Folder) (form : AsksForPlainJob c old) → joined.IsTold old
 is_told c old form = (form.folder, form.told)
 
+-- modules that are accepted and checked so far are not refused, and are found to be checked so far
+module _ (c : Command) (old : Option Folder) (form : AsksForPlainJob c old) (file : List ℕ) (longest : ℕ) (budget : Option ℕ)
+    (asked : c.0 ≡ Some (file, longest, budget)) where
+  accepted_too : IsAcceptedFor old (asked_of file longest) form.of
+  accepted_too = subst (λ (r : Asked). IsAcceptedFor old r form.of) (one_request c _ _ _ _ _ _ asked form.asked) form.form.accepted
+
+  refused_not : (before now : ℕ) (r : Refusal) → IsRefusal old before now (asked_of file longest) r.files r.names r.fault → is_want r.fault ≡ false
+      → Stayed before now → ⊥
+  refused_not before now r refused want stayed =
+      passing_not old before now (asked_of file longest) r.files r.names r.fault refused want
+      (not_refused same_numbers old (asked_of file longest) (omega arith) form.of accepted_too before now r.files r.names r.fault (is_told c old form) refused) stayed
+
+  plain_too : (m : Module) → IsAcceptedFor old (asked_of file longest) m → ((says : Plain) → IsPlainBy m.job m.typed says → ⊥) → ⊥
+  plain_too m accepted none =
+      let e : form.of.job ≡ m.job = one_accepted_job old (asked_of file longest) form.of m (is_told c old form) accepted_too accepted in
+      let typed : IsTypedAs m.job form.of.typed = subst (λ (j : Job). IsTypedAs j form.of.typed) e form.form.accepted.whole.typed.types in
+      let plain : IsPlainBy m.job form.of.typed form.says = subst (λ (j : Job). IsPlainBy j form.of.typed form.says) e form.form.is_plain in
+      none form.says (each_typing m.job form.of.typed m.typed form.says typed accepted.whole.typed.types plain)
+
 form_answer : (c : Command) (old new : Option Folder) (before now : ℕ) (answer : Answer) → AreApart c → AsksForPlainJob c old → Stayed before now
     → IsAnswer c old new before now answer → IsVerdictStatus (status_of answer)
 form_answer c old new before now _ apart form stayed (NoCommand none again stay) = absurd (none_some (sym none ∙ form.asked))
-form_answer c old new before now _ apart form stayed (NotJoined file longest budget refusal asked unjoined stay) =
-    absurd (outside_not before now refusal.fault unjoined.counted unjoined.no_want
-    (unjoined.apart (is_told c old form) form.job (job_made c old file longest budget asked form)) stayed)
-form_answer c old new before now _ apart form stayed (NotMade file longest budget files fault asked unmade stay) =
-    absurd (unmade.none (is_told c old form) form.job (job_made c old file longest budget asked form))
-form_answer c old new before now _ apart form stayed (NotTyped file longest budget files fault asked untyped stay) =
-    absurd (untyped.none (is_told c old form) form.job (job_made c old file longest budget asked form))
-form_answer c old new before now _ apart form stayed (NotPlain file longest budget asked not stay) =
-    absurd (not.none (is_told c old form) form.job (job_made c old file longest budget asked form))
+form_answer c old new before now _ apart form stayed (NotAccepted file longest budget r asked refused want stay) =
+    absurd (refused_not c old form file longest budget asked before now r refused want stayed)
+form_answer c old new before now _ apart form stayed (NotPlain file longest budget m asked accepted nothing stay) =
+    absurd (plain_too c old form file longest budget asked m accepted nothing)
 form_answer c old new before now _ apart form stayed (ReadFailed cert asked rose stay) = absurd (apart _ _ form.asked asked)
 form_answer c old new before now _ apart form stayed (IsTooLong cert asked long stay) = absurd (apart _ _ form.asked asked)
 form_answer c old new before now _ apart form stayed (WriteFailed verdict sections k rose saved) = absurd (omega arith)
-form_answer c old new before now _ apart form stayed (Found verdict sections k saved) = (found_status k.job k.longest k.budget verdict k.checked.verdict_is).0
+form_answer c old new before now _ apart form stayed (Found verdict sections k saved) = (found_status k.of.job k.longest k.budget verdict k.checked.verdict_is).0
 form_answer c old new before now _ apart form stayed (NoFile cert asked none stay) = absurd (apart _ _ form.asked asked)
 form_answer c old new before now _ apart form stayed (Reread cert bytes answer asked handed is refutes stay) = absurd (apart _ _ form.asked asked)
 
 cert_answer : (c : Command) (old new : Option Folder) (before now : ℕ) (answer : Answer) → AreApart c → AsksToRecheck c old → Stayed before now
     → IsAnswer c old new before now answer → (status_of answer ≡ 0) ⊎ (status_of answer ≡ 14)
 cert_answer c old new before now _ apart form stayed (NoCommand none again stay) = absurd (none_some (sym again ∙ form.asked))
-cert_answer c old new before now _ apart form stayed (NotJoined file longest budget refusal asked unjoined stay) = absurd (apart _ _ asked form.asked)
-cert_answer c old new before now _ apart form stayed (NotMade file longest budget files fault asked unmade stay) = absurd (apart _ _ asked form.asked)
-cert_answer c old new before now _ apart form stayed (NotTyped file longest budget files fault asked untyped stay) = absurd (apart _ _ asked form.asked)
-cert_answer c old new before now _ apart form stayed (NotPlain file longest budget asked not stay) = absurd (apart _ _ asked form.asked)
+cert_answer c old new before now _ apart form stayed (NotAccepted file longest budget r asked refused want stay) = absurd (apart _ _ asked form.asked)
+cert_answer c old new before now _ apart form stayed (NotPlain file longest budget m asked accepted nothing stay) = absurd (apart _ _ asked form.asked)
 cert_answer c old new before now _ apart form stayed (ReadFailed cert asked rose stay) = absurd (omega arith)
 cert_answer c old new before now _ apart form stayed (IsTooLong cert asked long stay) =
     let same : cert ≡ form.cert = the_same _ _ (sym asked ∙ form.asked) in
@@ -153,10 +176,8 @@ cert_answer c old new before now _ apart form stayed (Reread cert bytes (BadStep
 
 usage_answer : (c : Command) (old new : Option Folder) (before now : ℕ) (answer : Answer) → c.0 ≡ None → c.1 ≡ None → IsAnswer c old new before now answer → status_of answer ≡ 31
 usage_answer c old new before now _ none again (NoCommand check recheck stay) = refl
-usage_answer c old new before now _ none again (NotJoined file longest budget refusal asked unjoined stay) = absurd (none_some (sym none ∙ asked))
-usage_answer c old new before now _ none again (NotMade file longest budget files fault asked unmade stay) = absurd (none_some (sym none ∙ asked))
-usage_answer c old new before now _ none again (NotTyped file longest budget files fault asked untyped stay) = absurd (none_some (sym none ∙ asked))
-usage_answer c old new before now _ none again (NotPlain file longest budget asked not stay) = absurd (none_some (sym none ∙ asked))
+usage_answer c old new before now _ none again (NotAccepted file longest budget r asked refused want stay) = absurd (none_some (sym none ∙ asked))
+usage_answer c old new before now _ none again (NotPlain file longest budget m asked accepted nothing stay) = absurd (none_some (sym none ∙ asked))
 usage_answer c old new before now _ none again (ReadFailed cert asked rose stay) = absurd (none_some (sym again ∙ asked))
 usage_answer c old new before now _ none again (IsTooLong cert asked long stay) = absurd (none_some (sym again ∙ asked))
 usage_answer c old new before now _ none again (WriteFailed verdict sections k rose saved) = absurd (none_some (sym none ∙ k.asked))
@@ -171,11 +192,9 @@ error_answer : (c : Command) (old new : Option Folder) (before now : ℕ) (was i
 error_answer c old new before now was is _ coded added (NoCommand none again stay) = absurd (omega arith)
 error_answer c old new before now was is _ coded added (ReadFailed cert asked rose stay) = absurd (omega arith)
 error_answer c old new before now was is _ coded added (IsTooLong cert asked long stay) = absurd (omega arith)
-error_answer c old new before now was is _ coded added (NotJoined file longest budget refusal asked unjoined stay) =
-    absurd (unjoined_not refusal.fault 12 coded (λ e. omega (e, arith)) (λ e. omega (e, arith)))
-error_answer c old new before now was is _ coded added (NotMade file longest budget files fault asked unmade stay) = absurd (omega arith)
-error_answer c old new before now was is _ coded added (NotTyped file longest budget files fault asked untyped stay) = absurd (omega arith)
-error_answer c old new before now was is _ coded added (NotPlain file longest budget asked not stay) = absurd (omega arith)
+error_answer c old new before now was is _ coded added (NotAccepted file longest budget r asked refused want stay) =
+    absurd (refusal_not r.fault 12 coded (λ e. omega (e, arith)) (λ e. omega (e, arith)))
+error_answer c old new before now was is _ coded added (NotPlain file longest budget m asked accepted nothing stay) = absurd (omega arith)
 error_answer c old new before now was is _ coded added (WriteFailed verdict sections k rose saved) = absurd (omega arith)
 error_answer c old new before now was is _ coded added (Found (Error n fault trace) sections k saved) =
     record { level = n; fault = fault; trace = trace; sections = sections; checks = k; saved = saved; written = added }
@@ -194,11 +213,9 @@ clean_answer : (c : Command) (old new : Option Folder) (before now : ℕ) (was i
 clean_answer c old new before now was is _ coded added (NoCommand none again stay) = absurd (omega arith)
 clean_answer c old new before now was is _ coded added (ReadFailed cert asked rose stay) = absurd (omega arith)
 clean_answer c old new before now was is _ coded added (IsTooLong cert asked long stay) = absurd (omega arith)
-clean_answer c old new before now was is _ coded added (NotJoined file longest budget refusal asked unjoined stay) =
-    absurd (unjoined_not refusal.fault 0 coded (λ e. omega (e, arith)) (λ e. omega (e, arith)))
-clean_answer c old new before now was is _ coded added (NotMade file longest budget files fault asked unmade stay) = absurd (omega arith)
-clean_answer c old new before now was is _ coded added (NotTyped file longest budget files fault asked untyped stay) = absurd (omega arith)
-clean_answer c old new before now was is _ coded added (NotPlain file longest budget asked not stay) = absurd (omega arith)
+clean_answer c old new before now was is _ coded added (NotAccepted file longest budget r asked refused want stay) =
+    absurd (refusal_not r.fault 0 coded (λ e. omega (e, arith)) (λ e. omega (e, arith)))
+clean_answer c old new before now was is _ coded added (NotPlain file longest budget m asked accepted nothing stay) = absurd (omega arith)
 clean_answer c old new before now was is _ coded added (WriteFailed verdict sections k rose saved) = absurd (omega arith)
 clean_answer c old new before now was is _ coded added (Found (Clean n) sections k saved) =
     inl record { level = n; sections = sections; checks = k; saved = saved; written = added }
@@ -218,11 +235,9 @@ spent_answer : (c : Command) (old new : Option Folder) (before now : ℕ) (was i
 spent_answer c old new before now was is _ coded added (NoCommand none again stay) = absurd (omega arith)
 spent_answer c old new before now was is _ coded added (ReadFailed cert asked rose stay) = absurd (omega arith)
 spent_answer c old new before now was is _ coded added (IsTooLong cert asked long stay) = absurd (omega arith)
-spent_answer c old new before now was is _ coded added (NotJoined file longest budget refusal asked unjoined stay) =
-    absurd (unjoined_not refusal.fault 21 coded (λ e. omega (e, arith)) (λ e. omega (e, arith)))
-spent_answer c old new before now was is _ coded added (NotMade file longest budget files fault asked unmade stay) = absurd (omega arith)
-spent_answer c old new before now was is _ coded added (NotTyped file longest budget files fault asked untyped stay) = absurd (omega arith)
-spent_answer c old new before now was is _ coded added (NotPlain file longest budget asked not stay) = absurd (omega arith)
+spent_answer c old new before now was is _ coded added (NotAccepted file longest budget r asked refused want stay) =
+    absurd (refusal_not r.fault 21 coded (λ e. omega (e, arith)) (λ e. omega (e, arith)))
+spent_answer c old new before now was is _ coded added (NotPlain file longest budget m asked accepted nothing stay) = absurd (omega arith)
 spent_answer c old new before now was is _ coded added (WriteFailed verdict sections k rose saved) = absurd (omega arith)
 spent_answer c old new before now was is _ coded added (Found (Spent n (Level l)) sections k saved) =
     record { conflicts = n; level = l; sections = sections; checks = k; saved = saved; written = added }

@@ -3,14 +3,15 @@ use Rattle.std.specs.Prelude.{ℕ, List, ◌++◌, codes}
 use Rattle.std.specs.Fmt.{decimal}
 use Rattle.refutation_checker.specs.declared.answers.Recheck.{Recheck}
 use Rattle.refutation_checker.specs.declared.answers.Recheck.TheVariants.{Accepted, BadLine, BadStep}
-use Rattle.plain_modules.specs.Refusals.{inline_line, module_line, type_line}
-use Rattle.tla_modules.specs.declared.fault.ModuleFault.{ModuleFault}
+use Rattle.front_end.specs.Lines.{refusal_text}
+use Rattle.front_end.specs.declared.fault.FrontFault.{FrontFault}
+use Rattle.front_end.specs.declared.fault.FrontFault.TheVariants as front
 use Rattle.tla_modules.specs.declared.fault.ModuleFault.TheVariants as modules
 use Rattle.trace_text.specs.Reports as reports
 use Rattle.trace_text.specs.declared.verdict.Verdict.{Verdict}
 use Rattle.trace_text.specs.declared.verdict.Verdict.TheVariants.{Clean, Inductive, Error, Overflow, Spent, NotInductive}
 use Rattle.symbolic_mc.specs.declared.answer.Answer.{Answer}
-use Rattle.symbolic_mc.specs.declared.answer.Answer.TheVariants.{Usage, ReadFault, TooLong, Unjoined, Unmade, Untyped, NotBuilt, WriteFault, Checked, NoCertificate, Rechecked}
+use Rattle.symbolic_mc.specs.declared.answer.Answer.TheVariants.{Usage, ReadFault, TooLong, Refused, NotBuilt, WriteFault, Checked, NoCertificate, Rechecked}
 
 -- ---- statuses
 
@@ -28,19 +29,17 @@ recheck_status (BadLine n) = 14
 recheck_status (BadStep query step) = 14
 
 -- a module that is not read, or is too long, is not refused
-abbrev pub unjoined_status : ModuleFault → ℕ
-unjoined_status (modules.Read file) = 40
-unjoined_status (modules.TooLong file) = 40
-unjoined_status fault = 30
+abbrev pub refusal_status : FrontFault → ℕ
+refusal_status (front.Module (modules.Read file)) = 40
+refusal_status (front.Module (modules.TooLong file)) = 40
+refusal_status fault = 30
 
 abbrev pub status_of : Answer → ℕ
 status_of Usage = 31
 status_of (ReadFault file) = 40
 status_of (TooLong file) = 40
 status_of (WriteFault file) = 41
-status_of (Unjoined refusal) = unjoined_status refusal.fault
-status_of (Unmade files fault) = 30
-status_of (Untyped files fault) = 30
+status_of (Refused refusal) = refusal_status refusal.fault
 status_of NotBuilt = 30
 status_of (Checked names files verdict) = verdict_status verdict
 status_of NoCertificate = 14
@@ -59,9 +58,7 @@ report_of Usage = codes "usage: symbolic_mc check|induct|audit|recheck|ring OPTI
 report_of (ReadFault file) = codes "read fault: " ++ file ++ codes "\n"
 report_of (TooLong file) = codes "file is too long: " ++ file ++ codes "\n"
 report_of (WriteFault file) = codes "write fault: " ++ file ++ codes "\n"
-report_of (Unjoined refusal) = module_line refusal
-report_of (Unmade files fault) = inline_line files fault
-report_of (Untyped files fault) = type_line files fault
+report_of (Refused refusal) = refusal_text refusal
 report_of NotBuilt = codes "refused: form is not built\n"
 report_of (Checked names files verdict) = reports.report_of verdict names files
 report_of NoCertificate = codes "certificate refused: no file\n"

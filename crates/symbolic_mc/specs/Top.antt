@@ -1,5 +1,5 @@
 -- What the top call answers.
-use Rattle.std.specs.Prelude.{◌≡◌, ◌⊎◌, ℕ, ◌≤◌, List, length, Option, None, Some}
+use Rattle.std.specs.Prelude.{◌≡◌, ◌⊎◌, ℕ, ◌≤◌, false, List, [], ◌∷◌, codes, length, Option, None, Some}
 use Rattle.std.specs.Io.KnownBytes.{Appends}
 use Rattle.refutation_checker.specs.declared.answers.Recheck.{Recheck}
 use Rattle.refutation_checker.specs.declared.answers.Recheck.TheVariants.{Accepted}
@@ -8,7 +8,13 @@ use Rattle.refutation_checker.specs.Certificate.{certificate_text}
 use Rattle.refutation_checker.specs.Rechecking.{IsRechecked, RefutesClosed, WhereAccepted}
 use Rattle.tool_outside.specs.Causes.{Holds, IsLong, HandedOut, IsCut, WritesPrefix}
 use Rattle.tool_outside.specs.Outside.{Folder, Changes, Rose, file_at}
-use Rattle.tla_meaning.specs.declared.job.Job.{Job}
+use Rattle.front_end.specs.Accepted.{IsAcceptedFor}
+use Rattle.front_end.specs.Refused.{IsRefusal, is_want}
+use Rattle.front_end.specs.declared.fault.Refusal.{Refusal}
+use Rattle.front_end.specs.declared.request.Accepted.{Accepted as Module}
+use Rattle.front_end.specs.declared.request.Request.{Request}
+use Rattle.plain_jobs.specs.Plain.{IsPlainBy}
+use Rattle.plain_jobs.specs.declared.plain.Plain.{Plain}
 use Rattle.trace_text.specs.Reports as reports
 use Rattle.trace_text.specs.declared.verdict.Fault.{Fault}
 use Rattle.trace_text.specs.declared.verdict.Trace.{Trace}
@@ -16,11 +22,7 @@ use Rattle.trace_text.specs.declared.verdict.Verdict.{Verdict}
 use Rattle.trace_text.specs.declared.verdict.Verdict.TheVariants.{Clean, Error, Spent}
 use Rattle.trace_text.specs.declared.verdict.Where.TheVariants.{Level}
 use Rattle.symbolic_mc.specs.declared.answer.Answer.{Answer}
-use Rattle.symbolic_mc.specs.declared.answer.Answer.TheVariants.{Usage, ReadFault, TooLong, Unjoined, Unmade, Untyped, NotBuilt, WriteFault, Checked, NoCertificate, Rechecked}
-use Rattle.op_inliner.specs.declared.parts.InlineFault.{InlineFault}
-use Rattle.snowcat_types.specs.declared.faults.TypeFault.{TypeFault}
-use Rattle.tla_modules.specs.declared.fault.ModuleRefusal.{ModuleRefusal}
-use Rattle.plain_modules.specs.Jobs.{IsNotPlain, IsOnlyPlainJob, IsPlainJob, IsUnjoined, IsUnmade, IsUntyped}
+use Rattle.symbolic_mc.specs.declared.answer.Answer.TheVariants.{Usage, ReadFault, TooLong, Refused, NotBuilt, WriteFault, Checked, NoCertificate, Rechecked}
 use Rattle.symbolic_mc.specs.Naming.{certificate_name}
 use Rattle.symbolic_mc.specs.Report.{recheck_report, report_of, status_of}
 use Rattle.symbolic_mc.specs.Verdicts.{IsChecked}
@@ -32,15 +34,34 @@ certificate_limit = 268435456
 
 -- ---- a module that was checked
 
--- the command names a file whose modules make a job, and these are the verdict on it and its certificate
+-- what a check asks of a file: the operators Init, Next and Inv of its module, so many steps, and integers of 32 bits
+abbrev pub asked_of : List ℕ → ℕ → Request
+asked_of file longest = record {
+  root = file;
+  init = codes "Init";
+  next = codes "Next";
+  invs = codes "Inv" ∷ [];
+  cinit = None;
+  length = longest;
+  width = 32;
+  bounds = None;
+}
+
+-- the modules of the file are accepted for so many steps, and their job says this, which is checked so far
+pub record IsPlainModule (held : Option Folder) (file : List ℕ) (longest : ℕ) (m : Module) (says : Plain) : Type 0 where
+  pub accepted : IsAcceptedFor held (asked_of file longest) m
+  pub is_plain : IsPlainBy m.job m.typed says
+
+-- the command names a file whose modules are accepted, and these are the verdict on their job and its certificate
 pub record Checks (c : Command) (held : Option Folder) (verdict : Verdict) (sections : List Section) : Type 0 where
   pub file : List ℕ
   pub longest : ℕ
   pub budget : Option ℕ
   pub asked : c.0 ≡ Some (file, longest, budget)
-  pub job : Job
-  pub form : IsOnlyPlainJob held file job
-  pub checked : IsChecked job longest budget verdict sections
+  pub of : Module
+  pub says : Plain
+  pub form : IsPlainModule held file longest of says
+  pub checked : IsChecked of.job longest budget verdict sections
 
 -- the certificate's file holds its text, and every other file is as before
 abbrev pub Saves : List ℕ → List Section → Option Folder → Option Folder → Type 0
@@ -56,24 +77,20 @@ SavesPart file sections old new = Changes old new (certificate_name file) (IsCut
 pub data IsAnswer (c : Command) (old new : Option Folder) (before now : ℕ) : Answer → Type 0 where
   -- there is no command
   NoCommand : c.0 ≡ None → c.1 ≡ None → new ≡ old → IsAnswer c old new before now Usage
-  -- the modules of the file make no flat module
-  NotJoined : (file : List ℕ) (longest : ℕ) (budget : Option ℕ) (refusal : ModuleRefusal) → c.0 ≡ Some (file, longest, budget)
-      → IsUnjoined old before now file refusal → new ≡ old → IsAnswer c old new before now (Unjoined refusal)
-  -- their flat module makes no job
-  NotMade : (file : List ℕ) (longest : ℕ) (budget : Option ℕ) (files : List (List ℕ)) (fault : InlineFault) → c.0 ≡ Some (file, longest, budget)
-      → IsUnmade old file files fault → new ≡ old → IsAnswer c old new before now (Unmade files fault)
-  -- the job that it makes has no typing
-  NotTyped : (file : List ℕ) (longest : ℕ) (budget : Option ℕ) (files : List (List ℕ)) (fault : TypeFault) → c.0 ≡ Some (file, longest, budget)
-      → IsUntyped old file files fault → new ≡ old → IsAnswer c old new before now (Untyped files fault)
-  -- what it makes is in no form that is checked so far
-  NotPlain : (file : List ℕ) (longest : ℕ) (budget : Option ℕ) → c.0 ≡ Some (file, longest, budget)
-      → IsNotPlain old file → new ≡ old → IsAnswer c old new before now NotBuilt
+  -- the modules of the file are refused
+  NotAccepted : (file : List ℕ) (longest : ℕ) (budget : Option ℕ) (r : Refusal) → c.0 ≡ Some (file, longest, budget)
+      → IsRefusal old before now (asked_of file longest) r.files r.names r.fault → is_want r.fault ≡ false → new ≡ old
+      → IsAnswer c old new before now (Refused r)
+  -- they are accepted, and what their job says is not checked so far
+  NotPlain : (file : List ℕ) (longest : ℕ) (budget : Option ℕ) (m : Module) → c.0 ≡ Some (file, longest, budget)
+      → IsAcceptedFor old (asked_of file longest) m → ((says : Plain) → IsPlainBy m.job m.typed says → ⊥) → new ≡ old
+      → IsAnswer c old new before now NotBuilt
   -- the count rose while the certificate was written
   WriteFailed : (verdict : Verdict) (sections : List Section) (k : Checks c old verdict sections) → Rose before now
       → SavesPart k.file sections old new → IsAnswer c old new before now (WriteFault (certificate_name k.file))
   -- the verdict on the module, whose certificate was written
   Found : (verdict : Verdict) (sections : List Section) (k : Checks c old verdict sections)
-      → Saves k.file sections old new → IsAnswer c old new before now (Checked k.job.names k.job.files verdict)
+      → Saves k.file sections old new → IsAnswer c old new before now (Checked k.of.job.names k.of.job.files verdict)
   -- the count rose in the read of the certificate
   ReadFailed : (cert : List ℕ) → c.1 ≡ Some cert → Rose before now → new ≡ old → IsAnswer c old new before now (ReadFault cert)
   -- the certificate is longer than it may be
@@ -102,7 +119,7 @@ pub record TellsPart (c : Command) (old new : Option Folder) (before now : ℕ) 
 
 -- ---- the verdicts of a check
 
--- an error of the module that the command names: its report, by the job that its modules make, and its certificate
+-- an error of the module that the command names: its report, by the job of its modules, and its certificate
 pub record WritesError (c : Command) (old new : Option Folder) (was is : Option (List ℕ)) : Type 0 where
   pub level : ℕ
   pub fault : Fault
@@ -110,7 +127,7 @@ pub record WritesError (c : Command) (old new : Option Folder) (was is : Option 
   pub sections : List Section
   pub checks : Checks c old (Error level fault trace) sections
   pub saved : Saves checks.file sections old new
-  pub written : Appends was is (reports.report_of (Error level fault trace) checks.job.names checks.job.files)
+  pub written : Appends was is (reports.report_of (Error level fault trace) checks.of.job.names checks.of.job.files)
 
 -- no error of it up to a level
 pub record WritesClean (c : Command) (old new : Option Folder) (was is : Option (List ℕ)) : Type 0 where
@@ -118,7 +135,7 @@ pub record WritesClean (c : Command) (old new : Option Folder) (was is : Option 
   pub sections : List Section
   pub checks : Checks c old (Clean level) sections
   pub saved : Saves checks.file sections old new
-  pub written : Appends was is (reports.report_of (Clean level) checks.job.names checks.job.files)
+  pub written : Appends was is (reports.report_of (Clean level) checks.of.job.names checks.of.job.files)
 
 -- the conflicts of the command were spent at a level
 pub record WritesSpent (c : Command) (old new : Option Folder) (was is : Option (List ℕ)) : Type 0 where
@@ -127,7 +144,7 @@ pub record WritesSpent (c : Command) (old new : Option Folder) (was is : Option 
   pub sections : List Section
   pub checks : Checks c old (Spent conflicts (Level level)) sections
   pub saved : Saves checks.file sections old new
-  pub written : Appends was is (reports.report_of (Spent conflicts (Level level)) checks.job.names checks.job.files)
+  pub written : Appends was is (reports.report_of (Spent conflicts (Level level)) checks.of.job.names checks.of.job.files)
 
 -- a certificate that was accepted: no assignment satisfies the formula of a section that is not open
 pub record WritesAccepted (c : Command) (old new : Option Folder) (was is : Option (List ℕ)) : Type 0 where
@@ -151,7 +168,7 @@ Touches c old new =
 
 -- ---- when which status comes
 
--- the command names a file whose modules, as the files are told, make a job in the form that is checked so far
+-- the command names a file whose modules, as the files are told, are accepted and checked so far
 pub record AsksForPlainJob (c : Command) (held : Option Folder) : Type 0 where
   pub folder : Folder
   pub told : held ≡ Some folder
@@ -159,8 +176,9 @@ pub record AsksForPlainJob (c : Command) (held : Option Folder) : Type 0 where
   pub longest : ℕ
   pub budget : Option ℕ
   pub asked : c.0 ≡ Some (file, longest, budget)
-  pub job : Job
-  pub form : IsPlainJob held file job
+  pub of : Module
+  pub says : Plain
+  pub form : IsPlainModule held file longest of says
 
 -- the command asks for a certificate which the files, as they are told, do not hold too long
 pub record AsksToRecheck (c : Command) (held : Option Folder) : Type 0 where

@@ -1,14 +1,12 @@
 // What the program answers: its status, and what it writes.
 ghost use Rattle.std.specs.Prelude.{◌≡◌, ◌++◌, codes, IfOk};
-ghost use Rattle.symbolic_mc.specs.Report.{status_of, report_of, unjoined_status, verdict_status, recheck_status, recheck_report};
+ghost use Rattle.symbolic_mc.specs.Report.{status_of, report_of, refusal_status, verdict_status, recheck_status, recheck_report};
 
-use op_inliner::InlineFault;
-use plain_modules::{inline_line, module_line, type_line};
+use front_end::{FrontFault, Refusal, refusal_text};
 use refutation_checker::Recheck;
-use snowcat_types::TypeFault;
 use std::alloc::{AllocError, Global};
 use tla_meaning::Decl;
-use tla_modules::{ModuleFault, ModuleRefusal};
+use tla_modules::ModuleFault;
 use tla_values::{List, Text};
 use trace_text::{Verdict, report_text};
 
@@ -21,13 +19,9 @@ pub(crate) enum Answer {
     ReadFault(Text),
     /// This certificate is longer than it may be.
     TooLong(Text),
-    /// The modules of the file make no flat module.
-    Unjoined(ModuleRefusal),
-    /// Their flat module, in the files of these names, makes no job.
-    Unmade(List<Text>, InlineFault),
-    /// The job that it makes, in the files of these names, has no typing.
-    Untyped(List<Text>, TypeFault),
-    /// What it makes is in no form that is checked so far.
+    /// The modules of the file are refused.
+    Refused(Refusal),
+    /// They are accepted, and what their job says is not checked so far.
     NotBuilt,
     /// The certificate of this name could not be written.
     WriteFault(Text),
@@ -48,8 +42,8 @@ impl Answer {
             Answer::Usage => 31,
             Answer::ReadFault(_) | Answer::TooLong(_) => 40,
             Answer::WriteFault(_) => 41,
-            Answer::Unjoined(refusal) => unjoined_status(&refusal.fault),
-            Answer::Unmade(_, _) | Answer::Untyped(_, _) | Answer::NotBuilt => 30,
+            Answer::Refused(refusal) => refusal_status(&refusal.fault),
+            Answer::NotBuilt => 30,
             Answer::Checked(_, _, verdict) => verdict_status(verdict),
             Answer::NoCertificate => 14,
             Answer::Rechecked(answer) => recheck_status(answer),
@@ -68,9 +62,7 @@ impl Answer {
             Answer::ReadFault(file) => line(alloc, "read fault: ", file, "\n"),
             Answer::TooLong(file) => line(alloc, "file is too long: ", file, "\n"),
             Answer::WriteFault(file) => line(alloc, "write fault: ", file, "\n"),
-            Answer::Unjoined(refusal) => module_line(alloc, refusal),
-            Answer::Unmade(files, fault) => inline_line(alloc, files.as_slice(), fault),
-            Answer::Untyped(files, fault) => type_line(alloc, files.as_slice(), fault),
+            Answer::Refused(refusal) => refusal_text(alloc, refusal),
             Answer::NotBuilt => Vec::from_slice(alloc, b"refused: form is not built\n"),
             Answer::Checked(names, files, verdict) => report_text(alloc, verdict, names, files),
             Answer::NoCertificate => Vec::from_slice(alloc, b"certificate refused: no file\n"),
@@ -79,11 +71,11 @@ impl Answer {
     }
 }
 
-fn unjoined_status(fault: &ModuleFault) -> u8
-    ensures { result ≡ unjoined_status fault.now }
+fn refusal_status(fault: &FrontFault) -> u8
+    ensures { result ≡ refusal_status fault.now }
 {
     match fault {
-        ModuleFault::Read(_) | ModuleFault::TooLong(_) => 40,
+        FrontFault::Module(ModuleFault::Read(_) | ModuleFault::TooLong(_)) => 40,
         _ => 30,
     }
 }

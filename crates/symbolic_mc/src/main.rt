@@ -7,6 +7,7 @@ use std::io::{self, ErrorKind};
 use std::process::ExitCode;
 use tool_outside::{HostFiles, HostSink};
 
+mod accepting;
 mod answer;
 mod asking;
 mod checking;

@@ -3,12 +3,15 @@ ghost use Rattle.std.specs.Prelude.{◌≡◌, ◌⊎◌, ◌<◌, ℕ, List as 
 ghost use Rattle.tool_outside.specs.Causes.{Stayed, WritesPrefix};
 ghost use Rattle.tool_outside.specs.Outside.{Rose};
 ghost use Rattle.tla_meaning.specs.declared.job.Job.{Job as Work};
+ghost use Rattle.front_end.specs.Accepted.{IsAcceptedFor};
+ghost use Rattle.front_end.specs.declared.request.Accepted.{Accepted as Module};
 ghost use Rattle.plain_jobs.specs.Plain.{IsWhole};
 ghost use Rattle.symbolic_mc.specs.Report.{memory_line};
-ghost use Rattle.symbolic_mc.specs.inner.Told.{IsTold, IsJobRead, IsReadFault, IsCalm, answer_of, requests};
-ghost use Rattle.symbolic_mc.specs.Top.{WritesError, WritesClean, WritesSpent, WritesAccepted, Tells, TellsPart, Touches, IsAnswer, AsksForPlainJob, AsksToRecheck, IsStatus, IsVerdictStatus, IsCutStatus};
+ghost use Rattle.symbolic_mc.specs.inner.Told.{IsAskable, IsTold, IsReadFault, IsCalm, answer_of, requests};
+ghost use Rattle.symbolic_mc.specs.Top.{WritesError, WritesClean, WritesSpent, WritesAccepted, Tells, TellsPart, Touches, IsAnswer, AsksForPlainJob, AsksToRecheck, IsPlainModule, IsStatus, IsVerdictStatus, IsCutStatus, asked_of};
 ghost use Rattle.symbolic_mc.specs.Words.{command_of, request_of, recheck_of};
 
+use crate::accepting::{accept_file, refused};
 use crate::answer::Answer;
 use crate::checking::check;
 use crate::copies::copied;
@@ -16,18 +19,16 @@ use crate::lines::write_lines;
 use crate::naming::certificate_of;
 use crate::saving::save;
 use crate::words::{Request, recheck_requested, requested};
-use plain_jobs::Plain;
-use plain_modules::{Source, read_job};
+use front_end::Accepted;
+use plain_jobs::{Plain, plain_of};
 use refutation_checker::recheck;
 use std::alloc::{AllocError, Global};
-use tla_meaning::Job;
 use tla_values::Text;
 use tool_outside::{FileFail, Files, Sink, SinkFail};
 use trace_text::Verdict;
 
 /// The most bytes that a certificate may have.
 const CERTIFICATE_LIMIT: u64 = 268_435_456;
-
 /// Does all that the program does: takes the words after its name, reads the modules or the certificate that they name,
 /// checks it, writes the certificate of a verdict to its file and the report to the sink, and answers the status of
 /// the program: 0 where no level errs or the certificate is accepted, 12 where a level errs, 14 where the certificate
@@ -85,47 +86,71 @@ fn check_file<F: Files>(
     request: &Request<'_>,
     files: &mut F,
 ) -> Result<Answer, AllocError>
+    requires { IsAskable request.now.file.now request.now.longest }
     ensures answer { IfOk result (λ answer. (again : Option (Items ℕ)) → IsAnswer (requests request.now.file.now request.now.longest request.now.budget again)
         (F.held files.old) (F.held files.new) (F.faults files.old) (F.faults files.new) answer) }
     ensures calm { IfOk result (IsCalm (F.faults files.old) (F.faults files.new)) }
     ensures files { (again : Option (Items ℕ)) → Touches (requests request.now.file.now request.now.longest request.now.budget again)
         (F.held files.old) (F.held files.new) }
 {
-    match read_job(alloc, request.file, files)? {
-        Source::Unjoined(refusal) => Ok(Answer::Unjoined(refusal)),
-        Source::Unmade(files, fault) => Ok(Answer::Unmade(files, fault)),
-        Source::Untyped(files, fault) => Ok(Answer::Untyped(files, fault)),
-        Source::NotBuilt => Ok(Answer::NotBuilt),
-        Source::Said(job, plain) => check_job(alloc, request, job, &plain, files),
+    match accept_file(alloc, request, files) {
+        Ok(accepted) => check_accepted(alloc, request, accepted, files),
+        Err(refusal) => refused(refusal),
     }
 }
 
-// The answer to the job that the modules of the file make.
-fn check_job<F: Files>(
+// The answer to modules that are accepted.
+fn check_accepted<F: Files>(
     alloc: Global,
     request: &Request<'_>,
-    job: Job,
-    plain: &Plain,
+    accepted: Accepted,
     files: &mut F,
 ) -> Result<Answer, AllocError>
-    requires { IsJobRead (F.held files.old) request.now.file.now job plain.now }
+    requires { IsAcceptedFor (F.held files.old) (asked_of request.now.file.now request.now.longest) accepted }
     ensures answer { IfOk result (λ answer. (again : Option (Items ℕ)) → IsAnswer (requests request.now.file.now request.now.longest request.now.budget again)
         (F.held files.old) (F.held files.new) (F.faults files.old) (F.faults files.new) answer) }
     ensures calm { IfOk result (IsCalm (F.faults files.old) (F.faults files.new)) }
     ensures files { (again : Option (Items ℕ)) → Touches (requests request.now.file.now request.now.longest request.now.budget again)
         (F.held files.old) (F.held files.new) }
 {
-    match check_plain(alloc, request, plain, files)? {
-        Kept::Saved(verdict) => Ok(Answer::Checked(job.names, job.files, verdict)),
+    match check_module(alloc, request, &accepted, files)? {
+        Kept::Saved(verdict) => Ok(Answer::Checked(
+            accepted.job.names,
+            accepted.job.files,
+            verdict,
+        )),
         Kept::Unsaved(name) => Ok(Answer::WriteFault(name)),
+        Kept::Other => Ok(Answer::NotBuilt),
     }
 }
 
-// What became of a check: its verdict, where the certificate was written, or the name of a certificate that could not be.
+// What became of a check: its verdict, where the certificate was written; the name of a certificate that could not be;
+// or what the job says is not checked so far.
 #[derive(Drop)]
 enum Kept {
     Saved(Verdict),
     Unsaved(Text),
+    Other,
+}
+
+// Checks what the job of accepted modules says, where that is done so far.
+fn check_module<F: Files>(
+    alloc: Global,
+    request: &Request<'_>,
+    accepted: &Accepted,
+    files: &mut F,
+) -> Result<Kept, AllocError>
+    requires { IsAcceptedFor (F.held files.old) (asked_of request.now.file.now request.now.longest) accepted.now }
+    ensures answer { IfOk result (λ kept. (again : Option (Items ℕ)) → IsAnswer (requests request.now.file.now request.now.longest request.now.budget again)
+        (F.held files.old) (F.held files.new) (F.faults files.old) (F.faults files.new) (answer_of kept accepted.now.job)) }
+    ensures calm { IfOk result (λ kept. IsCalm (F.faults files.old) (F.faults files.new) (answer_of kept accepted.now.job)) }
+    ensures files { (again : Option (Items ℕ)) → Touches (requests request.now.file.now request.now.longest request.now.budget again)
+        (F.held files.old) (F.held files.new) }
+{
+    match plain_of(alloc, &accepted.job, &accepted.typed)? {
+        Some(plain) => check_plain(alloc, request, &plain, files),
+        None => Ok(Kept::Other),
+    }
 }
 
 // Checks what a job's parts say, and writes the certificate.
@@ -136,11 +161,11 @@ fn check_plain<F: Files>(
     files: &mut F,
 ) -> Result<Kept, AllocError>
     requires { IsWhole plain.now }
-    ensures answer { IfOk result (λ kept. (job : Work) → IsJobRead (F.held files.old) request.now.file.now job plain.now → (again : Option (Items ℕ))
+    ensures answer { IfOk result (λ kept. (of : Module) → IsPlainModule (F.held files.old) request.now.file.now request.now.longest of plain.now → (again : Option (Items ℕ))
         → IsAnswer (requests request.now.file.now request.now.longest request.now.budget again)
-        (F.held files.old) (F.held files.new) (F.faults files.old) (F.faults files.new) (answer_of kept job)) }
+        (F.held files.old) (F.held files.new) (F.faults files.old) (F.faults files.new) (answer_of kept of.job)) }
     ensures calm { IfOk result (λ kept. (job : Work) → IsCalm (F.faults files.old) (F.faults files.new) (answer_of kept job)) }
-    ensures files { (job : Work) → IsJobRead (F.held files.old) request.now.file.now job plain.now → (again : Option (Items ℕ))
+    ensures files { (of : Module) → IsPlainModule (F.held files.old) request.now.file.now request.now.longest of plain.now → (again : Option (Items ℕ))
         → Touches (requests request.now.file.now request.now.longest request.now.budget again) (F.held files.old) (F.held files.new) }
 {
     let found = check(alloc, plain, request.longest, request.budget)?;

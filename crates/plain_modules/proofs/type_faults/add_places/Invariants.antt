@@ -1,7 +1,0 @@
-use Rattle.std.proofs.Common.{◌≡◌, ◌++◌, take}
-use Rattle.std.specs.Prelude.{flat_map}
-use Rattle.plain_modules.specs.Refusals.{behind_place}
-use Rattle.plain_modules.proofs.type_faults.add_places.Given as goal
-
-abbrev pub invariant-loop-at : goal.invariant-loop-at
-invariant-loop-at l = l.out.items ≡ l.fn.out.items ++ flat_map (behind_place l.files) (take l.at-index l.places)
