@@ -399,11 +399,11 @@ each_whole a b ks n q rs h l = subst (λ (js : List Ker). SizesEach a b (map (ke
 
 -- ---- under further numbers
 
-more_kept : (xs ys : List (List ℕ × Shape)) → map kept_name (xs ++ ys) ≡ map kept_name xs ++ map kept_name ys
+pub more_kept : (xs ys : List (List ℕ × Shape)) → map kept_name (xs ++ ys) ≡ map kept_name xs ++ map kept_name ys
 more_kept [] ys = refl
 more_kept (x ∷ xs) ys = ap (λ (zs : List (List ℕ × Shape)). kept_name x ∷ zs) (more_kept xs ys)
 
-bound_kept : (xs : List (List ℕ)) (bs : List Shape) → map kept_name (bound_shapes xs bs) ≡ bound_shapes xs (map capped bs)
+pub bound_kept : (xs : List (List ℕ)) (bs : List Shape) → map kept_name (bound_shapes xs bs) ≡ bound_shapes xs (map capped bs)
 bound_kept [] bs = refl
 bound_kept (x ∷ xs) [] = ap (λ (zs : List (List ℕ × Shape)). (x, Atom) ∷ zs) (bound_kept xs [])
 bound_kept (x ∷ xs) (b ∷ bs) = ap (λ (zs : List (List ℕ × Shape)). (x, capped b) ∷ zs) (bound_kept xs bs)

@@ -1,21 +1,23 @@
 -- Levels one behind another, up to the first that is refused.
-use Rattle.std.proofs.Common.{◌≡◌, ℕ, zero, suc, ◌+◌, ◌-◌, ◌≤◌, min, Bool, true, false, List, [], ◌∷◌, ◌++◌, map, Option, Some, None, option_map, Ok, Err, refl, sym, ◌∙◌, ap, ap₂, subst, arith}
+use Rattle.std.proofs.Common.{◌≡◌, ℕ, zero, suc, ◌+◌, ◌-◌, ◌≤◌, ◌<◌, min, Bool, true, false, IsTrue, List, [], ◌∷◌, ◌++◌, map, Option, Some, None, option_map, Ok, Err, refl, sym, ◌∙◌, ap, ap₂, subst, arith}
 use Rattle.kernel_shapes.specs.Codes.{mean}
 use Rattle.kernel_shapes.specs.declared.bounds.Shape.{Shape as Code}
 use Rattle.kernel_shapes.specs.declared.bounds.Shapes.{Shapes}
 use Rattle.kernel_shapes.specs.Counts.{Count, most_printed, refusal, refused_at}
 use Rattle.kernel_shapes.specs.Levels.{Parts, first_refusal, level_numbers, shapes_at, step_numbers_at}
-use Rattle.kernel_shapes.specs.Shape.{Shape}
+use Rattle.kernel_shapes.specs.Shape.{Shape, shapes}
 use Rattle.shape_bounds.specs.declared.levels.Level.{Level}
 use Rattle.shape_bounds.specs.declared.limits.Excess.{Excess}
 use Rattle.shape_bounds.specs.declared.shape_fault.ShapeFault.{ShapeFault}
 use Rattle.shape_bounds.specs.declared.shape_fault.ShapeFault.TheVariants as fault
 use Rattle.shape_bounds.specs.Excesses.{rank_of}
-use Rattle.shape_bounds.specs.inner.Climbing.{IsAt, told_at}
+use Rattle.shape_bounds.specs.inner.Climbing.{IsAt, IsStill, told_at}
 use Rattle.shape_bounds.specs.inner.Stage.{IsFirst, IsFirstAt, IsOf, StepsTo}
 use Rattle.shape_bounds.specs.Kept.{capped}
 use Rattle.shape_bounds.specs.Stages.{IsAnswer, levels_from, told}
+use Rattle.shape_bounds.specs.inner.Equality.{same_items}
 use Rattle.shape_bounds.proofs.Ending.{mapped_end}
+use Rattle.shape_bounds.proofs.SameShapes.{same_shapes}
 
 -- ---- what is told of an excess
 
@@ -115,20 +117,27 @@ made_more p cs as' n rss new r h e =
     ∙ ap₂ (λ (ass : List (List Shape)) (bs : List Shape). ass ++ bs ∷ []) h.levels (sym h.now.shapes)
     ∙ sym (mapped_end (map capped) (levels_from p as' 0 n) (shapes_at p as' n)) ∙ ap (map (map capped)) (levels_more p as' n)
 
-pub at_next : (p : Parts) (cs : List Count) (as' : List Shape) (n : ℕ) (rss new : List (List Code)) (ss : List Code) (r q : Level) (o : Option Excess) (u : Option ShapeFault) →
-    IsAt p cs as' n rss r → IsFirstAt p r o → option_map told u ≡ told_at n o → u ≡ None → ss ≡ r.shapes → StepsTo p ss q → new ≡ rss ++ r.shapes ∷ [] →
-    IsAt p cs as' (n + 1) new q
-at_next p cs as' n rss new ss r q o u h f d e c s m =
+-- one level more, when the level is not refused
+pub at_more : (p : Parts) (cs : List Count) (as' : List Shape) (n : ℕ) (rss new : List (List Code)) (r q : Level) (o : Option Excess) (u : Option ShapeFault) →
+    IsAt p cs as' n rss r → IsFirstAt p r o → option_map told u ≡ told_at n o → u ≡ None → IsOf q (shapes_at p as' (suc n)) (step_numbers_at p cs as' (suc n)) →
+    new ≡ rss ++ r.shapes ∷ [] → IsAt p cs as' (n + 1) new q
+at_more p cs as' n rss new r q o u h f d e c m =
     let one : suc n ≡ n + 1 = omega arith in
     subst (λ (i : ℕ). IsAt p cs as' i new q) one
     (record {
       levels = made_more p cs as' n rss new r h m;
-      now = s (shapes_at p as' n) (h.now.shapes ∙ ap (map mean) (sym c));
+      now = c;
       before = λ i.
           let up : suc n + i ≡ n + suc i = omega arith in
           ap (first_refusal p cs as' 0) up ∙ h.before (suc i)
           ∙ passes p cs as' n i (no_fault n o u (level_numbers p cs as' n) d e (f (shapes_at p as' n) (step_numbers_at p cs as' n) h.now));
     })
+
+pub at_next : (p : Parts) (cs : List Count) (as' : List Shape) (n : ℕ) (rss new : List (List Code)) (ss : List Code) (r q : Level) (o : Option Excess) (u : Option ShapeFault) →
+    IsAt p cs as' n rss r → IsFirstAt p r o → option_map told u ≡ told_at n o → u ≡ None → ss ≡ r.shapes → StepsTo p ss q → new ≡ rss ++ r.shapes ∷ [] →
+    IsAt p cs as' (n + 1) new q
+at_next p cs as' n rss new ss r q o u h f d e c s m =
+    at_more p cs as' n rss new r q o u h f d e (s (shapes_at p as' n) (h.now.shapes ∙ ap (map mean) (sym c))) m
 
 pub at_last : (p : Parts) (cs : List Count) (as' : List Shape) (n k : ℕ) (rss new : List (List Code)) (r : Level) (a : Shapes) (o : Option Excess) (u : Option ShapeFault) → n ≡ k →
     IsAt p cs as' n rss r → IsFirstAt p r o → option_map told u ≡ told_at k o → u ≡ None → new ≡ rss ++ r.shapes ∷ [] → a.levels ≡ new → IsAnswer p cs as' k (Ok a)
@@ -139,3 +148,49 @@ at_last p cs as' n k rss new r a o u l h f d e m z =
           ∙ passes p cs as' k 0 (no_fault k o u (level_numbers p cs as' k) d e (f (shapes_at p as' k) (step_numbers_at p cs as' k) i.now)),
       ap (map (map mean)) z ∙ made_more p cs as' k rss new r i m,
     )
+
+-- ---- a level with the shapes of the one before it
+
+-- what steps from shapes that it has itself is at every level
+still_at : (p : Parts) (cs : List Count) (as' : List Shape) (ss : List Code) (q : Level) (n m : ℕ) → StepsTo p ss q → map mean q.shapes ≡ map mean ss →
+    IsOf q (shapes_at p as' n) (step_numbers_at p cs as' n) → IsOf q (shapes_at p as' (n + m)) (step_numbers_at p cs as' (n + m))
+still_at p cs as' ss q n zero s e h =
+    let i : n ≡ n + 0 = omega arith in
+    subst (λ (j : ℕ). IsOf q (shapes_at p as' j) (step_numbers_at p cs as' j)) i h
+still_at p cs as' ss q n (suc m) s e h =
+    let i : suc (n + m) ≡ n + suc m = omega arith in
+    subst (λ (j : ℕ). IsOf q (shapes_at p as' j) (step_numbers_at p cs as' j)) i
+    (s (shapes_at p as' (n + m)) ((still_at p cs as' ss q n m s e h).shapes ∙ e))
+
+pub still_behind : (p : Parts) (cs : List Count) (as' : List Shape) (k n : ℕ) (rss : List (List Code)) (ss : List Code) (q : Level) (us vs : List Code) (t : Bool) →
+    StepsTo p ss q → us ≡ q.shapes → vs ≡ ss → t ≡ same_items (shapes (map mean us)) (shapes (map mean vs)) → t ≡ true → IsAt p cs as' n rss q → IsStill p cs as' n k q
+still_behind p cs as' k n rss ss q us vs t s e f g h at = λ m l.
+    let same : map mean us ≡ map mean vs = same_shapes (map mean us) (map mean vs) (sym g ∙ h) in
+    still_at p cs as' ss q n m s (ap (map mean) (sym e) ∙ same ∙ ap (map mean) f) at.now
+
+-- the last level
+pub last_still : (p : Parts) (cs : List Count) (as' : List Shape) (k : ℕ) (rss : List (List Code)) (r : Level) → IsAt p cs as' k rss r → IsStill p cs as' k k r
+last_still p cs as' k rss r h = λ m l.
+    let i : k ≡ k + m = omega (arith, l) in
+    subst (λ (j : ℕ). IsOf r (shapes_at p as' j) (step_numbers_at p cs as' j)) i h.now
+
+-- ---- from such a level to the last
+
+none_at : (n m : ℕ) (o : Option Excess) (u : Option ShapeFault) → option_map told u ≡ told_at n o → u ≡ None → option_map told u ≡ told_at m o
+none_at n m None u h e = h
+none_at n m (Some x) u h e = absurd (none_some _ (ap (option_map told) (sym e) ∙ h))
+
+pub at_filled : (p : Parts) (cs : List Count) (as' : List Shape) (i n k : ℕ) (rss new : List (List Code)) (ss : List Code) (r : Level) (o : Option Excess) (u : Option ShapeFault) →
+    i ≤ n → n < k → IsStill p cs as' i k r → IsAt p cs as' n rss r → IsFirstAt p r o → option_map told u ≡ told_at i o → u ≡ None → ss ≡ r.shapes →
+    new ≡ rss ++ ss ∷ [] → IsAt p cs as' (n + 1) new r
+at_filled p cs as' i n k rss new ss r o u le lt t h f d e c m =
+    let up : i + (suc n - i) ≡ suc n = omega (arith, le) in
+    let below : i + (suc n - i) ≤ k = omega (arith, le, lt) in
+    at_more p cs as' n rss new r r o u h f (none_at i n o u d e) e
+    (subst (λ (j : ℕ). IsOf r (shapes_at p as' j) (step_numbers_at p cs as' j)) up (t (suc n - i) below))
+    (m ∙ ap (λ (us : List Code). rss ++ us ∷ []) c)
+
+pub at_end : (p : Parts) (cs : List Count) (as' : List Shape) (i n k : ℕ) (rss new : List (List Code)) (r : Level) (a : Shapes) (o : Option Excess) (u : Option ShapeFault) →
+    n ≡ k → IsAt p cs as' n rss r → IsFirstAt p r o → option_map told u ≡ told_at i o → u ≡ None → new ≡ rss ++ r.shapes ∷ [] → a.levels ≡ new →
+    IsAnswer p cs as' k (Ok a)
+at_end p cs as' i n k rss new r a o u l h f d e m z = at_last p cs as' n k rss new r a o u l h f (none_at i k o u d e) e m z

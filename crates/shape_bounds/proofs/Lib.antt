@@ -26,5 +26,10 @@ pub mod OverPaths
 pub mod Beginning
 pub mod LevelSteps
 pub mod Ending
+pub mod SameShapes
 pub mod TypeShapes
 pub mod TypedLevel
+pub mod Stacked
+pub mod ExtentsUnder
+pub mod BoundTrees
+pub mod HasBounds

@@ -4,3 +4,5 @@ pub mod Excesses
 pub mod Sizes
 pub mod inner
 pub mod Stages
+pub mod Extents
+pub mod BoundedTrees

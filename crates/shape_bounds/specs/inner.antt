@@ -10,4 +10,8 @@ pub mod Walks
 pub mod Turns
 pub mod Stage
 pub mod Climbing
+pub mod Equality
 pub mod TypedStart
+pub mod Bindings
+pub mod Stacks
+pub mod Bounding

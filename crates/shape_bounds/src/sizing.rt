@@ -349,7 +349,7 @@ impl Names {
 
     // The values that a fold goes through: the start, and what the body gives at each item of a list.
     #[cycle(size)]
-    fn steps(
+    pub(crate) fn steps(
         &mut self,
         body: &Ker,
         numbers: &[u32],

@@ -7,10 +7,12 @@ ghost use Rattle.kernel_shapes.specs.Shape.{Shape as Meaning};
 ghost use Rattle.kernel_shapes.specs.Systems.{system_parts};
 ghost use Rattle.kernel_shapes.specs.TypedStates.{typed_first};
 ghost use Rattle.kernel_trees.specs.TypeKinds.{Kind, all_there, kind_of};
+ghost use Rattle.shape_bounds.specs.inner.Climbing.{IsClimb};
 ghost use Rattle.shape_bounds.specs.inner.Stage.{IsOf};
 ghost use Rattle.shape_bounds.specs.Kept.{IsWidth, capped};
 ghost use Rattle.shape_bounds.specs.Stages.{IsAnswer};
 
+use crate::equality::are_same;
 use crate::levels::Level;
 use crate::shape_fault::{ShapeFault, fault_at};
 use crate::starting::{first_at, next_level, start_level};
@@ -92,7 +94,16 @@ fn keep(made: &mut Vec<List<Shape>>, shapes: List<Shape>) -> Result<(), AllocErr
     Ok(())
 }
 
-// Level by level, up to the first that is refused.
+// Levels one behind another, and the last of them.
+#[derive(Drop)]
+struct Climb {
+    before: Vec<List<Shape>>,
+    number: u32,
+    last: Level,
+}
+
+// All levels, or the refusal of the first that is refused. Behind a level with the shapes of the one before it nothing
+// changes, and nothing is walked again.
 fn levels_from(
     alloc: Global,
     system: &System,
@@ -104,23 +115,59 @@ fn levels_from(
     ensures { (as' : Lists Meaning) (cs : Lists Count) → IsOf start as' cs →
         IsAnswer (system_parts width system.now) cs as' length result }
 {
-    let mut made = Vec::new(alloc);
-    let mut level = start;
-    for n in 0..length {
-        let found = first_at(alloc, system, &level, width)?;
-        if let Some(fault) = fault_at(n, found) {
-            return Err(fault);
-        }
-        let next = next_level(alloc, system, level.shapes.as_slice(), width)?;
-        keep(&mut made, level.shapes)?;
-        level = next;
-    }
-    let last = first_at(alloc, system, &level, width)?;
-    if let Some(fault) = fault_at(length, last) {
+    let Climb {
+        before: mut made,
+        number,
+        last,
+    } = climb_from(alloc, system, start, length, width)?;
+    let excess = first_at(alloc, system, &last, width)?;
+    if let Some(fault) = fault_at(number, excess) {
         return Err(fault);
     }
-    keep(&mut made, level.shapes)?;
+    for _ in number..length {
+        let copies = copy_each(alloc, last.shapes.as_slice())?;
+        keep(&mut made, copies)?;
+    }
+    keep(&mut made, last.shapes)?;
     Ok(Shapes {
         levels: List::from_vec(made),
+    })
+}
+
+// Level by level, up to one that is the last or behind which nothing changes, or to the first before it that is refused.
+fn climb_from(
+    alloc: Global,
+    system: &System,
+    start: Level,
+    length: u32,
+    width: u32,
+) -> Result<Climb, ShapeFault>
+    requires sized { IsWidth width }
+    ensures { (as' : Lists Meaning) (cs : Lists Count) → IsOf start as' cs →
+        IsClimb (system_parts width system.now) cs as' length result }
+{
+    let mut before = Vec::new(alloc);
+    let mut last = start;
+    for number in 0..length {
+        let found = first_at(alloc, system, &last, width)?;
+        if let Some(fault) = fault_at(number, found) {
+            return Err(fault);
+        }
+        let next = next_level(alloc, system, last.shapes.as_slice(), width)?;
+        let is_still = are_same(next.shapes.as_slice(), last.shapes.as_slice());
+        keep(&mut before, last.shapes)?;
+        last = next;
+        if is_still {
+            return Ok(Climb {
+                before,
+                number: number + 1,
+                last,
+            });
+        }
+    }
+    Ok(Climb {
+        before,
+        number: length,
+        last,
     })
 }

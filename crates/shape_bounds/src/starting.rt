@@ -3,6 +3,7 @@ ghost use Rattle.std.specs.Prelude.{None, Some, ◌≡◌, IfOk, if◌then◌els
 ghost use Rattle.kernel_shapes.specs.Codes.{mean};
 ghost use Rattle.kernel_shapes.specs.Levels.{kept_constants};
 ghost use Rattle.kernel_shapes.specs.Systems.{system_parts};
+ghost use Rattle.shape_bounds.specs.Extents.{all_some};
 ghost use Rattle.shape_bounds.specs.inner.Stage.{ConstantsAre, IsBefore, IsFirstAt, IsNamed, StartsAt, StepsTo};
 ghost use Rattle.shape_bounds.specs.inner.Walks.{some_shapes};
 ghost use Rattle.shape_bounds.specs.Kept.{IsWidth};
@@ -130,12 +131,23 @@ fn from_state(
 }
 
 fn at_state(alloc: Global, shapes: &[Shape], width: u32) -> Result<Names, AllocError>
-    ensures { IfOk result (λ r. IsNamed r width (map (λ a. Some a) (map mean shapes.now))
-        (map (λ a. Some a) (map mean shapes.now))) }
+    ensures { IfOk result (λ r. IsNamed r width (all_some shapes.now) (all_some shapes.now)) }
 {
-    let state = some_each(alloc, shapes)?;
-    let next = some_each(alloc, shapes)?;
-    Ok(Names::new(alloc, width, state, next))
+    names_with(alloc, shapes, shapes, width)
+}
+
+// Each name has a shape in the state and in the next one.
+pub(crate) fn names_with(
+    alloc: Global,
+    now: &[Shape],
+    next: &[Shape],
+    width: u32,
+) -> Result<Names, AllocError>
+    ensures { IfOk result (λ r. IsNamed r width (all_some now.now) (all_some next.now)) }
+{
+    let state = some_each(alloc, now)?;
+    let after = some_each(alloc, next)?;
+    Ok(Names::new(alloc, width, state, after))
 }
 
 fn none_each(alloc: Global, fixed: &[bool]) -> Result<Vec<Option<Shape>>, AllocError>
@@ -149,7 +161,7 @@ fn none_each(alloc: Global, fixed: &[bool]) -> Result<Vec<Option<Shape>>, AllocE
 }
 
 fn some_each(alloc: Global, shapes: &[Shape]) -> Result<Vec<Option<Shape>>, AllocError>
-    ensures { IfOk result (λ r. some_shapes r.items ≡ map (λ a. Some a) (map mean shapes.now)) }
+    ensures { IfOk result (λ r. some_shapes r.items ≡ all_some shapes.now) }
 {
     let mut names = Vec::new(alloc);
     for i in 0..shapes.len() {

@@ -1,0 +1,5 @@
+pub mod Environments
+pub mod Rewriting
+pub mod Forming
+pub mod Operating
+pub mod inner

@@ -1,0 +1,12 @@
+mod Rows
+mod Values
+mod Fits
+mod Changes
+mod Shown
+mod DomainRows
+mod Found
+mod Updating
+mod Firsts
+mod Reaching
+mod KindParts
+mod Examples

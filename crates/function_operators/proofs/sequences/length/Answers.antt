@@ -1,0 +1,16 @@
+use Rattle.std.proofs.Common.{[], ◌∷◌}
+use Rattle.tla_meaning.specs.declared.op.Op.TheVariants as op
+use Rattle.function_operators.proofs.Shown.{row_shown}
+use Rattle.function_operators.proofs.Rows.{row_length}
+use Rattle.function_operators.proofs.Values.{sequence_value}
+use Rattle.function_operators.proofs.sequences.length.Goals as goal
+
+pub returns-clause-row : goal.returns-clause-row
+returns-clause-row c =
+    let b = c.args.b.now in
+    row_shown b _ op.Len (c.args.s ∷ []) _ _ c.in_ok-id.ensures.grows
+    (c.big_where.ensures.shows _ c.in_ok-id.ensures.length.yields)
+    (λ a s p. row_length b.arena.width p _ (sequence_value b.arena a c.args.s c.requires.sort b.built c.requires.is))
+
+pub returns-clause-cells : goal.returns-clause-cells
+returns-clause-cells c = c.big_where.ensures.cells _ c.in_ok-id.ensures.length.sort

@@ -1,0 +1,3 @@
+pub mod Opened
+pub mod Closed
+pub mod RangeExamples

@@ -1,0 +1,16 @@
+pub mod Testing
+pub mod BinderRows
+pub mod Joined
+pub mod Quantified
+pub mod Parts
+pub mod Collected
+pub mod Graphed
+pub mod Placing
+pub mod Tupled
+pub mod Moved
+pub mod Functional
+pub mod Crossed
+pub mod FoldSteps
+pub mod MoreChoices
+pub mod Examples
+pub mod CellExamples

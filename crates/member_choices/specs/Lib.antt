@@ -1,0 +1,4 @@
+pub mod Choices
+pub mod Binders
+pub mod Folds
+pub mod inner

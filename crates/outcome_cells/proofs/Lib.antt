@@ -1,0 +1,12 @@
+pub mod Showing
+pub mod Joining
+pub mod Operands
+pub mod Joins
+pub mod PassedOver
+pub mod Truths
+pub mod Turning
+pub mod Branching
+pub mod Later
+pub mod Yielding
+pub mod OneText
+pub mod Examples

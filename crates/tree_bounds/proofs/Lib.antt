@@ -1,0 +1,9 @@
+pub mod Elements
+pub mod SameExpressions
+pub mod SameShapes
+pub mod SoundBounds
+pub mod Fitting
+pub mod Covered
+pub mod Between
+pub mod Lying
+pub mod BoundExamples

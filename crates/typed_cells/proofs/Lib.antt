@@ -1,0 +1,6 @@
+pub mod OrderedFields
+pub mod PartSorts
+pub mod NewCells
+pub mod DefaultCells
+pub mod Examples
+pub mod CellExamples

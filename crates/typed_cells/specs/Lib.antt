@@ -1,0 +1,4 @@
+pub mod FieldOrder
+pub mod KindSorts
+pub mod Known
+pub mod inner

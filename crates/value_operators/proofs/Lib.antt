@@ -1,0 +1,9 @@
+pub mod OneText
+pub mod Rows
+pub mod NewCells
+pub mod NumberRows
+pub mod SetRows
+pub mod Parts
+pub mod RangeRows
+pub mod RowsNow
+pub mod Examples
