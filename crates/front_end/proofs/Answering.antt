@@ -14,7 +14,7 @@ use Rattle.front_end.specs.declared.request.Accepted.{Accepted}
 use Rattle.front_end.specs.declared.request.Request.{Request}
 use Rattle.front_end.specs.declared.bounding.Bounded.{Bounded}
 use Rattle.front_end.specs.inner.Stages.{IsJudged, IsKernelBounded, IsMadeBy}
-use Rattle.kera_reducer.specs.Kernels.{IsReduced}
+use Rattle.kernel_reduction.specs.Kernels.{IsReduced}
 use Rattle.kernel_trees.specs.declared.faults.KerFault.{KerFault}
 use Rattle.kernel_trees.specs.declared.faults.KerFault.TheVariants as kernels
 use Rattle.kernel_trees.specs.declared.system.KerJob.{KerJob}

@@ -14,10 +14,10 @@ use Rattle.front_end.specs.declared.fault.FrontFault.{FrontFault}
 use Rattle.front_end.specs.declared.fault.FrontFault.TheVariants as front
 use Rattle.front_end.specs.declared.request.Accepted.{Accepted}
 use Rattle.front_end.specs.declared.request.Request.{Request}
-use Rattle.kera_reducer.proofs.BuiltJobs.{keeps_job_paths}
-use Rattle.kera_reducer.specs.Infinite.{IsLeastIfAny}
-use Rattle.kera_reducer.specs.JobPaths.{Told, told_kernel_path}
-use Rattle.kera_reducer.specs.Kernels.{IsReduced}
+use Rattle.kernel_reduction.proofs.BuiltJobs.{keeps_job_paths}
+use Rattle.kernel_reduction.specs.Infinite.{IsLeastIfAny}
+use Rattle.kernel_reduction.specs.JobPaths.{Told, told_kernel_path}
+use Rattle.kernel_reduction.specs.Kernels.{IsReduced}
 use Rattle.kernel_shapes.specs.Counts.{Count}
 use Rattle.kernel_shapes.specs.Levels.{refused, refused_typed, typed_numbers}
 use Rattle.kernel_shapes.specs.Systems.{system_parts}

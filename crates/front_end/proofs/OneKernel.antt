@@ -5,12 +5,12 @@ use Rattle.std.specs.List.{list_all}
 use Rattle.std.proofs.lemmas.Bool.{false≢true}
 use Rattle.front_end.specs.Accepted.{AreAssigned, IsReducedJob, IsSystem, IsTypedJob}
 use Rattle.front_end.proofs.Apart.{SameNumbers, SameRefusals}
-use Rattle.kera_reducer.proofs.KindsOf.{same_of}
-use Rattle.kera_reducer.proofs.SizedJobs.{keeps_job_refusals, keeps_typed_refusals}
-use Rattle.kera_reducer.specs.JobParts.{job_marks, job_parts, part_kinds, sized_invariants, sized_job_paths, typed_sized}
-use Rattle.kera_reducer.specs.JobSizes.{IsSoundKernelOf, kernel_system}
-use Rattle.kera_reducer.specs.Kernels.{IsKernelOf}
-use Rattle.kera_reducer.specs.SoundLaws.{has_kind}
+use Rattle.kernel_reduction.proofs.KindsOf.{same_of}
+use Rattle.kernel_reduction.proofs.SizedJobs.{keeps_job_refusals, keeps_typed_refusals}
+use Rattle.kernel_reduction.specs.JobParts.{job_marks, job_parts, part_kinds, sized_invariants, sized_job_paths, typed_sized}
+use Rattle.kernel_reduction.specs.JobSizes.{IsSoundKernelOf, kernel_system}
+use Rattle.kernel_reduction.specs.Kernels.{IsKernelOf}
+use Rattle.kernel_reduction.specs.SoundLaws.{has_kind}
 use Rattle.kernel_shapes.specs.Kernel.{kind_or_truth}
 use Rattle.kernel_shapes.specs.Levels.{Parts, refused, refused_typed}
 use Rattle.kernel_shapes.specs.Rows.{nth}

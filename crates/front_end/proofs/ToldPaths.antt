@@ -13,7 +13,7 @@ use Rattle.kernel_trees.specs.Paths.{Marks}
 use Rattle.assignment_finder.specs.Finding.{AreFine, IsAssigned, IsFirstFault, IsFine, IsPathFault, IsStepFault, endless}
 use Rattle.assignment_finder.specs.declared.assign_fault.AssignFault.{AssignFault}
 use Rattle.assignment_finder.specs.declared.assign_fault.AssignFault.TheVariants.{Unassigned, ReadEarly, Infinite, Memory}
-use Rattle.kera_reducer.specs.JobPaths.{Told, ToldStep, named, told_kernel_path, told_kernel_step}
+use Rattle.kernel_reduction.specs.JobPaths.{Told, ToldStep, named, told_kernel_path, told_kernel_step}
 
 -- ---- a path that is fine has no fault
 

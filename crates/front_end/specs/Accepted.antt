@@ -6,8 +6,8 @@ use Rattle.std.specs.Prelude.{◌≡◌, ◌≤◌, ℕ, IsTrue, List, [], ◌�
 use Rattle.assignment_finder.specs.Finding.{IsFound}
 use Rattle.front_end.specs.declared.request.Accepted.{Accepted}
 use Rattle.front_end.specs.declared.request.Request.{Request}
-use Rattle.kera_reducer.specs.BuiltJobs.{IsBuilt}
-use Rattle.kera_reducer.specs.Kernels.{IsKernelOf, IsReduced}
+use Rattle.kernel_reduction.specs.BuiltJobs.{IsBuilt}
+use Rattle.kernel_reduction.specs.Kernels.{IsKernelOf, IsReduced}
 use Rattle.kernel_shapes.specs.declared.bounds.Bounds.{Bounds}
 use Rattle.kernel_shapes.specs.declared.bounds.Shapes.{Shapes}
 use Rattle.kernel_shapes.specs.Levels.{refused_typed, start_numbers, start_shapes}

@@ -10,7 +10,7 @@ use Rattle.front_end.specs.declared.fault.FrontFault.TheVariants.{Module, UseUnk
 use Rattle.front_end.specs.declared.fault.Refusal.{Refusal}
 use Rattle.front_end.specs.declared.request.Accepted.{Accepted}
 use Rattle.front_end.specs.declared.request.Request.{Request}
-use Rattle.kera_reducer.specs.Kernels.{IsReduced}
+use Rattle.kernel_reduction.specs.Kernels.{IsReduced}
 use Rattle.kernel_shapes.specs.declared.bounds.Bounds.{Bounds}
 use Rattle.kernel_shapes.specs.Levels.{refused, typed_numbers}
 use Rattle.kernel_shapes.specs.Systems.{system_parts}

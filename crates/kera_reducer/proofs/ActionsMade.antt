@@ -13,14 +13,14 @@ use Rattle.snowcat_rows.specs.declared.types.Ty.TheVariants as ty
 use Rattle.kernel_trees.specs.declared.kernel.Ker.{Ker}
 use Rattle.kernel_trees.specs.declared.kernel.KerOp.TheVariants as ker
 use Rattle.kera_reducer.specs.declared.making.Made.{Made}
-use Rattle.kera_reducer.specs.Reduction.{any_mentioned, upward}
-use Rattle.kera_reducer.specs.Builds.{passes_on}
-use Rattle.kera_reducer.specs.BuildsTyped as typed
-use Rattle.kera_reducer.specs.BuildsTyped.{ArmsTyped, BuildsTyped, EachTyped, TypedNode, no_arms, other_arm, one_arm}
-use Rattle.kera_reducer.specs.Rows.{guard_of, node, tree}
-use Rattle.kera_reducer.specs.inner.Settings.{AreBuilt, ChildrenBuilt, counted, is_odd, passing, positions, scopes}
+use Rattle.kernel_reduction.specs.Reduction.{any_mentioned, upward}
+use Rattle.kernel_reduction.specs.Builds.{passes_on}
+use Rattle.kernel_reduction.specs.BuildsTyped as typed
+use Rattle.kernel_reduction.specs.BuildsTyped.{ArmsTyped, BuildsTyped, EachTyped, TypedNode, no_arms, other_arm, one_arm}
+use Rattle.kernel_reduction.specs.Rows.{guard_of, node, tree}
+use Rattle.kernel_reduction.specs.inner.Settings.{AreBuilt, ChildrenBuilt, counted, is_odd, passing, positions, scopes}
 use Rattle.kera_reducer.specs.inner.Standing.{IsBranching, IsSplitCase, Makes, flat}
-use Rattle.kera_reducer.proofs.Counting.{long_counted}
+use Rattle.kernel_reduction.proofs.Counting.{long_counted}
 use Rattle.kera_reducer.proofs.ChildNumbers.{not_not}
 use Rattle.kera_reducer.proofs.Children.{back_built, each_built}
 use Rattle.kera_reducer.proofs.ScopesMade.{behind_sets, take_drop}

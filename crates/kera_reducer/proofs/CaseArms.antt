@@ -6,7 +6,7 @@ use Rattle.snowcat_rows.specs.declared.types.Ty.{Ty}
 use Rattle.snowcat_rows.specs.declared.types.Ty.TheVariants as ty
 use Rattle.kernel_trees.specs.declared.kernel.Ker.{Ker}
 use Rattle.kernel_trees.specs.declared.kernel.KerOp.TheVariants as ker
-use Rattle.kera_reducer.specs.Rows.{case_branches, nested_ifs, node}
+use Rattle.kernel_reduction.specs.Rows.{case_branches, nested_ifs, node}
 use Rattle.kera_reducer.specs.inner.Standing.{arm_node, flat, nested}
 
 -- ---- apart

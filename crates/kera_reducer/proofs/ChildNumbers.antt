@@ -4,7 +4,7 @@ use Rattle.std.specs.Prelude.{nat_eq, nat_le}
 use Rattle.tla_meaning.specs.declared.op.Op.{Op}
 use Rattle.tla_meaning.specs.declared.op.Op.TheVariants as op
 use Rattle.tla_meaning.proofs.Views.{false≢true}
-use Rattle.kera_reducer.specs.inner.Settings.{binds_behind, binds_some, is_odd, names_at}
+use Rattle.kernel_reduction.specs.inner.Settings.{binds_behind, binds_some, is_odd, names_at}
 
 pub not_not : (b : Bool) → not (not b) ≡ b
 not_not true = refl

@@ -5,12 +5,12 @@ use Rattle.tla_meaning.specs.declared.expr.Expr.{Expr, out-Expr}
 use Rattle.snowcat_rows.specs.declared.types.Ty.{Ty}
 use Rattle.kernel_trees.specs.declared.kernel.Ker.{Ker}
 use Rattle.kera_reducer.specs.declared.making.Made.{Made}
-use Rattle.kera_reducer.specs.BuildsTyped.{BuildsTyped, TypedNode, at_node}
-use Rattle.kera_reducer.specs.inner.Settings.{AreBuilt, counted, names_at, passing, position_at, positions, scopes}
+use Rattle.kernel_reduction.specs.BuildsTyped.{BuildsTyped, TypedNode, at_node}
+use Rattle.kernel_reduction.specs.inner.Settings.{AreBuilt, counted, names_at, passing, position_at, positions, scopes}
 use Rattle.kera_reducer.specs.inner.Standing.{AllChildren, Makes, NodeTyped, TreeTyped}
 use Rattle.kera_reducer.proofs.Children.{next_built}
-use Rattle.kera_reducer.proofs.Lengths.{cons_first, cons_rest}
-use Rattle.kera_reducer.proofs.Listing.{take_all}
+use Rattle.kernel_reduction.proofs.Lengths.{cons_first, cons_rest}
+use Rattle.kernel_reduction.proofs.Listing.{take_all}
 
 -- these are the first children of the node
 abbrev pub FirstChildren : Option Assignable → List (List ℕ) → Expr → List Expr → List Ty → List Ker → List Ty → Type 0

@@ -7,12 +7,12 @@ use Rattle.tla_meaning.specs.declared.op.Op.TheVariants as op
 use Rattle.tla_meaning.specs.Scopes.{find_last}
 use Rattle.snowcat_rows.specs.declared.types.Ty.{Ty}
 use Rattle.kernel_trees.specs.declared.kernel.Ker.{Ker}
-use Rattle.kera_reducer.specs.Builds.{passes_on}
-use Rattle.kera_reducer.specs.BuildsTyped.{BuildsTyped, EachTyped, TypedNode, as_value, bound_name, none_left, one_more}
-use Rattle.kera_reducer.specs.Rows.{bound}
-use Rattle.kera_reducer.specs.inner.Settings.{AreBuilt, counted}
+use Rattle.kernel_reduction.specs.Builds.{passes_on}
+use Rattle.kernel_reduction.specs.BuildsTyped.{BuildsTyped, EachTyped, TypedNode, as_value, bound_name, none_left, one_more}
+use Rattle.kernel_reduction.specs.Rows.{bound}
+use Rattle.kernel_reduction.specs.inner.Settings.{AreBuilt, counted}
 use Rattle.kera_reducer.specs.inner.Standing.{IsBoundName, NodeTyped}
-use Rattle.kera_reducer.proofs.Listing.{take_more}
+use Rattle.kernel_reduction.proofs.Listing.{take_more}
 
 module _ (f : ℕ → Option Assignable) (g : ℕ → List (List ℕ)) where
   -- ---- one more

@@ -10,14 +10,14 @@ use Rattle.tla_meaning.specs.declared.op.Op.TheVariants as op
 use Rattle.tla_meaning.specs.declared.place.Place.{Place}
 use Rattle.snowcat_rows.specs.declared.types.Ty.{Ty}
 use Rattle.kernel_trees.specs.declared.kernel.Ker.{Ker}
-use Rattle.kera_reducer.specs.Reduction.{Numbering, all_fresh, numbered, upward}
-use Rattle.kera_reducer.specs.Rows.{Level, Change, all_plain, changed, except_by_let, indexes, all_levels}
-use Rattle.kera_reducer.specs.Making.{let_of, pairs_type, AllLead, RestsTyped}
-use Rattle.kera_reducer.specs.BuildsTyped.{BuildsTyped, PathTyped, right_side, one_level, ChangesTyped, no_changes, one_change, TypedNode, except, except_let}
-use Rattle.kera_reducer.specs.inner.Settings.{AreBuilt, ChildrenBuilt, counted, numbers_at, positions, scopes}
+use Rattle.kernel_reduction.specs.Reduction.{Numbering, all_fresh, numbered, upward}
+use Rattle.kernel_reduction.specs.Rows.{Level, Change, all_plain, changed, except_by_let, indexes, all_levels}
+use Rattle.kernel_reduction.specs.Making.{let_of, pairs_type, AllLead, RestsTyped}
+use Rattle.kernel_reduction.specs.BuildsTyped.{BuildsTyped, PathTyped, right_side, one_level, ChangesTyped, no_changes, one_change, TypedNode, except, except_let}
+use Rattle.kernel_reduction.specs.inner.Settings.{AreBuilt, ChildrenBuilt, counted, numbers_at, positions, scopes}
 use Rattle.kera_reducer.specs.inner.Excepts.{operands_of, AreNumbered, AllNumbered, IsExceptOf, are_paths, except_tree}
 use Rattle.kera_reducer.proofs.Children.{parted}
-use Rattle.kera_reducer.proofs.Counting.{all_new, numbered_up}
+use Rattle.kernel_reduction.proofs.Counting.{all_new, numbered_up}
 
 -- ---- numbers of a path
 

@@ -15,8 +15,8 @@ use Rattle.kernel_trees.specs.declared.kernel.Ker.{Ker}
 use Rattle.kera_reducer.specs.declared.excepts.Opened.{Opened}
 use Rattle.kera_reducer.specs.declared.excepts.Operands.{Operands}
 use Rattle.kera_reducer.specs.declared.excepts.Pairs.{Pairs}
-use Rattle.kera_reducer.specs.Making.{let_of, field_type}
-use Rattle.kera_reducer.specs.Rows.{item, behind, is_nil, let_in, type_of}
+use Rattle.kernel_reduction.specs.Making.{let_of, field_type}
+use Rattle.kernel_reduction.specs.Rows.{item, behind, is_nil, let_in, type_of}
 use Rattle.kera_reducer.specs.inner.Excepts.{Path, are_paths, IsTaken, IsSplit, woven, all_indexes, paths_of, around, closed, changed_path, changed_by, pair_of, paired, onto, rest_of, nested_type, rest_types, reads, read_operand, read_index, ArePairs, AreRead, IsByLet}
 
 -- ---- stacks

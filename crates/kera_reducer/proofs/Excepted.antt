@@ -14,8 +14,8 @@ use Rattle.kernel_trees.specs.declared.kernel.KerOp.TheVariants as ker
 use Rattle.kernel_trees.specs.Sound.{literal_of}
 use Rattle.kera_reducer.specs.declared.excepts.Opened.{Opened}
 use Rattle.kera_reducer.specs.declared.excepts.Begun.{Begun}
-use Rattle.kera_reducer.specs.Making.{pair_type, let_of, part_at, part_type, Leads, AllLead, pairs_type, RestsTyped}
-use Rattle.kera_reducer.specs.Rows.{tree, bound, item, pair, pairs, place_of, type_of, op_at, is_literal, is_literal_op, is_nil, Let, Level, Change, changed_at, changed, indexes, all_levels, all_plain, behind, read_levels, read_changes, except_by_let, let_in}
+use Rattle.kernel_reduction.specs.Making.{pair_type, let_of, part_at, part_type, Leads, AllLead, pairs_type, RestsTyped}
+use Rattle.kernel_reduction.specs.Rows.{tree, bound, item, pair, pairs, place_of, type_of, op_at, is_literal, is_literal_op, is_nil, Let, Level, Change, changed_at, changed, indexes, all_levels, all_plain, behind, read_levels, read_changes, except_by_let, let_in}
 use Rattle.kera_reducer.specs.inner.Excepts.{operands_of, AreNumbered, AllNumbered, IsExcept, IsExceptOf, are_paths, except_tree, Path, IsSplit, woven, all_indexes, paths_of, closed, start, begun, begun_all, changed_path, changed_by, paired, nested_type, rest_types, read_operand, read_index, reads}
 
 none≢some : {X : Type 0} {x : X} → None ≡ Some x → ⊥

@@ -11,12 +11,12 @@ use Rattle.tla_meaning.specs.Scopes.{same_text}
 use Rattle.tla_meaning.proofs.Views.{and_both, false≢true}
 use Rattle.snowcat_rows.specs.TypeTexts.{are_distinct, is_among}
 use Rattle.snowcat_types.specs.Systems.{parts_of}
-use Rattle.kera_reducer.specs.Literals.{each_once, literal_here, literals_in, literals_of}
-use Rattle.kera_reducer.specs.Origins.{has_node, is_text_op}
-use Rattle.kera_reducer.specs.SoundLaws.{is_foreign, texts_among}
-use Rattle.kera_reducer.proofs.JobTrees.{Each, by_nodes}
-use Rattle.kera_reducer.proofs.NodesKept.{node-roll}
-use Rattle.kera_reducer.proofs.Once.{among_others, literals-roll, others, same_itself}
+use Rattle.kernel_reduction.specs.Literals.{each_once, literal_here, literals_in, literals_of}
+use Rattle.kernel_reduction.specs.Origins.{has_node, is_text_op}
+use Rattle.kernel_reduction.specs.SoundLaws.{is_foreign, texts_among}
+use Rattle.kernel_reduction.proofs.JobTrees.{Each, by_nodes}
+use Rattle.kernel_reduction.proofs.NodesKept.{node-roll}
+use Rattle.kernel_reduction.proofs.Once.{among_others, literals-roll, others, same_itself}
 
 -- ---- no text twice
 

@@ -6,7 +6,7 @@ use Rattle.snowcat_rows.specs.declared.types.Ty.{Ty, Bool as bool_ty, Int, Str, 
 use Rattle.snowcat_rows.specs.TypeTexts.{are_distinct}
 use Rattle.kernel_trees.specs.TypeKinds.{Kind, Set, Seq, Fun, Tup, Rec, kinds, fields, all_there, all_fields_there, kind_of, word_kind}
 use Rattle.kernel_trees.proofs.TypeLaws.{kind-Bool, kind-Int, kind-Str, kind-Named, kind-Var, kind-Set, kind-Seq, kind-Fun, kind-Tup, kind-Rec, kind-open, kind-Oper}
-use Rattle.kera_reducer.specs.SoundLaws.{has_kind}
+use Rattle.kernel_reduction.specs.SoundLaws.{has_kind}
 
 mapped : {X Y : Type 0} (f : X → Y) (o : Option X) → is_some (option_map f o) ≡ is_some o
 mapped f None = refl

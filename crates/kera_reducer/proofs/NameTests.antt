@@ -6,8 +6,8 @@ use Rattle.tla_meaning.specs.declared.expr.Expr.{Expr, out-Expr, roll-out-Expr}
 use Rattle.tla_meaning.specs.declared.op.Op.{Op}
 use Rattle.tla_meaning.specs.declared.op.Op.TheVariants as op
 use Rattle.tla_meaning.specs.Actions.{counts}
-use Rattle.kera_reducer.specs.Reduction.{any_mentioned, mentioned, mentioned_at}
-use Rattle.kera_reducer.proofs.Mentioned.{mentioned-roll}
+use Rattle.kernel_reduction.specs.Reduction.{any_mentioned, mentioned, mentioned_at}
+use Rattle.kernel_reduction.proofs.Mentioned.{mentioned-roll}
 
 mentioned_out : (m : Assignable) (e : Expr) →
     mentioned m e ≡ mentioned_at m (out-Expr e).op (map (mentioned m) (out-Expr e).args)

@@ -9,15 +9,15 @@ use Rattle.snowcat_rows.specs.declared.types.Typed.{Typed}
 use Rattle.kernel_trees.specs.declared.kernel.Ker.{Ker}
 use Rattle.kernel_trees.specs.declared.system.KerJob.{KerJob}
 use Rattle.kernel_trees.specs.Systems.{parts}
-use Rattle.kera_reducer.specs.Builds.{BuildsEach, none_left, one_more}
-use Rattle.kera_reducer.specs.BuildsTyped.{BuildsTyped}
-use Rattle.kera_reducer.specs.BuiltJobs.{IsBuilt}
-use Rattle.kera_reducer.specs.Kernels.{IsKernelOf}
-use Rattle.kera_reducer.specs.SoundLaws.{AllBuilt, positions}
+use Rattle.kernel_reduction.specs.Builds.{BuildsEach, none_left, one_more}
+use Rattle.kernel_reduction.specs.BuildsTyped.{BuildsTyped}
+use Rattle.kernel_reduction.specs.BuiltJobs.{IsBuilt}
+use Rattle.kernel_reduction.specs.Kernels.{IsKernelOf}
+use Rattle.kernel_reduction.specs.SoundLaws.{AllBuilt, positions}
 use Rattle.kera_reducer.specs.inner.Parts.{ArePartsBuilt}
-use Rattle.kera_reducer.proofs.Listing.{take_all, take_more}
-use Rattle.kera_reducer.proofs.Places.{named_end}
-use Rattle.kera_reducer.proofs.TypedBuilt.{typed_is_built}
+use Rattle.kernel_reduction.proofs.Listing.{take_all, take_more}
+use Rattle.kernel_reduction.proofs.Places.{named_end}
+use Rattle.kernel_reduction.proofs.TypedBuilt.{typed_is_built}
 
 pub one_part_more : (es : List Expr) (tss : List (List Ty)) (ks : List Ker) (e : Expr) (ts : List Ty) (k : Ker) →
     ArePartsBuilt es tss ks → BuildsTyped None [] e ts k [] →

@@ -16,15 +16,15 @@ use Rattle.kernel_trees.specs.declared.kernel.KerOp.{KerOp}
 use Rattle.kernel_trees.specs.declared.kernel.KerOp.TheVariants as ker
 use Rattle.kera_reducer.specs.declared.making.Made.{Made}
 use Rattle.kera_reducer.specs.declared.naming.NamedPair.{NamedPair}
-use Rattle.kera_reducer.specs.Reduction.{Numbering}
-use Rattle.kera_reducer.specs.Builds.{has_arm}
-use Rattle.kera_reducer.specs.BuildsTyped as typed
-use Rattle.kera_reducer.specs.BuildsTyped.{BuildsTyped, EachTyped, TypedNode, none_left, one_more, is_record, is_tuple}
-use Rattle.kera_reducer.specs.Making.{let_of}
-use Rattle.kera_reducer.specs.Rows.{tree, node, negation, bound, implication, equivalence, item, item_by_let, pair, place_of, single, let_in, number, op_at, power_body, product, truth, nested_ifs, type_of}
-use Rattle.kera_reducer.specs.inner.Settings.{counted}
+use Rattle.kernel_reduction.specs.Reduction.{Numbering}
+use Rattle.kernel_reduction.specs.Builds.{has_arm}
+use Rattle.kernel_reduction.specs.BuildsTyped as typed
+use Rattle.kernel_reduction.specs.BuildsTyped.{BuildsTyped, EachTyped, TypedNode, none_left, one_more, is_record, is_tuple}
+use Rattle.kernel_reduction.specs.Making.{let_of}
+use Rattle.kernel_reduction.specs.Rows.{tree, node, negation, bound, implication, equivalence, item, item_by_let, pair, place_of, single, let_in, number, op_at, power_body, product, truth, nested_ifs, type_of}
+use Rattle.kernel_reduction.specs.inner.Settings.{counted}
 use Rattle.kera_reducer.specs.inner.Standing.{IsField, IsItem, IsNamedPair, IsSame, MakesOf, function_of, is_negated, large_power_of, let_at, pairs_of, read_of, same_truth_of, small_power_of}
-use Rattle.kera_reducer.proofs.Counting.{after_next_apart, new_number, next_apart, three_new, two_new}
+use Rattle.kernel_reduction.proofs.Counting.{after_next_apart, new_number, next_apart, three_new, two_new}
 
 -- no tree is built of no expression
 none_each : {i : Option Assignable} {ρ : Numbering} {es : List Expr} {ts us : List Ty} → EachTyped i ρ es ts [] us →

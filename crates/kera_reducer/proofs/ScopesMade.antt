@@ -13,15 +13,15 @@ use Rattle.kernel_trees.specs.declared.kernel.Ker.{Ker}
 use Rattle.kernel_trees.specs.declared.kernel.KerOp.{KerOp}
 use Rattle.kernel_trees.specs.declared.kernel.KerOp.TheVariants as ker
 use Rattle.kera_reducer.specs.declared.making.Made.{Made}
-use Rattle.kera_reducer.specs.Reduction.{all_fresh, numbered, upward}
-use Rattle.kera_reducer.specs.Builds.{passes_on}
-use Rattle.kera_reducer.specs.BuildsTyped as typed
-use Rattle.kera_reducer.specs.BuildsTyped.{BuildsTyped, EachTyped, TypedNode}
-use Rattle.kera_reducer.specs.Rows.{tree}
-use Rattle.kera_reducer.specs.inner.Settings.{AreBuilt, binds_behind, binds_some, counted, passing, position_at, positions, scopes, is_passed}
+use Rattle.kernel_reduction.specs.Reduction.{all_fresh, numbered, upward}
+use Rattle.kernel_reduction.specs.Builds.{passes_on}
+use Rattle.kernel_reduction.specs.BuildsTyped as typed
+use Rattle.kernel_reduction.specs.BuildsTyped.{BuildsTyped, EachTyped, TypedNode}
+use Rattle.kernel_reduction.specs.Rows.{tree}
+use Rattle.kernel_reduction.specs.inner.Settings.{AreBuilt, binds_behind, binds_some, counted, passing, position_at, positions, scopes, is_passed}
 use Rattle.kera_reducer.specs.inner.Standing.{IsBinderOf, Makes, MakesOf, MakesValue}
 use Rattle.kera_reducer.proofs.Children.{back_built, each_built, front_built, parted}
-use Rattle.kera_reducer.proofs.Counting.{all_new, numbered_up}
+use Rattle.kernel_reduction.proofs.Counting.{all_new, numbered_up}
 use Rattle.kera_reducer.proofs.ChildNumbers.{names_behind, names_none}
 
 abbrev position_by : Bool → Option Assignable

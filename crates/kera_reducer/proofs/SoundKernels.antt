@@ -13,13 +13,13 @@ use Rattle.kernel_trees.specs.declared.system.KerJob.{KerJob}
 use Rattle.kernel_trees.specs.Sound.{passes}
 use Rattle.kernel_trees.specs.Systems.{constants_first, kinds_of_names, parts, sound_part}
 use Rattle.snowcat_rows.specs.TypeTexts.{are_distinct}
-use Rattle.kera_reducer.specs.Infinite.{IsLeastIfAny, infinite_places}
-use Rattle.kera_reducer.specs.Kernels.{IsKernelOf, IsSoundKernel}
-use Rattle.kera_reducer.specs.Literals.{all_literals}
-use Rattle.kera_reducer.specs.SoundLaws.{are_kinded, is_whole_job, texts_among}
-use Rattle.kera_reducer.specs.WellFormed.{are_apart}
+use Rattle.kernel_reduction.specs.Infinite.{IsLeastIfAny, infinite_places}
+use Rattle.kernel_reduction.specs.Kernels.{IsKernelOf, IsSoundKernel}
+use Rattle.kernel_reduction.specs.Literals.{all_literals}
+use Rattle.kernel_reduction.specs.SoundLaws.{are_kinded, is_whole_job, texts_among}
+use Rattle.kernel_reduction.specs.WellFormed.{are_apart}
 use Rattle.kera_reducer.proofs.KernelTexts.{job_texts_among, once_distinct}
-use Rattle.kera_reducer.proofs.SoundJobs.{parts_are_sound}
+use Rattle.kernel_reduction.proofs.SoundJobs.{parts_are_sound}
 
 -- a place would stand at the front of the list
 none_is : (ps : List Place) → ((p : Place) → Contains ps p → ⊥) → ps ≡ []

@@ -14,7 +14,7 @@ use Rattle.tla_meaning.specs.declared.op.Op.TheVariants as op
 use Rattle.snowcat_rows.specs.Types.{Term}
 use Rattle.snowcat_types.specs.Rows.{Operand, branches, from_type, index_types, plain, reached_after, sets_of, typed_names, update_operands}
 use Rattle.snowcat_types.specs.TypeForms.{bool_type}
-use Rattle.kera_reducer.specs.Whole.{is_whole, operand_count, whole_node}
+use Rattle.kernel_reduction.specs.Whole.{is_whole, operand_count, whole_node}
 use Rattle.kera_reducer.specs.inner.Wholes.{is_node_whole, update_count, updates_count}
 
 pub so_many : (n : ℕ) (t : Term) → length (map plain (replicate n t)) ≡ n

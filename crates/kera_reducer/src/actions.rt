@@ -2,7 +2,7 @@
 ghost use Rattle.std.specs.Prelude.{◌≡◌, ◌∷◌, IfOk, Some, [], length};
 ghost use Rattle.snowcat_rows.specs.declared.types.Ty.TheVariants.{Bool as bool_type};
 ghost use Rattle.kernel_trees.specs.declared.kernel.KerOp.TheVariants.{Some as some_op};
-ghost use Rattle.kera_reducer.specs.Rows.{guard_of, tree};
+ghost use Rattle.kernel_reduction.specs.Rows.{guard_of, tree};
 ghost use Rattle.kera_reducer.specs.inner.Standing.{IsBranching, Makes};
 
 use crate::cases::split_case;

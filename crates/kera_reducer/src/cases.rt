@@ -2,8 +2,8 @@
 ghost use Rattle.std.specs.Prelude.{◌≡◌, ◌++◌, ◌∷◌, Bool, IfOk, OnOk, []};
 ghost use Rattle.tla_meaning.specs.declared.op.Op.TheVariants.{Case as case_op};
 ghost use Rattle.snowcat_rows.specs.declared.types.Ty.TheVariants.{Bool as bool_type};
-ghost use Rattle.kera_reducer.specs.Builds.{has_arm};
-ghost use Rattle.kera_reducer.specs.Rows.{case_branches};
+ghost use Rattle.kernel_reduction.specs.Builds.{has_arm};
+ghost use Rattle.kernel_reduction.specs.Rows.{case_branches};
 ghost use Rattle.kera_reducer.specs.inner.Standing.{AreBranches, IsSplitCase, MakesOf, arm_node, flat, nested};
 
 use crate::making::Made;

@@ -3,7 +3,7 @@ ghost use Rattle.std.specs.Prelude.{◌≡◌, [], IfOk, Some, length, nat_eq, n
 ghost use Rattle.std.specs.List.{list_all};
 ghost use Rattle.tla_values.specs.declared.value.Value.{out-Value};
 ghost use Rattle.tla_meaning.specs.declared.op.Op.TheVariants.{Except as except_op};
-ghost use Rattle.kera_reducer.specs.Rows.{all_plain, behind, is_literal_op, is_plain, is_plain_value, item};
+ghost use Rattle.kernel_reduction.specs.Rows.{all_plain, behind, is_literal_op, is_plain, is_plain_value, item};
 ghost use Rattle.kera_reducer.specs.inner.Excepts.{AreChildren, AreIndexesRead, ArePairs, AreRead, IsBegun, IsChanged, IsChangedAt, IsChangedByLet, IsExceptMade, IsIndexRead, IsLetOfPairs, IsOperandRead, IsPopped, are_paths, around, begun, closed, pair_of, paired, rest_of, rest_types};
 ghost use Rattle.kera_reducer.specs.inner.Standing.{MakesValue};
 

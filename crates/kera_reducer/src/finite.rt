@@ -1,8 +1,8 @@
 // The infinite sets that stand outside a form position.
 ghost use Rattle.std.specs.Prelude.{◌≡◌, ◌++◌, ◌&&◌, List, false, flat_map, map, not};
 ghost use Rattle.tla_meaning.specs.declared.place.Place.{Place};
-ghost use Rattle.kera_reducer.specs.Infinite.{IsLeastIfAny, form_child, infinite_here, infinite_in, is_infinite};
-ghost use Rattle.kera_reducer.specs.inner.Least.{IsLeast};
+ghost use Rattle.kernel_reduction.specs.Infinite.{IsLeastIfAny, form_child, infinite_here, infinite_in, is_infinite};
+ghost use Rattle.kernel_reduction.specs.inner.Least.{IsLeast};
 ghost use Rattle.snowcat_types.specs.inner.Telling.{earlier};
 
 use tla_meaning::{Expr, Job, Op, Place};

@@ -2,7 +2,7 @@
 ghost use Rattle.std.specs.Prelude.{◌≡◌, map};
 ghost use Rattle.std.specs.List.{list_all};
 ghost use Rattle.snowcat_rows.specs.TypeTexts.{are_distinct, is_among};
-ghost use Rattle.kera_reducer.specs.SoundLaws.{are_kinded, has_kind};
+ghost use Rattle.kernel_reduction.specs.SoundLaws.{are_kinded, has_kind};
 
 use snowcat_rows::{Ty, Typed};
 use tla_values::{List, Text};

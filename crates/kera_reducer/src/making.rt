@@ -1,6 +1,6 @@
 // The tree of a node from those of its children.
 ghost use Rattle.std.specs.Prelude.{◌≡◌, ◌+◌, IfOk, []};
-ghost use Rattle.kera_reducer.specs.Rows.{tree};
+ghost use Rattle.kernel_reduction.specs.Rows.{tree};
 ghost use Rattle.kera_reducer.specs.inner.Standing.{Makes, MakesOf, MakesValue};
 
 use crate::actions::action;

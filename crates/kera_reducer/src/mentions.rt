@@ -1,6 +1,6 @@
 // Which trees hold a name that an action may assign.
 ghost use Rattle.std.specs.Prelude.{◌≡◌};
-ghost use Rattle.kera_reducer.specs.Reduction.{any_mentioned, mentioned};
+ghost use Rattle.kernel_reduction.specs.Reduction.{any_mentioned, mentioned};
 
 use kernel_trees::counts;
 use tla_meaning::{Assignable, Expr, Op};

@@ -3,8 +3,8 @@ ghost use Rattle.std.specs.Prelude.{◌≡◌, ◌∷◌, IfOk, []};
 ghost use Rattle.tla_meaning.specs.declared.op.Op.TheVariants.{Apply as apply, Iff as iff, Single as single};
 ghost use Rattle.snowcat_rows.specs.declared.types.Ty.TheVariants.{Seq as seq_type, Set as set_type};
 ghost use Rattle.kernel_trees.specs.declared.kernel.KerOp.TheVariants.{SeqOf as seq_op, SetOf as set_op};
-ghost use Rattle.kera_reducer.specs.Making.{pair_type};
-ghost use Rattle.kera_reducer.specs.Rows.{item, node, pair, type_of};
+ghost use Rattle.kernel_reduction.specs.Making.{pair_type};
+ghost use Rattle.kernel_reduction.specs.Rows.{item, node, pair, type_of};
 ghost use Rattle.kera_reducer.specs.inner.Standing.{IsField, IsItem, IsNamedPair, MakesOf, fold_of, function_of, item_let_of, let_of_node, longer_of, read_of, same_truth_of};
 
 use crate::making::Made;

@@ -3,8 +3,8 @@ ghost use Rattle.std.specs.Prelude.{◌≡◌, ◌∷◌, IfOk, OnOk, [], map, p
 ghost use Rattle.tla_values.specs.declared.value.Value.TheVariants.{Int as int_value};
 ghost use Rattle.snowcat_rows.specs.declared.types.Ty.TheVariants.{Bool as bool_type};
 ghost use Rattle.kernel_trees.specs.declared.kernel.KerOp.TheVariants.{Const as const_op, If as if_op};
-ghost use Rattle.kera_reducer.specs.Reduction.{upward};
-ghost use Rattle.kera_reducer.specs.Rows.{bound, negation, node, number, op_at, tree, truth, twice_negated};
+ghost use Rattle.kernel_reduction.specs.Reduction.{upward};
+ghost use Rattle.kernel_reduction.specs.Rows.{bound, negation, node, number, op_at, tree, truth, twice_negated};
 
 use kernel_trees::{Ker, KerOp, copy_ker};
 use snowcat_rows::Ty;

@@ -1,7 +1,7 @@
 // Operators that the kernel has, and those that a few nodes stand for.
 ghost use Rattle.std.specs.Prelude.{◌≡◌, IfOk, IfSome, true};
 ghost use Rattle.tla_meaning.specs.declared.op.Op.TheVariants.{BooleanSet as boolean_set, Gt as greater, Implies as implies, IsFinite as is_finite, Le as less_or_equal, Neg as negated_number, Range as interval};
-ghost use Rattle.kera_reducer.specs.BuildsTyped.{is_applied};
+ghost use Rattle.kernel_reduction.specs.BuildsTyped.{is_applied};
 ghost use Rattle.kera_reducer.specs.inner.Standing.{IsFixed, IsSame, MakesOf, is_negated};
 
 use crate::cases::nested_ifs;

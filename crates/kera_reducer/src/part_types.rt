@@ -5,7 +5,7 @@ ghost use Rattle.tla_values.specs.declared.value.Value.{Value, out-Value};
 ghost use Rattle.tla_values.specs.declared.value.Value.TheOpen.{Int as int_layer};
 ghost use Rattle.snowcat_rows.specs.declared.types.Ty.{out-Ty};
 ghost use Rattle.snowcat_rows.specs.declared.types.Ty.TheOpen.{Rec as record_layer, Tup as tuple_layer};
-ghost use Rattle.kera_reducer.specs.Making.{field_type, part_at, part_type};
+ghost use Rattle.kernel_reduction.specs.Making.{field_type, part_at, part_type};
 
 use kernel_trees::KerOp;
 use snowcat_rows::{Ty, copy_type};

@@ -1,7 +1,7 @@
 // In which position the children of a node stand, and what it binds in them.
 ghost use Rattle.std.specs.Prelude.{◌≡◌, ◌<◌, IfOk};
-ghost use Rattle.kera_reducer.specs.Builds.{passes_on};
-ghost use Rattle.kera_reducer.specs.inner.Settings.{binds_behind, binds_some, is_odd, is_passed, names_at, numbers_at, passing, position_at};
+ghost use Rattle.kernel_reduction.specs.Builds.{passes_on};
+ghost use Rattle.kernel_reduction.specs.inner.Settings.{binds_behind, binds_some, is_odd, is_passed, names_at, numbers_at, passing, position_at};
 
 use crate::mentions::any_mentions;
 use std::alloc::AllocError;

@@ -2,7 +2,7 @@
 ghost use Rattle.std.specs.Prelude.{◌≡◌, IfOk, suc};
 ghost use Rattle.tla_meaning.specs.declared.op.Op.TheVariants.{Pow as power_op};
 ghost use Rattle.snowcat_rows.specs.declared.types.Ty.TheVariants.{Bool as bool_type};
-ghost use Rattle.kera_reducer.specs.Rows.{bound, number, place_of, power_body, product, type_of};
+ghost use Rattle.kernel_reduction.specs.Rows.{bound, number, place_of, power_body, product, type_of};
 ghost use Rattle.kera_reducer.specs.inner.Standing.{MakesOf, choice, large_power_of, less, once_of, small_body_of, small_power_of, times};
 
 use crate::making::Made;

@@ -2,7 +2,7 @@
 ghost use Rattle.std.specs.Prelude.{◌≡◌, ◌++◌, ◌∷◌, IfOk, OnOk, Some, replicate};
 ghost use Rattle.tla_meaning.specs.Scopes.{find_last};
 ghost use Rattle.tla_meaning.specs.declared.expr.Expr.{out-Expr};
-ghost use Rattle.kera_reducer.specs.inner.Settings.{counted, names_at, updated_names};
+ghost use Rattle.kernel_reduction.specs.inner.Settings.{counted, names_at, updated_names};
 ghost use Rattle.kera_reducer.specs.inner.Standing.{ReducesChildren, ReducesNode, Reduces, IsBoundName, names_of};
 
 use crate::making::{Made, as_number, make};

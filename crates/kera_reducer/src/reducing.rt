@@ -1,9 +1,9 @@
 // Jobs as kernel trees.
 ghost use Rattle.std.specs.Prelude.{◌≡◌, IfOk, [], map};
-ghost use Rattle.kera_reducer.specs.BuildsTyped.{BuildsTyped};
-ghost use Rattle.kera_reducer.specs.BuiltJobs.{IsBuilt};
-ghost use Rattle.kera_reducer.specs.Kernels.{IsKernelOf, IsReduced, IsSoundKernel};
-ghost use Rattle.kera_reducer.specs.WellFormed.{is_well_formed};
+ghost use Rattle.kernel_reduction.specs.BuildsTyped.{BuildsTyped};
+ghost use Rattle.kernel_reduction.specs.BuiltJobs.{IsBuilt};
+ghost use Rattle.kernel_reduction.specs.Kernels.{IsKernelOf, IsReduced, IsSoundKernel};
+ghost use Rattle.kernel_reduction.specs.WellFormed.{is_well_formed};
 ghost use Rattle.kera_reducer.specs.inner.Parts.{ArePartsBuilt};
 ghost use Rattle.kernel_trees.specs.Systems.{constants_first};
 

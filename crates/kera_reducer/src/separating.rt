@@ -6,9 +6,9 @@ ghost use Rattle.tla_meaning.specs.Scopes.{same_text};
 ghost use Rattle.tla_meaning.specs.Symbols.{same_place};
 ghost use Rattle.tla_meaning.specs.declared.expr.Expr.{out-Expr};
 ghost use Rattle.kernel_shapes.specs.Trees.{is_bound_name, is_except};
-ghost use Rattle.kera_reducer.specs.JobPaths.{below_notes};
-ghost use Rattle.kera_reducer.specs.SizeLaws.{begins_below, goes_on, is_apart};
-ghost use Rattle.kera_reducer.specs.WellFormed.{are_apart};
+ghost use Rattle.kernel_reduction.specs.JobPaths.{below_notes};
+ghost use Rattle.kernel_reduction.specs.SizeLaws.{begins_below, goes_on, is_apart};
+ghost use Rattle.kernel_reduction.specs.WellFormed.{are_apart};
 
 use tla_meaning::{Expr, Job, Op, Place};
 use tla_values::Text;

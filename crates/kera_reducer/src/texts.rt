@@ -1,6 +1,6 @@
 // The text literals of a job.
 ghost use Rattle.std.specs.Prelude.{◌≡◌, ◌++◌, IfOk, OnOk, flat_map, map};
-ghost use Rattle.kera_reducer.specs.Literals.{all_literals, each_once, literal_here, literals_in, literals_of};
+ghost use Rattle.kernel_reduction.specs.Literals.{all_literals, each_once, literal_here, literals_in, literals_of};
 
 use indexmap::IndexSet;
 use std::alloc::{AllocError, Global};

@@ -3,8 +3,8 @@ ghost use Rattle.std.specs.Prelude.{◌≡◌, length, map, nat_eq, suc};
 ghost use Rattle.std.specs.List.{list_all};
 ghost use Rattle.tla_meaning.specs.declared.expr.Expr.{out-Expr};
 ghost use Rattle.snowcat_rows.specs.TypeTexts.{are_distinct, is_among};
-ghost use Rattle.kera_reducer.specs.SoundLaws.{is_whole_job};
-ghost use Rattle.kera_reducer.specs.Whole.{binds_enough, is_declared, is_whole, names_enough, operand_count};
+ghost use Rattle.kernel_reduction.specs.SoundLaws.{is_whole_job};
+ghost use Rattle.kernel_reduction.specs.Whole.{binds_enough, is_declared, is_whole, names_enough, operand_count};
 ghost use Rattle.kera_reducer.specs.inner.Wholes.{is_node_whole, update_count};
 
 use tla_meaning::{Expr, Job, Op};

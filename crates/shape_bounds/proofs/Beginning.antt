@@ -16,6 +16,7 @@ use Rattle.shape_bounds.specs.declared.levels.Level.{Level}
 use Rattle.shape_bounds.specs.declared.limits.Excess.{Excess}
 use Rattle.shape_bounds.specs.declared.names.Names.{Names}
 use Rattle.shape_bounds.specs.Excesses.{rank_of}
+use Rattle.shape_bounds.specs.Extents.{given_shape, given_shapes}
 use Rattle.shape_bounds.specs.inner.Stage.{ConstantsAre, IsBefore, IsFirst, IsFirstAt, IsNamed, StartsAt, StepsTo}
 use Rattle.shape_bounds.specs.inner.Turns.{IsLevel}
 use Rattle.shape_bounds.specs.inner.Walks.{some_shapes}
@@ -41,6 +42,23 @@ some_whole ss n got h l = h ∙ ap (map some_mean) (all_taken ss n l) ∙ by ss
     by : (xs : List Code) → map some_mean xs ≡ map (λ a. Some a) (map mean xs)
     by [] = refl
     by (x ∷ xs) = ap (λ (as' : List (Option Shape)). some_mean x ∷ as') (by xs)
+
+-- names of which some have none
+abbrev pub given_mean : Code → Option Shape
+given_mean s = given_shape (mean s)
+
+pub given_more : (ss : List Code) (n : ℕ) (x : Code) (o : Option Code) (got new : List (Option Code)) → some_shapes got ≡ map given_mean (take n ss) → n < length ss → x ≡ get_or ss n x →
+    option_map mean o ≡ given_mean x → new ≡ got ++ o ∷ [] → some_shapes new ≡ map given_mean (take (n + 1) ss)
+given_more ss n x o got new h l e m f =
+    let one : suc n ≡ n + 1 = omega arith in
+    ap some_shapes f ∙ mapped_end (option_map mean) got o ∙ ap₂ (λ (as' : List (Option Shape)) (a : Option Shape). as' ++ a ∷ []) h m ∙ mapped_next given_mean ss n x l e ∙ ap (λ (i : ℕ). map given_mean (take i ss)) one
+
+pub given_whole : (ss : List Code) (n : ℕ) (got : List (Option Code)) → some_shapes got ≡ map given_mean (take n ss) → length ss ≤ n → some_shapes got ≡ given_shapes ss
+given_whole ss n got h l = h ∙ ap (map given_mean) (all_taken ss n l) ∙ by ss
+  where
+    by : (xs : List Code) → map given_mean xs ≡ given_shapes xs
+    by [] = refl
+    by (x ∷ xs) = ap (λ (as' : List (Option Shape)). given_mean x ∷ as') (by xs)
 
 abbrev pub constant_shape : Bool → Shape → Option Shape
 constant_shape b a = if b then Some a else None

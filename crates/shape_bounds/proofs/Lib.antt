@@ -32,4 +32,5 @@ pub mod TypedLevel
 pub mod Stacked
 pub mod ExtentsUnder
 pub mod BoundTrees
+pub mod BoundNodes
 pub mod HasBounds

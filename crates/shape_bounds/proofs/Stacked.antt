@@ -8,7 +8,7 @@ use Rattle.kernel_shapes.specs.Kernel.{ker_shape, ker_sized}
 use Rattle.kernel_shapes.specs.Shape.{Shape}
 use Rattle.kernel_shapes.specs.Sized.{Extent, bind_shapes, bound_shapes, walked}
 use Rattle.shape_bounds.specs.declared.names.Names.{Names}
-use Rattle.shape_bounds.specs.Extents.{all_some, extent_of, kept_extent}
+use Rattle.shape_bounds.specs.Extents.{extent_of, given_shapes, kept_extent}
 use Rattle.shape_bounds.specs.Kept.{IsWidth, capped}
 use Rattle.shape_bounds.specs.Sizes.{IsBound, Reads, SameNames, Sizes, bound_name}
 use Rattle.shape_bounds.specs.inner.Stage.{IsNamed}
@@ -82,7 +82,7 @@ extended_is old one two new b r xs as' h e k l = record {
 }
 
 -- the declared names have these shapes
-pub given_stands : (s : Names) (w : ℕ) (now next : List Code) (b : Stack) (g : Extent) → IsNamed s w (all_some now) (all_some next) → kept_extent g ≡ extent_of now next b → kept_extent g ≡ stacked s b
+pub given_stands : (s : Names) (w : ℕ) (now next : List Code) (b : Stack) (g : Extent) → IsNamed s w (given_shapes now) (given_shapes next) → kept_extent g ≡ extent_of now next b → kept_extent g ≡ stacked s b
 given_stands s w now next b g h e = e ∙ sym (same_extent _ _ _ (extent_of now next b) h.state h.after refl)
 
 -- ---- the shape of a tree at a stack, and at each

@@ -1,9 +1,9 @@
 -- Extents as the code has them, whose shapes have their numbers of members kept. Source: Konnov, Kukovec and Tran,
 -- "TLA+ Model Checking Made Symbolic", OOPSLA 2019, on the static bounds of cells and arenas.
-use Rattle.std.specs.Prelude.{ℕ, List, map, Option, Some, option_map}
+use Rattle.std.specs.Prelude.{ℕ, List, map, Option, Some, None, option_map}
 use Rattle.kernel_shapes.specs.declared.bounds.Shape.{Shape as Code}
 use Rattle.kernel_shapes.specs.Codes.{mean}
-use Rattle.kernel_shapes.specs.Shape.{Shape}
+use Rattle.kernel_shapes.specs.Shape.{Shape, Empty}
 use Rattle.kernel_shapes.specs.Sized.{Extent}
 use Rattle.shape_bounds.specs.Kept.{capped}
 use Rattle.shape_bounds.specs.Sizes.{bound_name, kept_name}
@@ -16,11 +16,19 @@ kept_extent g = record {
   bound = map kept_name g.bound;
 }
 
--- each name has a shape
-abbrev pub all_some : List Code → List (Option Shape)
-all_some as' = map (λ a. Some a) (map mean as')
+-- the shape of a name; Empty, which no value fits, stands for none
+abbrev pub given_shape : Shape → Option Shape
+given_shape Empty = None
+given_shape a = Some a
+
+abbrev pub given_shapes : List Code → List (Option Shape)
+given_shapes as' = map given_shape (map mean as')
 
 -- the declared names have these shapes in a state and in the next one, and bound numbers those, the last of a number
 -- counting
 abbrev pub extent_of : List Code → List Code → List (ℕ × Code) → Extent
-extent_of now next bound = record { now = all_some now; next = all_some next; bound = map bound_name bound }
+extent_of now next bound = record {
+  now = given_shapes now;
+  next = given_shapes next;
+  bound = map bound_name bound;
+}

@@ -30,6 +30,8 @@ mod updates;
 
 pub use limits::Excess;
 pub use names::{Names, Site};
+pub use parts::{copy_part, inside};
+pub use paths::Target;
 pub use shape_fault::ShapeFault;
 pub use stages::{shapes, shapes_from, typed_shapes};
 pub use trees::{shape_of, with_bounds};

@@ -30,8 +30,8 @@ pub(crate) fn count(a: &Shape) -> u64
     }
 }
 
-// The shape of members, arguments or places; none is Empty.
-pub(crate) fn inside(a: &Shape) -> Option<&Shape>
+/// The shape of members, arguments or places; none is Empty.
+pub fn inside(a: &Shape) -> Option<&Shape>
     ensures { part result ≡ inside (mean a.now) }
 {
     match a {
@@ -54,8 +54,8 @@ pub(crate) fn result_of(a: &Shape) -> Option<&Shape>
     }
 }
 
-// A copy of a shape; none is Empty.
-pub(crate) fn copy_part(alloc: Global, a: Option<&Shape>) -> Result<Shape, AllocError>
+/// A copy of a shape; none is Empty.
+pub fn copy_part(alloc: Global, a: Option<&Shape>) -> Result<Shape, AllocError>
     ensures { IfOk result (λ r. mean r ≡ part a.entry) }
 {
     match a {

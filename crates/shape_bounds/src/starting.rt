@@ -3,7 +3,7 @@ ghost use Rattle.std.specs.Prelude.{None, Some, ◌≡◌, IfOk, if◌then◌els
 ghost use Rattle.kernel_shapes.specs.Codes.{mean};
 ghost use Rattle.kernel_shapes.specs.Levels.{kept_constants};
 ghost use Rattle.kernel_shapes.specs.Systems.{system_parts};
-ghost use Rattle.shape_bounds.specs.Extents.{all_some};
+ghost use Rattle.shape_bounds.specs.Extents.{given_shape, given_shapes};
 ghost use Rattle.shape_bounds.specs.inner.Stage.{ConstantsAre, IsBefore, IsFirstAt, IsNamed, StartsAt, StepsTo};
 ghost use Rattle.shape_bounds.specs.inner.Walks.{some_shapes};
 ghost use Rattle.shape_bounds.specs.Kept.{IsWidth};
@@ -130,23 +130,27 @@ fn from_state(
     Ok(Names::new(alloc, width, state, next))
 }
 
+// Each name has a shape, in the state and in the next one.
 fn at_state(alloc: Global, shapes: &[Shape], width: u32) -> Result<Names, AllocError>
-    ensures { IfOk result (λ r. IsNamed r width (all_some shapes.now) (all_some shapes.now)) }
+    ensures { IfOk result (λ r. IsNamed r width (map (λ a. Some a) (map mean shapes.now))
+        (map (λ a. Some a) (map mean shapes.now))) }
 {
-    names_with(alloc, shapes, shapes, width)
+    let state = some_each(alloc, shapes)?;
+    let after = some_each(alloc, shapes)?;
+    Ok(Names::new(alloc, width, state, after))
 }
 
-// Each name has a shape in the state and in the next one.
+// Names have these shapes in the state and in the next one; a name of Empty has none.
 pub(crate) fn names_with(
     alloc: Global,
     now: &[Shape],
     next: &[Shape],
     width: u32,
 ) -> Result<Names, AllocError>
-    ensures { IfOk result (λ r. IsNamed r width (all_some now.now) (all_some next.now)) }
+    ensures { IfOk result (λ r. IsNamed r width (given_shapes now.now) (given_shapes next.now)) }
 {
-    let state = some_each(alloc, now)?;
-    let after = some_each(alloc, next)?;
+    let state = given_each(alloc, now)?;
+    let after = given_each(alloc, next)?;
     Ok(Names::new(alloc, width, state, after))
 }
 
@@ -161,7 +165,7 @@ fn none_each(alloc: Global, fixed: &[bool]) -> Result<Vec<Option<Shape>>, AllocE
 }
 
 fn some_each(alloc: Global, shapes: &[Shape]) -> Result<Vec<Option<Shape>>, AllocError>
-    ensures { IfOk result (λ r. some_shapes r.items ≡ all_some shapes.now) }
+    ensures { IfOk result (λ r. some_shapes r.items ≡ map (λ a. Some a) (map mean shapes.now)) }
 {
     let mut names = Vec::new(alloc);
     for i in 0..shapes.len() {
@@ -169,6 +173,35 @@ fn some_each(alloc: Global, shapes: &[Shape]) -> Result<Vec<Option<Shape>>, Allo
         names.push(Some(shape))?;
     }
     Ok(names)
+}
+
+fn given_each(alloc: Global, shapes: &[Shape]) -> Result<Vec<Option<Shape>>, AllocError>
+    ensures { IfOk result (λ r. some_shapes r.items ≡ given_shapes shapes.now) }
+{
+    let mut names = Vec::new(alloc);
+    for i in 0..shapes.len() {
+        let name = given(alloc, &shapes[i])?;
+        names.push(name)?;
+    }
+    Ok(names)
+}
+
+// Empty stands for no shape.
+fn given(alloc: Global, shape: &Shape) -> Result<Option<Shape>, AllocError>
+    ensures { IfOk result (λ r. option_map mean r ≡ given_shape (mean shape.now)) }
+{
+    match shape {
+        Shape::Empty => Ok(None),
+        Shape::Atom | Shape::Num(..) | Shape::Set(..) | Shape::Fun(..) => some_copy(alloc, shape),
+        Shape::Seq(..) | Shape::Rec(_) | Shape::Tup(_) => some_copy(alloc, shape),
+    }
+}
+
+fn some_copy(alloc: Global, shape: &Shape) -> Result<Option<Shape>, AllocError>
+    ensures { IfOk result (λ r. option_map mean r ≡ Some (mean shape.now)) }
+{
+    let copy = copy_shape(alloc, shape)?;
+    Ok(Some(copy))
 }
 
 fn constants_each(

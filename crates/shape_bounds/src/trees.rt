@@ -17,8 +17,8 @@ use tla_values::List;
 
 /// The shape of a kernel tree where the declared names have the shapes `now` in a state of this width and `next` in the
 /// next one, and the bound numbers those of `bound`, the last of a number counting: in numbers of members up to
-/// 2^64 - 1, which stands for all greater ones. (Konnov, Kukovec and Tran, "TLA+ Model Checking Made Symbolic", OOPSLA
-/// 2019, on static bounds of cells.)
+/// 2^64 - 1, which stands for all greater ones. Both lists have a shape for each name, `Empty` where it has none. (Konnov,
+/// Kukovec and Tran, "TLA+ Model Checking Made Symbolic", OOPSLA 2019, on static bounds of cells.)
 ///
 /// Want of memory stands also for a tree that is not sound, and for a fold of 2^64 - 1 steps or more.
 pub fn shape_of(
@@ -37,10 +37,11 @@ pub fn shape_of(
     names.shape_at(e, bound)
 }
 
-/// The tree, changed in its ranges alone: behind its two ends each `Range` has as integer constants the least and the
-/// greatest of the numbers that its shapes allow, over all extents in which it is evaluated where the names have these
-/// shapes, and 0 and 0 where they allow none. Bounds that it has already go. (Konnov, Kukovec and Tran, "TLA+ Model
-/// Checking Made Symbolic", OOPSLA 2019, on static bounds of cells.)
+/// The tree, changed in its ranges alone: behind its two ends each `Range` has as integer constants the ends of the hull of
+/// its numbers, over all extents in which it is evaluated where the names have these shapes. An interval upside down gives
+/// its ends as they are, and a set without numbers 0 and 0. Bounds that it has already go. Both lists have a shape for each
+/// name, `Empty` where it has none. (Konnov, Kukovec and Tran, "TLA+ Model Checking Made Symbolic", OOPSLA 2019, on static
+/// bounds of cells.)
 ///
 /// Want of memory stands also for a tree that is not sound, and for a fold of 2^64 - 1 steps or more.
 pub fn with_bounds(

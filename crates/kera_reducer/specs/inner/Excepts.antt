@@ -11,8 +11,8 @@ use Rattle.kera_reducer.specs.declared.excepts.Operands.{Operands}
 use Rattle.kera_reducer.specs.declared.excepts.Pairs.{Pairs}
 use Rattle.kera_reducer.specs.declared.excepts.Children.{Children}
 use Rattle.kera_reducer.specs.declared.making.Made.{Made}
-use Rattle.kera_reducer.specs.Making.{pair_type, let_of, part_type, AllLead, pairs_type, RestsTyped}
-use Rattle.kera_reducer.specs.Rows.{tree, bound, pair, type_of, op_at, is_nil, Level, Change, changed, indexes, all_levels, all_plain, operand_at, index_at, except_by_let, let_in}
+use Rattle.kernel_reduction.specs.Making.{pair_type, let_of, part_type, AllLead, pairs_type, RestsTyped}
+use Rattle.kernel_reduction.specs.Rows.{tree, bound, pair, type_of, op_at, is_nil, Level, Change, changed, indexes, all_levels, all_plain, operand_at, index_at, except_by_let, let_in}
 
 -- ---- an EXCEPT
 

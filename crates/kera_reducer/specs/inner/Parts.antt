@@ -3,7 +3,7 @@ use Rattle.std.specs.Prelude.{List, [], ◌∷◌, None}
 use Rattle.tla_meaning.specs.declared.expr.Expr.{Expr}
 use Rattle.snowcat_rows.specs.declared.types.Ty.{Ty}
 use Rattle.kernel_trees.specs.declared.kernel.Ker.{Ker}
-use Rattle.kera_reducer.specs.BuildsTyped.{BuildsTyped}
+use Rattle.kernel_reduction.specs.BuildsTyped.{BuildsTyped}
 
 -- each is built of all types of its own
 abbrev pub ArePartsBuilt : List Expr → List (List Ty) → List Ker → Type 0

@@ -15,11 +15,11 @@ use Rattle.kernel_trees.specs.Trees.{op_of}
 use Rattle.kera_reducer.specs.declared.making.Made.{Made}
 use Rattle.kera_reducer.specs.declared.naming.NamedPair.{NamedPair}
 use Rattle.kera_reducer.specs.declared.reducer.Reducer.{Reducer}
-use Rattle.kera_reducer.specs.Builds.{has_arm, is_binder, is_same}
-use Rattle.kera_reducer.specs.BuildsTyped.{BuildsTyped, EachTyped, TypedNode, is_chosen}
-use Rattle.kera_reducer.specs.Making.{let_of, pair_type}
-use Rattle.kera_reducer.specs.Rows.{Let, bound, case_branches, guard_of, item, item_by_let, large_power, let_in, negation, nested_ifs, node, number, op_at, pair, place_of, power_body, small_power, split_case, tree, twice_negated, type_of}
-use Rattle.kera_reducer.specs.inner.Settings.{ChildrenBuilt, binds_behind, counted, passing}
+use Rattle.kernel_reduction.specs.Builds.{has_arm, is_binder, is_same}
+use Rattle.kernel_reduction.specs.BuildsTyped.{BuildsTyped, EachTyped, TypedNode, is_chosen}
+use Rattle.kernel_reduction.specs.Making.{let_of, pair_type}
+use Rattle.kernel_reduction.specs.Rows.{Let, bound, case_branches, guard_of, item, item_by_let, large_power, let_in, negation, nested_ifs, node, number, op_at, pair, place_of, power_body, small_power, split_case, tree, twice_negated, type_of}
+use Rattle.kernel_reduction.specs.inner.Settings.{ChildrenBuilt, binds_behind, counted, passing}
 
 -- the bound names
 abbrev pub names_of : Reducer → List (List ℕ)

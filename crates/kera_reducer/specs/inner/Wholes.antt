@@ -1,7 +1,7 @@
 -- What is asked of a node of a whole tree.
 use Rattle.std.specs.Prelude.{ℕ, suc, ◌+◌, Bool, ◌&&◌, List, [], ◌∷◌, nat_eq, length}
 use Rattle.tla_meaning.specs.declared.op.Op.{Op}
-use Rattle.kera_reducer.specs.Whole.{binds_enough, is_declared, names_enough, operand_count}
+use Rattle.kernel_reduction.specs.Whole.{binds_enough, is_declared, names_enough, operand_count}
 
 -- of each update its indexes, so many, and its right side
 abbrev pub updates_count : List ℕ → ℕ

@@ -1,5 +1,5 @@
 -- Levels one behind another.
-use Rattle.std.specs.Prelude.{ℕ, ◌+◌, ◌≡◌, ◌≤◌, List, map, Option, Some, option_map, Result, Ok, Err, ⊤}
+use Rattle.std.specs.Prelude.{ℕ, ◌+◌, ◌≡◌, ◌≤◌, List, map, Option, Some, option_map, Result, Ok, Err}
 use Rattle.kernel_shapes.specs.Codes.{mean}
 use Rattle.kernel_shapes.specs.declared.bounds.Shape.{Shape as Code}
 use Rattle.kernel_shapes.specs.Counts.{Count, refused_at}

@@ -1,6 +1,6 @@
 use Rattle.std.proofs.Common.{◌∙◌, ◌++◌, ◌∷◌, [], ap, ap₂, append_assoc, sym}
 use Rattle.snowcat_rows.specs.declared.types.Ty.TheVariants as ty
-use Rattle.kera_reducer.specs.Rows.{case_branches}
+use Rattle.kernel_reduction.specs.Rows.{case_branches}
 use Rattle.kera_reducer.proofs.CaseArms.{next_arm}
 use Rattle.kera_reducer.proofs.cases.branches_of.Goals as goal
 

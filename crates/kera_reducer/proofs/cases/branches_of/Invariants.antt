@@ -1,7 +1,7 @@
 use Rattle.std.proofs.Common.{◌≡◌, ◌++◌, [], List, Option}
 use Rattle.snowcat_rows.specs.declared.types.Ty.TheVariants as ty
 use Rattle.kernel_trees.specs.declared.kernel.Ker.{Ker}
-use Rattle.kera_reducer.specs.Rows.{case_branches}
+use Rattle.kernel_reduction.specs.Rows.{case_branches}
 use Rattle.kera_reducer.proofs.cases.branches_of.Given as goal
 
 abbrev pub invariant-loop-guard : goal.invariant-loop-guard

@@ -1,6 +1,6 @@
 use Rattle.std.proofs.Common.{◌∙◌, ◌∷◌, [], ap, sym}
 use Rattle.kernel_trees.specs.declared.kernel.KerOp.TheVariants as ker
-use Rattle.kera_reducer.specs.Rows.{node}
+use Rattle.kernel_reduction.specs.Rows.{node}
 use Rattle.kera_reducer.specs.inner.Standing.{nested}
 use Rattle.kera_reducer.proofs.CaseArms.{nested_more}
 use Rattle.kera_reducer.proofs.cases.nested.Goals as goal

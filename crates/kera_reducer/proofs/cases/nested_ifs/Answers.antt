@@ -1,8 +1,8 @@
 use Rattle.std.proofs.Common.{rules, ◌≡◌, ◌∙◌, Bool, ap, subst, true}
 use Rattle.tla_meaning.specs.declared.op.Op.TheVariants as op
-use Rattle.kera_reducer.specs.Builds.{has_arm}
+use Rattle.kernel_reduction.specs.Builds.{has_arm}
 use Rattle.kernel_trees.specs.declared.kernel.KerOp.TheVariants as ker
-use Rattle.kera_reducer.specs.Rows.{nested_ifs, node}
+use Rattle.kernel_reduction.specs.Rows.{nested_ifs, node}
 use Rattle.kera_reducer.specs.inner.Standing.{MakesOf, flat, nested}
 use Rattle.kera_reducer.proofs.CaseArms.{nested_none, nested_other}
 use Rattle.kera_reducer.proofs.IfOks.{ok_by}

@@ -1,5 +1,5 @@
 use Rattle.std.proofs.Common.{◌≡◌, take}
-use Rattle.kera_reducer.specs.Rows.{behind}
+use Rattle.kernel_reduction.specs.Rows.{behind}
 use Rattle.kera_reducer.proofs.excepts.behind.Given as goal
 
 abbrev pub invariant-loop-ty : goal.invariant-loop-ty

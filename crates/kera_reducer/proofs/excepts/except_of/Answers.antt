@@ -1,5 +1,5 @@
 use Rattle.std.proofs.Common.{sym, ◌∙◌, ap}
-use Rattle.kera_reducer.specs.Rows.{all_plain}
+use Rattle.kernel_reduction.specs.Rows.{all_plain}
 use Rattle.kera_reducer.proofs.Excepted.{made_plain, made_by_let}
 use Rattle.kera_reducer.proofs.IfOks.{ok_by}
 use Rattle.kera_reducer.proofs.excepts.except_of.Goals as goal

@@ -1,5 +1,5 @@
 use Rattle.std.proofs.Common.{◌∙◌, ap, sym, reverse, option_copied, arith}
-use Rattle.kera_reducer.specs.Rows.{type_of}
+use Rattle.kernel_reduction.specs.Rows.{type_of}
 use Rattle.kera_reducer.specs.inner.Excepts.{rest_of}
 use Rattle.kera_reducer.proofs.ExceptSteps.{rest_step, rest_types_none}
 use Rattle.kera_reducer.proofs.excepts.rest_types.Goals as goal

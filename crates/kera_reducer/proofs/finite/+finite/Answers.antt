@@ -1,5 +1,5 @@
 use Rattle.std.proofs.Common.{◌++◌, take, arith}
-use Rattle.kera_reducer.proofs.Places.{all, init, so_far, step}
+use Rattle.kernel_reduction.proofs.Places.{all, init, so_far, step}
 use Rattle.kera_reducer.proofs.finite.+finite.Goals as goal
 
 pub loop-i-init : goal.loop-i-init

@@ -1,7 +1,7 @@
 use Rattle.std.proofs.Common.{◌++◌, List, take}
 use Rattle.tla_meaning.specs.declared.place.Place.{Place}
-use Rattle.kera_reducer.specs.inner.Least.{IsLeast}
-use Rattle.kera_reducer.proofs.Places.{so_far}
+use Rattle.kernel_reduction.specs.inner.Least.{IsLeast}
+use Rattle.kernel_reduction.proofs.Places.{so_far}
 use Rattle.kera_reducer.proofs.finite.+finite.Given as goal
 
 abbrev pub invariant-loop-i : goal.invariant-loop-i

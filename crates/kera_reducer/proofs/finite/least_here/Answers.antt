@@ -1,8 +1,8 @@
 use Rattle.std.proofs.Common.{◌∙◌, ◌++◌, Some, sym, subst}
 use Rattle.tla_meaning.specs.declared.place.Place.{Place}
-use Rattle.kera_reducer.specs.Infinite.{infinite_here}
-use Rattle.kera_reducer.specs.inner.Least.{IsLeast}
-use Rattle.kera_reducer.proofs.Places.{here_none, here_one}
+use Rattle.kernel_reduction.specs.Infinite.{infinite_here}
+use Rattle.kernel_reduction.specs.inner.Least.{IsLeast}
+use Rattle.kernel_reduction.proofs.Places.{here_none, here_one}
 use Rattle.kera_reducer.proofs.finite.least_here.Goals as goal
 
 pub returns-then-stands_outside : goal.returns-then-stands_outside

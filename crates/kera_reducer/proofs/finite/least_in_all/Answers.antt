@@ -1,6 +1,6 @@
 use Rattle.std.proofs.Common.{◌++◌, take, map, flat_map, false, arith}
-use Rattle.kera_reducer.specs.Infinite.{infinite_in}
-use Rattle.kera_reducer.proofs.Places.{named_all, named_more}
+use Rattle.kernel_reduction.specs.Infinite.{infinite_in}
+use Rattle.kernel_reduction.proofs.Places.{named_all, named_more}
 use Rattle.kera_reducer.proofs.finite.least_in_all.Goals as goal
 
 pub loop-inv-preserved : goal.loop-inv-preserved

@@ -1,7 +1,7 @@
 use Rattle.std.proofs.Common.{◌++◌, List, take, map, flat_map, false}
 use Rattle.tla_meaning.specs.declared.place.Place.{Place}
-use Rattle.kera_reducer.specs.Infinite.{infinite_in}
-use Rattle.kera_reducer.specs.inner.Least.{IsLeast}
+use Rattle.kernel_reduction.specs.Infinite.{infinite_in}
+use Rattle.kernel_reduction.specs.inner.Least.{IsLeast}
 use Rattle.kera_reducer.proofs.finite.least_in_all.Given as goal
 
 abbrev pub invariant-loop-inv : goal.invariant-loop-inv

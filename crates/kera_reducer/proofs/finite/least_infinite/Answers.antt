@@ -1,6 +1,6 @@
 use Rattle.std.proofs.Common.{◌++◌, [], false}
-use Rattle.kera_reducer.specs.Infinite.{infinite_in}
-use Rattle.kera_reducer.proofs.Places.{none_in, of_job}
+use Rattle.kernel_reduction.specs.Infinite.{infinite_in}
+use Rattle.kernel_reduction.proofs.Places.{none_in, of_job}
 use Rattle.kera_reducer.proofs.finite.least_infinite.Goals as goal
 
 pub returns : goal.returns

@@ -1,6 +1,6 @@
 use Rattle.std.proofs.Common.{◌≡◌, drop}
 use Rattle.std.specs.List.{list_all}
-use Rattle.kera_reducer.specs.SoundLaws.{has_kind}
+use Rattle.kernel_reduction.specs.SoundLaws.{has_kind}
 use Rattle.kera_reducer.proofs.kinded.+kinded.Given as goal
 
 abbrev pub invariant-have_kinds-loop-ty : goal.invariant-have_kinds-loop-ty

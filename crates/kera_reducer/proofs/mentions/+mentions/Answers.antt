@@ -1,5 +1,5 @@
 use Rattle.std.proofs.Common.{◌∙◌, ap, sym}
-use Rattle.kera_reducer.specs.Reduction.{any_mentioned}
+use Rattle.kernel_reduction.specs.Reduction.{any_mentioned}
 use Rattle.kera_reducer.proofs.NameTests.{mentioned_below, mentioned_name}
 use Rattle.kera_reducer.proofs.mentions.+mentions.Goals as goal
 

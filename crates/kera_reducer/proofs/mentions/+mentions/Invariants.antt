@@ -1,5 +1,5 @@
 use Rattle.std.proofs.Common.{◌≡◌, drop}
-use Rattle.kera_reducer.specs.Reduction.{any_mentioned}
+use Rattle.kernel_reduction.specs.Reduction.{any_mentioned}
 use Rattle.kera_reducer.proofs.mentions.+mentions.Given as goal
 
 abbrev pub invariant-any_mentions-loop-e : goal.invariant-any_mentions-loop-e

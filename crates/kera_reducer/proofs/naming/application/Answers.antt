@@ -1,7 +1,7 @@
 use Rattle.std.proofs.Common.{ap}
 use Rattle.tla_meaning.specs.declared.op.Op.TheVariants as op
 use Rattle.snowcat_rows.specs.declared.types.Ty.{out-Ty}
-use Rattle.kera_reducer.specs.BuildsTyped.{is_record, is_tuple}
+use Rattle.kernel_reduction.specs.BuildsTyped.{is_record, is_tuple}
 use Rattle.kera_reducer.specs.inner.Standing.{MakesOf}
 use Rattle.kera_reducer.proofs.IfOks.{ok_by}
 use Rattle.kera_reducer.proofs.RowsMade.{field_makes, item_makes}

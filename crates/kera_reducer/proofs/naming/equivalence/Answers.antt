@@ -1,8 +1,8 @@
 use Rattle.std.proofs.Common.{rules, ◌≡◌, ◌∙◌, ap, suc}
 use Rattle.snowcat_rows.specs.declared.types.Ty.TheVariants as ty
 use Rattle.tla_meaning.specs.declared.op.Op.TheVariants as op
-use Rattle.kera_reducer.specs.Making.{let_of}
-use Rattle.kera_reducer.specs.Rows.{let_in}
+use Rattle.kernel_reduction.specs.Making.{let_of}
+use Rattle.kernel_reduction.specs.Rows.{let_in}
 use Rattle.kera_reducer.specs.inner.Standing.{MakesOf, same_truth_of}
 use Rattle.kera_reducer.proofs.IfOks.{ok_by}
 use Rattle.kera_reducer.proofs.RowsMade.{equivalence_makes}

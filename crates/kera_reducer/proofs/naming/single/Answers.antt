@@ -1,7 +1,7 @@
 use Rattle.std.proofs.Common.{rules, ◌≡◌, ◌∙◌, ap₂, suc}
 use Rattle.tla_meaning.specs.declared.op.Op.TheVariants as op
-use Rattle.kera_reducer.specs.Making.{let_of}
-use Rattle.kera_reducer.specs.Rows.{let_in}
+use Rattle.kernel_reduction.specs.Making.{let_of}
+use Rattle.kernel_reduction.specs.Rows.{let_in}
 use Rattle.kera_reducer.specs.inner.Standing.{MakesOf, function_of}
 use Rattle.kera_reducer.proofs.IfOks.{ok_by}
 use Rattle.kera_reducer.proofs.RowsMade.{single_makes}

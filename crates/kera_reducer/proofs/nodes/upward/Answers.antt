@@ -1,6 +1,6 @@
 use Rattle.std.proofs.Common.{arith, rules, ◌∙◌, ◌+◌, ◌++◌, ◌-◌, ◌∷◌, ◌≡◌, [], ap, ap₂, sym}
-use Rattle.kera_reducer.specs.Reduction.{upward}
-use Rattle.kera_reducer.proofs.Counting.{upward_more}
+use Rattle.kernel_reduction.specs.Reduction.{upward}
+use Rattle.kernel_reduction.proofs.Counting.{upward_more}
 use Rattle.kera_reducer.proofs.nodes.upward.Goals as goal
 
 pub loop-preserved : goal.loop-preserved

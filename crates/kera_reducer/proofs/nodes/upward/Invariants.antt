@@ -1,5 +1,5 @@
 use Rattle.std.proofs.Common.{◌≡◌, ◌+◌, ◌++◌, ◌-◌}
-use Rattle.kera_reducer.specs.Reduction.{upward}
+use Rattle.kernel_reduction.specs.Reduction.{upward}
 use Rattle.kera_reducer.proofs.nodes.upward.Given as goal
 
 abbrev pub invariant-loop : goal.invariant-loop

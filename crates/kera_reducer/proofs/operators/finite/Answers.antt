@@ -1,7 +1,7 @@
 use Rattle.std.proofs.Common.{rules, ◌≡◌, ◌∷◌, [], true}
 use Rattle.snowcat_rows.specs.declared.types.Ty.TheVariants as ty
 use Rattle.kernel_trees.specs.declared.kernel.KerOp.TheVariants as ker
-use Rattle.kera_reducer.specs.Rows.{tree, truth}
+use Rattle.kernel_reduction.specs.Rows.{tree, truth}
 use Rattle.kera_reducer.proofs.RowsMade.{finite_makes}
 use Rattle.kera_reducer.proofs.operators.finite.Goals as goal
 

@@ -1,7 +1,7 @@
 use Rattle.std.proofs.Common.{◌∙◌, ◌∷◌, [], ap}
 use Rattle.snowcat_rows.specs.declared.types.Ty.TheVariants as ty
 use Rattle.kernel_trees.specs.declared.kernel.KerOp.TheVariants as ker
-use Rattle.kera_reducer.specs.Rows.{negation, node}
+use Rattle.kernel_reduction.specs.Rows.{negation, node}
 use Rattle.kera_reducer.proofs.RowsMade.{implies_makes}
 use Rattle.kera_reducer.proofs.operators.implication.Goals as goal
 

@@ -1,7 +1,7 @@
 use Rattle.std.proofs.Common.{rules, ◌≡◌, ◌∙◌, [], IfOk, ap, subst, sym}
 use Rattle.tla_values.specs.declared.value.Value.TheVariants as value
 use Rattle.kernel_trees.specs.declared.kernel.KerOp.TheVariants as ker
-use Rattle.kera_reducer.specs.Rows.{node}
+use Rattle.kernel_reduction.specs.Rows.{node}
 use Rattle.kera_reducer.specs.inner.Standing.{MakesOf}
 use Rattle.kera_reducer.proofs.IfOks.{ok_by}
 use Rattle.kera_reducer.proofs.RowsMade.{boolean_makes, integer_makes, name_makes, text_makes}

@@ -1,6 +1,6 @@
 use Rattle.std.proofs.Common.{◌∙◌, ap}
 use Rattle.snowcat_rows.specs.declared.types.Ty.TheVariants as ty
-use Rattle.kera_reducer.specs.Rows.{negation}
+use Rattle.kernel_reduction.specs.Rows.{negation}
 use Rattle.kera_reducer.proofs.IfOks.{ok_by}
 use Rattle.kera_reducer.proofs.RowsMade.{negated_makes}
 use Rattle.kera_reducer.proofs.operators.negated.Goals as goal

@@ -1,5 +1,5 @@
 use Rattle.std.proofs.Common.{◌≡◌, drop}
-use Rattle.kera_reducer.specs.Making.{field_type}
+use Rattle.kernel_reduction.specs.Making.{field_type}
 use Rattle.kera_reducer.proofs.part_types.field_type.Given as goal
 
 abbrev pub invariant-loop-field : goal.invariant-loop-field

@@ -1,5 +1,5 @@
 use Rattle.std.proofs.Common.{◌≡◌, drop}
-use Rattle.kera_reducer.specs.inner.Settings.{numbers_at}
+use Rattle.kernel_reduction.specs.inner.Settings.{numbers_at}
 use Rattle.kera_reducer.proofs.positions.numbers_at.Given as goal
 
 abbrev pub invariant-loop-count : goal.invariant-loop-count

@@ -1,7 +1,7 @@
 use Rattle.std.proofs.Common.{arith, ◌≡◌, ◌≤◌, ◌∙◌}
 use Rattle.std.proofs.lemmas.Grind.{common_steps}
 use Rattle.snowcat_rows.specs.declared.types.Ty.TheVariants as ty
-use Rattle.kera_reducer.specs.Rows.{power_body}
+use Rattle.kernel_reduction.specs.Rows.{power_body}
 use Rattle.kera_reducer.proofs.IfOks.{ok_by}
 use Rattle.kera_reducer.proofs.RowsMade.{more_than_once}
 use Rattle.kera_reducer.proofs.powers.power_body.Goals as goal

@@ -1,5 +1,5 @@
 use Rattle.std.proofs.Common.{◌≡◌}
-use Rattle.kera_reducer.specs.Rows.{product}
+use Rattle.kernel_reduction.specs.Rows.{product}
 use Rattle.kera_reducer.proofs.powers.product.Given as goal
 
 abbrev pub invariant-loop : goal.invariant-loop

@@ -1,6 +1,6 @@
 use Rattle.std.proofs.Common.{arith, ℕ, ◌+◌, ◌<◌, List, None, [], length, map, subst, sym, take}
 use Rattle.tla_meaning.specs.declared.expr.Expr.{Expr}
-use Rattle.kera_reducer.specs.BuildsTyped.{BuildsTyped}
+use Rattle.kernel_reduction.specs.BuildsTyped.{BuildsTyped}
 use Rattle.kera_reducer.specs.inner.Parts.{ArePartsBuilt}
 use Rattle.kera_reducer.proofs.PartsMade.{next_part}
 use Rattle.kera_reducer.proofs.reducing.invariants.Goals as goal

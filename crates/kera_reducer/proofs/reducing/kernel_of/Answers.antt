@@ -6,8 +6,8 @@ use Rattle.kernel_trees.specs.declared.action_kind.ActionKind.TheVariants as act
 use Rattle.kernel_trees.specs.declared.system.KerJob.{KerJob}
 use Rattle.kernel_trees.specs.ActionNames.{assignable_in, constants}
 use Rattle.kernel_trees.specs.Systems.{parts}
-use Rattle.kera_reducer.specs.BuildsTyped.{BuildsTyped}
-use Rattle.kera_reducer.specs.SoundLaws.{AllBuilt, positions}
+use Rattle.kernel_reduction.specs.BuildsTyped.{BuildsTyped}
+use Rattle.kernel_reduction.specs.SoundLaws.{AllBuilt, positions}
 use Rattle.kera_reducer.specs.inner.Parts.{ArePartsBuilt}
 use Rattle.kera_reducer.proofs.PartsMade.{all_in_position, four_first, rest_whole}
 use Rattle.kera_reducer.proofs.reducing.kernel_of.Goals as goal

@@ -1,5 +1,5 @@
 use Rattle.std.proofs.Common.{rules, None}
-use Rattle.kera_reducer.specs.Infinite.{IsLeastIfAny}
+use Rattle.kernel_reduction.specs.Infinite.{IsLeastIfAny}
 use Rattle.kera_reducer.proofs.PartsMade.{kernel_built}
 use Rattle.kera_reducer.proofs.SoundKernels.{kernel_is_sound}
 use Rattle.kera_reducer.proofs.reducing.reduce.Goals as goal

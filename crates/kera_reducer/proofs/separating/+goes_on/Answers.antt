@@ -1,7 +1,7 @@
 use Rattle.std.proofs.Common.{◌∙◌, ◌&&◌, ap, refl, sym}
 use Rattle.tla_meaning.specs.declared.expr.Expr.{out-Expr}
-use Rattle.kera_reducer.specs.SizeLaws.{begins_below}
-use Rattle.kera_reducer.proofs.Apart.{goes_bare, goes_except, goes_noted, goes_other}
+use Rattle.kernel_reduction.specs.SizeLaws.{begins_below}
+use Rattle.kernel_reduction.proofs.Apart.{goes_bare, goes_except, goes_noted, goes_other}
 use Rattle.kera_reducer.proofs.separating.+goes_on.Goals as goal
 
 pub returns-in-empty : goal.returns-in-empty

@@ -1,5 +1,5 @@
 use Rattle.std.proofs.Common.{◌∙◌, ap}
-use Rattle.kera_reducer.proofs.Apart.{name_bare, name_noted, name_other, name_there}
+use Rattle.kernel_reduction.proofs.Apart.{name_bare, name_noted, name_other, name_there}
 use Rattle.kera_reducer.proofs.separating.+is_name.Goals as goal
 
 pub returns-in-empty : goal.returns-in-empty

@@ -1,8 +1,8 @@
 use Rattle.std.proofs.Common.{◌∙◌, ◌&&◌, ap, sym}
 use Rattle.std.specs.List.{list_all}
 use Rattle.tla_meaning.specs.declared.expr.Expr.{out-Expr}
-use Rattle.kera_reducer.specs.SizeLaws.{is_apart}
-use Rattle.kera_reducer.proofs.Apart.{apart_step}
+use Rattle.kernel_reduction.specs.SizeLaws.{is_apart}
+use Rattle.kernel_reduction.proofs.Apart.{apart_step}
 use Rattle.kera_reducer.proofs.separating.+separate.Goals as goal
 
 pub is_apart-returns-then-is_node_apart : goal.is_apart-returns-then-is_node_apart

@@ -1,6 +1,6 @@
 use Rattle.std.proofs.Common.{◌≡◌, drop}
 use Rattle.std.specs.List.{list_all}
-use Rattle.kera_reducer.specs.SizeLaws.{is_apart}
+use Rattle.kernel_reduction.specs.SizeLaws.{is_apart}
 use Rattle.kera_reducer.proofs.separating.+separate.Given as goal
 
 abbrev pub invariant-all_apart-loop-e : goal.invariant-all_apart-loop-e

@@ -1,6 +1,6 @@
 use Rattle.std.proofs.Common.{◌≡◌, drop, map}
 use Rattle.std.specs.List.{list_all}
-use Rattle.kera_reducer.specs.SizeLaws.{is_apart}
+use Rattle.kernel_reduction.specs.SizeLaws.{is_apart}
 use Rattle.kera_reducer.proofs.separating.are_tests_apart.Given as goal
 
 abbrev pub invariant-loop-inv : goal.invariant-loop-inv

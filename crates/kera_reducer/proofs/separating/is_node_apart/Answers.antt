@@ -1,4 +1,4 @@
-use Rattle.kera_reducer.proofs.Apart.{many_bound, none_bound}
+use Rattle.kernel_reduction.proofs.Apart.{many_bound, none_bound}
 use Rattle.kera_reducer.proofs.separating.is_node_apart.Goals as goal
 
 pub returns-in_default-2 : goal.returns-in_default-2

@@ -1,6 +1,6 @@
 use Rattle.std.proofs.Common.{◌≡◌, ◌∷◌, [], not, drop}
 use Rattle.std.specs.List.{list_all}
-use Rattle.kera_reducer.specs.SizeLaws.{goes_on}
+use Rattle.kernel_reduction.specs.SizeLaws.{goes_on}
 use Rattle.kera_reducer.proofs.separating.none_goes_on.Given as goal
 
 abbrev pub invariant-loop-e : goal.invariant-loop-e

@@ -1,5 +1,5 @@
 use Rattle.std.proofs.Common.{map}
-use Rattle.kera_reducer.proofs.Once.{of_node}
+use Rattle.kernel_reduction.proofs.Once.{of_node}
 use Rattle.kera_reducer.proofs.texts.+literals.Goals as goal
 
 pub push_literals-returns : goal.push_literals-returns

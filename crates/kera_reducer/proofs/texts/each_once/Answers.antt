@@ -1,6 +1,6 @@
 use Rattle.std.proofs.Common.{◌∙◌, ◌++◌, ◌∷◌, [], ap, sym}
 use Rattle.std.proofs.lemmas.Map.Text.{is_eq-slice_cmp}
-use Rattle.kera_reducer.proofs.Once.{known_text, new_text}
+use Rattle.kernel_reduction.proofs.Once.{known_text, new_text}
 use Rattle.kera_reducer.proofs.texts.each_once.Goals.{then-branch+in_ok-copy_text+in_ok-push, else-branch}
 use Rattle.kera_reducer.proofs.texts.each_once.Goals as goal
 

@@ -1,5 +1,5 @@
 use Rattle.std.proofs.Common.{◌≡◌, map, take}
-use Rattle.kera_reducer.specs.Literals.{each_once}
+use Rattle.kernel_reduction.specs.Literals.{each_once}
 use Rattle.kera_reducer.proofs.texts.each_once.Given as goal
 
 abbrev pub invariant-loop-text : goal.invariant-loop-text

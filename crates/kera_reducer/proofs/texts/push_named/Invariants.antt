@@ -1,5 +1,5 @@
 use Rattle.std.proofs.Common.{◌≡◌, ◌++◌, map, flat_map, take}
-use Rattle.kera_reducer.specs.Literals.{literals_in}
+use Rattle.kernel_reduction.specs.Literals.{literals_in}
 use Rattle.kera_reducer.proofs.texts.push_named.Given as goal
 
 abbrev pub invariant-loop-inv : goal.invariant-loop-inv

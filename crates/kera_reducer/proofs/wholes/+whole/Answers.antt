@@ -1,7 +1,7 @@
 use Rattle.std.proofs.Common.{◌∙◌, ◌&&◌, ap, sym}
 use Rattle.std.specs.List.{list_all}
 use Rattle.tla_meaning.specs.declared.expr.Expr.{out-Expr}
-use Rattle.kera_reducer.specs.Whole.{is_whole}
+use Rattle.kernel_reduction.specs.Whole.{is_whole}
 use Rattle.kera_reducer.proofs.WholeNodes.{whole_out}
 use Rattle.kera_reducer.proofs.wholes.+whole.Goals as goal
 

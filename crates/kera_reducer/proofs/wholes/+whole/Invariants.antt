@@ -1,6 +1,6 @@
 use Rattle.std.proofs.Common.{◌≡◌, drop}
 use Rattle.std.specs.List.{list_all}
-use Rattle.kera_reducer.specs.Whole.{is_whole}
+use Rattle.kernel_reduction.specs.Whole.{is_whole}
 use Rattle.kera_reducer.proofs.wholes.+whole.Given as goal
 
 abbrev pub invariant-are_whole-loop-e : goal.invariant-are_whole-loop-e

@@ -1,6 +1,6 @@
 use Rattle.std.proofs.Common.{◌≡◌, drop, map}
 use Rattle.std.specs.List.{list_all}
-use Rattle.kera_reducer.specs.Whole.{is_whole}
+use Rattle.kernel_reduction.specs.Whole.{is_whole}
 use Rattle.kera_reducer.proofs.wholes.are_tests_whole.Given as goal
 
 abbrev pub invariant-loop-inv : goal.invariant-loop-inv

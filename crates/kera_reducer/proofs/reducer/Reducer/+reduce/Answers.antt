@@ -1,6 +1,6 @@
 use Rattle.std.proofs.Common.{rules, ◌≡◌, ◌∙◌, ◌+◌, ◌++◌, [], ap, length, map, refl, subst, sym, take}
 use Rattle.tla_meaning.specs.declared.expr.Expr.{out-Expr}
-use Rattle.kera_reducer.specs.inner.Settings.{names_at, position_at}
+use Rattle.kernel_reduction.specs.inner.Settings.{names_at, position_at}
 use Rattle.kera_reducer.specs.inner.Standing.{NodeTyped, TreeTyped, names_of}
 use Rattle.kera_reducer.proofs.ChildSteps.{FirstChildren, all_children, cut_back, next_child, tree_made}
 use Rattle.kera_reducer.proofs.IfOks.{ok_by, on_ok_by}

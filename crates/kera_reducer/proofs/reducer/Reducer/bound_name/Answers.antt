@@ -1,6 +1,6 @@
 use Rattle.std.proofs.Common.{rules, ◌≡◌, ◌∙◌, [], ap, subst, sym}
 use Rattle.tla_meaning.specs.declared.expr.Expr.{out-Expr}
-use Rattle.kera_reducer.specs.Rows.{bound}
+use Rattle.kernel_reduction.specs.Rows.{bound}
 use Rattle.kera_reducer.specs.inner.Standing.{IsBoundName, names_of}
 use Rattle.kera_reducer.proofs.Children.{name_bound}
 use Rattle.kera_reducer.proofs.reducer.Reducer.bound_name.Goals as goal

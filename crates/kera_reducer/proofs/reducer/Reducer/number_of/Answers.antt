@@ -1,6 +1,6 @@
 use Rattle.std.proofs.Common.{◌∙◌, sym}
 use Rattle.tla_meaning.proofs.Views.{false≢true}
-use Rattle.kera_reducer.proofs.Counting.{search_found, search_missed, text_hit, text_miss}
+use Rattle.kernel_reduction.proofs.Counting.{search_found, search_missed, text_hit, text_miss}
 use Rattle.kera_reducer.proofs.reducer.Reducer.number_of.Goals.{else-same_text, then-same_text}
 use Rattle.kera_reducer.proofs.reducer.Reducer.number_of.Goals as goal
 

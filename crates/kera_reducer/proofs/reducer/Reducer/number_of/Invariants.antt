@@ -1,6 +1,6 @@
 use Rattle.std.proofs.Common.{◌≡◌, map, take}
 use Rattle.tla_meaning.specs.Scopes.{find_last}
-use Rattle.kera_reducer.specs.inner.Settings.{counted}
+use Rattle.kernel_reduction.specs.inner.Settings.{counted}
 use Rattle.kera_reducer.proofs.reducer.Reducer.number_of.Given as goal
 
 abbrev pub invariant-loop-i : goal.invariant-loop-i

@@ -1,0 +1,22 @@
+-- The definitions of the crate.
+pub mod Reduction
+pub mod Rows
+pub mod Builds
+pub mod Laws
+pub mod JobPaths
+pub mod PathLaws
+pub mod Origins
+pub mod BuiltJobs
+pub mod Infinite
+pub mod Literals
+pub mod Fitting
+pub mod SizeLaws
+pub mod JobParts
+pub mod Whole
+pub mod Making
+pub mod BuildsTyped
+pub mod SoundLaws
+pub mod WellFormed
+pub mod Kernels
+pub mod JobSizes
+pub mod inner

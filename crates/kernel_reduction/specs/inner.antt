@@ -1,0 +1,4 @@
+pub mod Least
+pub mod SameWays
+pub mod Steps
+pub mod Settings
