@@ -1,0 +1,3 @@
+pub mod FiniteForms
+pub mod FormPicks
+pub mod inner
