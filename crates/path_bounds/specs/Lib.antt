@@ -1,0 +1,4 @@
+-- The definitions of the crate.
+pub mod Steps
+pub mod BoundedPaths
+pub mod inner

@@ -1,0 +1,2 @@
+-- What private clauses and proofs need.
+pub mod Walking
