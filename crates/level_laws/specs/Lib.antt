@@ -1,0 +1,4 @@
+pub mod Constraints
+pub mod Branches
+pub mod Levels
+pub mod Chains

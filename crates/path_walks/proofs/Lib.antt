@@ -1,0 +1,9 @@
+pub mod Leading
+pub mod Onward
+pub mod Picks
+pub mod Items
+pub mod Walking
+pub mod Turning
+pub mod Walked
+pub mod Ends
+pub mod PathKinds

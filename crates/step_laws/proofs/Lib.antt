@@ -1,0 +1,11 @@
+pub mod Ordered
+pub mod Questions
+pub mod Executing
+pub mod Outcomes
+pub mod Paths
+pub mod Starting
+pub mod Constants
+pub mod Steps
+pub mod Encoded
+pub mod Merging
+pub mod Sound

@@ -1,0 +1,9 @@
+pub mod Origins
+pub mod Rows
+pub mod Outcomes
+pub mod Laws
+pub mod Asked
+pub mod PathEnds
+pub mod Transitions
+pub mod Systems
+pub mod Encoded
