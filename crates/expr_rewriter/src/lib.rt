@@ -21,4 +21,4 @@ mod updating;
 
 pub use cell_env::CellEnv;
 pub use outcome_cells::Cells;
-pub use rewriting::rewrite;
+pub use rewriting::{rewrite, rewrite_form};

@@ -2,7 +2,7 @@
 
 ghost use Rattle.cell_arena.specs.Growth.{Grows};
 ghost use Rattle.expr_rewriter.specs.Rewriting.{CanRewrite, HasTreeSort, Rewrites};
-ghost use Rattle.expr_rewriter.specs.Forming.{CanRewriteForm};
+ghost use Rattle.expr_rewriter.specs.Forming.{CanRewriteForm, HasFormSort, RewritesForm};
 ghost use Rattle.expr_rewriter.specs.declared.settings.Setting.TheVariants.{Binder, Fold, Form, Level, Update};
 ghost use Rattle.expr_rewriter.specs.inner.Binding.{AreBodiesAt, CanRewriteAt};
 ghost use Rattle.expr_rewriter.specs.inner.Folding.{CanStep, FoldsOver, items_of_cell};
@@ -42,6 +42,20 @@ pub fn rewrite(b: &mut Build, e: &Ker, env: &CellEnv) -> Result<Cells, AllocErro
 {
     let mut names = Names::new(b.arena.alloc(), env)?;
     let x = tree(b, &mut names, e)?;
+    Ok(x)
+}
+
+/// What a tree in a form position is over cells, where the names have cells: under the satisfying assignments at which
+/// each range that is evaluated lies within its bounds, the form of its meaning. (Specifying Systems, section 16.1.)
+#[tactic(auto, using(cell_arena::proofs::Growing::growing))]
+pub fn rewrite_form(b: &mut Build, e: &Ker, env: &CellEnv) -> Result<FormCells, AllocError>
+    requires { CanRewriteForm b.old e.now env.now }
+    ensures sort { IfOk result (HasFormSort b.new e.now) }
+    ensures rewrites { IfOk result (RewritesForm b.new e.now env.entry.now) }
+    ensures grows { Grows b.old b.new }
+{
+    let mut names = Names::new(b.arena.alloc(), env)?;
+    let x = form(b, &mut names, e)?;
     Ok(x)
 }
 

@@ -15,10 +15,9 @@ use Rattle.kernel_shapes.specs.Sized.{Extent, bound_shapes}
 use Rattle.tree_bounds.specs.Bounded.{with_bounds}
 use Rattle.shape_bounds.specs.declared.paths.Target.{Target}
 use Rattle.shape_bounds.specs.declared.paths.Target.TheVariants as target
-use Rattle.shape_bounds.specs.Extents.{extent_of, given_shape, given_shapes, kept_extent}
+use Rattle.shape_bounds.specs.Extents.{assigns_in, extent_of, given_shape, given_shapes, kept_extent}
 use Rattle.shape_bounds.specs.Kept.{IsWidth, capped}
 use Rattle.shape_bounds.specs.Sizes.{bound_name, kept_name}
-use Rattle.shape_bounds.specs.inner.Walks.{assigns_in}
 use Rattle.shape_bounds.proofs.Ending.{all_taken, mapped_end, mapped_next}
 use Rattle.path_bounds.specs.declared.walk.Walk.{Walk}
 use Rattle.path_bounds.specs.BoundedPaths.{assign_shape, bounded_step, bounded_steps, past, put_shape}

@@ -1,9 +1,8 @@
 // A path with the bounds of its ranges.
 ghost use Rattle.std.specs.Prelude.{◌≡◌, [], IfOk};
 ghost use Rattle.kernel_shapes.specs.Sized.{Extent};
-ghost use Rattle.shape_bounds.specs.Extents.{extent_of, kept_extent};
+ghost use Rattle.shape_bounds.specs.Extents.{assigns_in, extent_of, kept_extent};
 ghost use Rattle.shape_bounds.specs.Kept.{IsWidth};
-ghost use Rattle.shape_bounds.specs.inner.Walks.{assigns_in};
 ghost use Rattle.path_bounds.specs.BoundedPaths.{HasPathBounds, bounded_steps};
 ghost use Rattle.path_bounds.specs.inner.Walking.{IsAt};
 

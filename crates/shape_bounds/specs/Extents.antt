@@ -3,8 +3,11 @@
 use Rattle.std.specs.Prelude.{ℕ, List, map, Option, Some, None, option_map}
 use Rattle.kernel_shapes.specs.declared.bounds.Shape.{Shape as Code}
 use Rattle.kernel_shapes.specs.Codes.{mean}
+use Rattle.kernel_shapes.specs.Levels.{Assigns, in_next, in_state}
 use Rattle.kernel_shapes.specs.Shape.{Shape, Empty}
 use Rattle.kernel_shapes.specs.Sized.{Extent}
+use Rattle.shape_bounds.specs.declared.paths.Target.{Target}
+use Rattle.shape_bounds.specs.declared.paths.Target.TheVariants as target
 use Rattle.shape_bounds.specs.Kept.{capped}
 use Rattle.shape_bounds.specs.Sizes.{bound_name, kept_name}
 
@@ -32,3 +35,8 @@ extent_of now next bound = record {
   next = given_shapes next;
   bound = map bound_name bound;
 }
+
+-- where a path assigns
+abbrev pub assigns_in : Target → Assigns
+assigns_in target.Next = in_next
+assigns_in target.State = in_state

@@ -6,6 +6,7 @@ mod equality;
 mod intervals;
 mod joins;
 mod kinds;
+mod level_shapes;
 mod levels;
 mod limits;
 mod making;
@@ -28,6 +29,7 @@ mod typed_start;
 mod under;
 mod updates;
 
+pub use level_shapes::{constant_shapes, next_shapes, start_shapes};
 pub use limits::Excess;
 pub use names::{Names, Site};
 pub use parts::{copy_part, inside};

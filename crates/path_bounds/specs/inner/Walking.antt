@@ -10,10 +10,9 @@ use Rattle.kernel_shapes.specs.Shape.{Shape, inside}
 use Rattle.kernel_shapes.specs.Sized.{Extent}
 use Rattle.tree_bounds.specs.Bounded.{with_bounds}
 use Rattle.shape_bounds.specs.declared.paths.Target.{Target}
-use Rattle.shape_bounds.specs.Extents.{extent_of, kept_extent}
+use Rattle.shape_bounds.specs.Extents.{assigns_in, extent_of, kept_extent}
 use Rattle.shape_bounds.specs.Kept.{capped}
 use Rattle.shape_bounds.specs.Sizes.{bound_name, kept_name}
-use Rattle.shape_bounds.specs.inner.Walks.{assigns_in}
 use Rattle.path_bounds.specs.declared.walk.Walk.{Walk}
 use Rattle.path_bounds.specs.BoundedPaths.{assign_shape, bounded_steps, past}
 

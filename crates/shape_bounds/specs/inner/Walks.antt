@@ -6,18 +6,13 @@ use Rattle.kernel_shapes.specs.declared.bounds.Shape.{Shape as Code}
 use Rattle.kernel_shapes.specs.Codes.{mean}
 use Rattle.kernel_shapes.specs.Counts.{Count}
 use Rattle.kernel_shapes.specs.Kernel.{ker_sized}
-use Rattle.kernel_shapes.specs.Levels.{Assigns, in_next, in_state, assign, picked_counts, picked_shapes}
+use Rattle.kernel_shapes.specs.Levels.{Assigns, assign, picked_counts, picked_shapes}
 use Rattle.kernel_shapes.specs.Shape.{Shape}
 use Rattle.kernel_shapes.specs.Sized.{Extent, Sizing}
 use Rattle.shape_bounds.specs.declared.names.Names.{Names}
-use Rattle.shape_bounds.specs.declared.paths.Target.{Target}
-use Rattle.shape_bounds.specs.declared.paths.Target.TheVariants as target
+pub use Rattle.shape_bounds.specs.Extents.{assigns_in}
 use Rattle.shape_bounds.specs.Kept.{capped}
 use Rattle.shape_bounds.specs.Sizes.{Finds, Reads, SameNames}
-
-abbrev pub assigns_in : Target → Assigns
-assigns_in target.Next = in_next
-assigns_in target.State = in_state
 
 -- the shapes of names, of which some have none
 abbrev pub some_shapes : List (Option Code) → List (Option Shape)

@@ -1,7 +1,6 @@
 use Rattle.std.proofs.Common.{[], ◌≡◌, ◌∙◌, List, ap, refl}
 use Rattle.kernel_trees.specs.declared.path.AssignedStep.{AssignedStep}
-use Rattle.shape_bounds.specs.Extents.{extent_of, kept_extent}
-use Rattle.shape_bounds.specs.inner.Walks.{assigns_in}
+use Rattle.shape_bounds.specs.Extents.{assigns_in, extent_of, kept_extent}
 use Rattle.path_bounds.specs.BoundedPaths.{bounded_steps}
 use Rattle.path_bounds.proofs.HasPathBounds.{each_has_path_bounds}
 use Rattle.path_bounds.proofs.Passing.{from_start}
