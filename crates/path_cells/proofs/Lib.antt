@@ -1,0 +1,13 @@
+pub mod Wider
+pub mod Conditions
+pub mod Behind
+pub mod Shown
+pub mod StepFacts
+pub mod FreeChoices
+pub mod PickFacts
+pub mod FormFacts
+pub mod Turns
+pub mod Chosen
+pub mod AddedLiterals
+pub mod Walks
+pub mod Paths
