@@ -7,3 +7,4 @@ pub mod PathEnds
 pub mod Transitions
 pub mod Systems
 pub mod Encoded
+pub mod Encodable
