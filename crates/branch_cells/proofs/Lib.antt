@@ -1,0 +1,8 @@
+-- Lemmas.
+mod Items
+mod Filled
+mod EndLiterals
+mod SameParts
+mod Narrowing
+mod Eithers
+mod Followed
