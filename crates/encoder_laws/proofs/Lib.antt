@@ -1,0 +1,9 @@
+pub mod Literals
+pub mod Starts
+pub mod Places
+pub mod Cells
+pub mod Meant
+pub mod Judging
+pub mod Growing
+pub mod Asking
+pub mod Laws

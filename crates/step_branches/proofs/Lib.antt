@@ -1,0 +1,17 @@
+pub mod Decoding
+pub mod Runs
+pub mod Fitting
+pub mod Leads
+pub mod PathLeads
+pub mod Choosing
+pub mod Marked
+pub mod BoundedKinds
+pub mod Covers
+pub mod Parts
+pub mod AlongPaths
+pub mod Given
+pub mod SystemFacts
+pub mod Quiet
+pub mod Premises
+pub mod Scenes
+pub mod Laws
