@@ -1,2 +1,5 @@
-pub mod Plain
+pub mod TypesAmong
+pub mod TreesAmong
+pub mod ValueCells
+pub mod KeptShapes
 pub mod Operands

@@ -15,8 +15,6 @@ use Rattle.kernel_trees.specs.TypeKinds.{Kind, Truth, is_kind, kind_of}
 use Rattle.kernel_trees.proofs.SoundNodes.{sound_out, with_asked}
 use Rattle.cell_arena.specs.declared.kinds.CellId.{CellId}
 use Rattle.cell_arena.specs.declared.kinds.CellKind.{CellKind}
-use Rattle.tla_values.specs.declared.value.Value.TheVariants as value
-use Rattle.tla_values.proofs.Extensional.{same_itself}
 use Rattle.cell_merge.specs.Sorts.{OfSort}
 use Rattle.cell_merge.proofs.SortLaws.{OfSort-later}
 use Rattle.snowcat_rows.specs.declared.types.Ty.{Ty}
@@ -30,7 +28,10 @@ use Rattle.cell_arena.specs.Growth.{Grows}
 use Rattle.expr_rewriter.specs.declared.cell_env.CellEnv.{CellEnv}
 use Rattle.expr_rewriter.specs.Environments.{HoldsEnv, IsThere, name_cell, next_cell}
 use Rattle.expr_rewriter.specs.Rewriting.{CanRewrite, texts_in}
-use Rattle.rewriting_tests.specs.Cases.{HasCells, IsSoundIn}
+use Rattle.function_rewriter.proofs.KnownValues.{texts-later}
+use Rattle.rewriting_tests.specs.Cases.{HasCells, HaveKinds, IsSoundIn}
+use Rattle.rewriting_tests.specs.inner.Among.{AreAmong}
+use Rattle.rewriting_tests.proofs.ValueCells.{type-later}
 
 some-same : {X : Type 0} (x y : X) → Some x ≡ Some y → x ≡ y
 some-same x y e = cc
@@ -139,27 +140,32 @@ holds ks ts names k env e h = record {
 }
 
 pub can-rewrite : (b : Build) (job : KerJob) (k : Ker) (env : CellEnv) → IsSoundIn job k → HasCells b.arena.kinds job.names env →
-    IsTextAmong b.arena.texts [] → texts_in k ≡ [] → CanRewrite b k env
-can-rewrite b job k env s h t e = record {
+    AreAmong b.arena.texts ([] ∷ texts_in k) → CanRewrite b k env
+can-rewrite b job k env s h t = record {
   names = s.names;
   context = [];
   sound = s.sound;
   holds = holds b.arena.kinds job.names s.names k env s.kinds h;
-  texts = All-cons (IsTextAmong b.arena.texts) [] (texts_in k) t (subst (All (IsTextAmong b.arena.texts)) (sym e) (All-nil _));
+  texts = t;
 }
+
+pub have-kinds : (job : KerJob) (k : Ker) (ts : List Ty) → IsSoundIn job k → ts ≡ job.names → HaveKinds ts
+have-kinds job k ts s e = record { names = s.names; kinds = ap (λ us. all_there (map kind_of us)) e ∙ s.kinds }
+
+pub texts-among-later : (b c : Build) (xs : List (List ℕ)) → AreAmong b.arena.texts xs → Grows b c → AreAmong c.arena.texts xs
+texts-among-later b c xs h g = subst (λ ts. AreAmong ts xs) (sym (texts-later b c g)) h
+
+pub with-empty : (ts us : List (List ℕ)) (x : List ℕ) (k : Ker) → us ≡ ts → x ≡ [] → IsTextAmong ts x → AreAmong ts (texts_in k) →
+    AreAmong us ([] ∷ texts_in k)
+with-empty ts us x k same e p h =
+    subst (λ vs. AreAmong vs ([] ∷ texts_in k)) (sym same)
+    (All-cons (IsTextAmong ts) [] (texts_in k) (subst (IsTextAmong ts) e p) h)
 
 pub operand-sound-of : (job : KerJob) (j x : Ker) (js ks : List Ker) → IsTrue (sound_job job) → js ≡ job.invs → 1 ≤ length js → j ≡ get_or js 0 j →
     (out-Ker j).op ≡ ker.Equal → ks ≡ (out-Ker j).args → 2 ≤ length ks → x ≡ get_or ks 0 x → IsSoundIn job x
 operand-sound-of job j x js ks h a le e o b two f =
     operand-sound job j x h (subst (λ l. 1 ≤ length l) a le) (subst (λ l. j ≡ get_or l 0 j) a e) o
     (subst (λ l. 2 ≤ length l) b two) (subst (λ l. x ≡ get_or l 0 x) b f)
-
-type-later : (b c : Build) (t : Ty) (x : CellId) → OfType b.arena.kinds t x → Grows b c → OfType c.arena.kinds t x
-type-later b c t x h g =
-    record {
-      there = let p = h.there in let q = g.longer in omega arith;
-      sort = λ k e. OfSort-later b c (sort_of k) x (h.sort k e) g;
-    }
 
 types-later : (b c : Build) (ts : List Ty) (xs : List CellId) → OfTypes b.arena.kinds ts xs → Grows b c →
     OfTypes c.arena.kinds ts xs
@@ -178,9 +184,3 @@ has-cells b c ts now later seen env g h l e n s o = record {
   next = n ∙ ap (map Some) s;
   bound = o;
 }
-
-pub one-text : (old new : List (List ℕ)) (x y : List ℕ) → new ≡ old ++ x ∷ [] → old ≡ [] → x ≡ y → y ≡ [] → new ≡ [] ∷ []
-one-text old new x y e f g h = e ∙ ap₂ (λ l z. l ++ z ∷ []) f (g ∙ h)
-
-pub empty-among : (ts : List (List ℕ)) → ts ≡ [] ∷ [] → IsTextAmong ts []
-empty-among ts e = subst (λ us. IsTextAmong us []) (sym e) (ap (λ b. b || false) (same_itself (value.Text [])))

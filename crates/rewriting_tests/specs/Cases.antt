@@ -6,10 +6,20 @@ use Rattle.kernel_trees.specs.declared.kernel.Ker.{Ker}
 use Rattle.kernel_trees.specs.declared.system.KerJob.{KerJob}
 use Rattle.kernel_trees.specs.Sound.{sound}
 use Rattle.kernel_trees.specs.Systems.{kinds_of_names}
-use Rattle.kernel_trees.specs.TypeKinds.{Kind}
+use Rattle.kernel_trees.specs.TypeKinds.{Kind, all_there, kind_of}
 use Rattle.cell_arena.specs.declared.kinds.CellId.{CellId}
 use Rattle.snowcat_rows.specs.declared.types.Ty.{Ty}
 use Rattle.typed_cells.specs.inner.OfTypes.{OfTypes}
+
+-- the type has a kind
+pub record HasKind (t : Ty) : Type 0 where
+  pub kind : Kind
+  pub is : kind_of t ≡ Some kind
+
+-- each of the types has one
+pub record HaveKinds (types : List Ty) : Type 0 where
+  pub names : List Kind
+  pub kinds : all_there (map kind_of types) ≡ Some names
 
 -- a tree that is sound where the names have the types of the job
 pub record IsSoundIn (job : KerJob) (k : Ker) : Type 0 where

@@ -1,9 +1,10 @@
 //! Assignments, and the values of cells under them.
 
-use cell_arena::{Build, CellId, CellKind};
-use sat_formula::{Formula, Lit, Word};
+use cell_arena::{Build, CellId};
+use sat_formula::{Assignment, Formula, Lit};
 use std::alloc::{AllocError, Global};
-use tla_values::{List, Text, Value, copy_text, copy_value, fun_of, same_value, set_of};
+use tla_values::Value;
+use trace_decoder::decode;
 
 /// The value of a literal, which is false past the end.
 pub fn is_true(l: Lit, a: &[bool]) -> bool {
@@ -49,15 +50,10 @@ fn fill(values: &mut Vec<bool>, count: usize, mask: u64) -> Result<u64, AllocErr
     Ok(rest)
 }
 
-/// The assignment with values of the further variables: what the clauses ask, and of those that they
-/// leave free the bits of the mask. A gate's clauses stand behind those of its operands.
-pub fn extended(
-    alloc: Global,
-    f: &Formula,
-    a: &[bool],
-    mask: u64,
-) -> Result<Vec<bool>, AllocError> {
-    let mut values = Vec::from_slice(alloc, a)?;
+/// The assignment under which `top` is true, with values of the further variables: what the clauses ask, and of those that
+/// they leave free the bits of the mask. A gate's clauses stand behind those of its operands.
+pub fn extended(alloc: Global, f: &Formula, mask: u64) -> Result<Assignment, AllocError> {
+    let mut values = Vec::from_slice(alloc, &[true])?;
     let mut rest = mask;
     for c in f.clauses().clauses() {
         rest = fill(&mut values, greatest(c.lits()), rest)?;
@@ -66,7 +62,7 @@ pub fn extended(
         }
     }
     let _ = fill(&mut values, f.vars(), rest)?;
-    Ok(values)
+    Ok(Assignment::from_vec(values))
 }
 
 fn is_met(lits: &[Lit], a: &[bool]) -> bool {
@@ -78,142 +74,11 @@ pub fn are_met(f: &Formula, a: &[bool]) -> bool {
     f.clauses().clauses().iter().all(|c| is_met(c.lits(), a))
 }
 
-// The number of a word in two's complement.
-fn number(w: &Word, a: &[bool]) -> i128 {
-    let mut n: i128 = 0;
-    let mut bit: i128 = 1;
-    let mut negative = false;
-    for l in w.lits() {
-        negative = is_true(*l, a);
-        if negative {
-            n = n.saturating_add(bit);
-        }
-        bit = bit.saturating_mul(2);
-    }
-    if negative { n.saturating_sub(bit) } else { n }
-}
-
 /// The value of a cell; FALSE where there is none.
-pub fn value_at(alloc: Global, values: &[Value], id: CellId) -> Result<Value, AllocError> {
-    match values.get(id.index) {
-        Some(v) => copy_value(alloc, v),
-        None => Ok(Value::Bool(false)),
-    }
-}
-
-fn text(alloc: Global, texts: &[Text], code: i128) -> Result<Value, AllocError> {
-    for i in 0..texts.len() {
-        if i as i128 == code {
-            return Ok(Value::Text(copy_text(alloc, &texts[i])?));
-        }
+pub fn value_at(alloc: Global, b: &Build, id: CellId, a: &Assignment) -> Result<Value, AllocError> {
+    if id.index < b.arena.len() {
+        let v = decode(alloc, b, id, a)?;
+        return Ok(v);
     }
     Ok(Value::Bool(false))
-}
-
-fn function(alloc: Global, pairs: Vec<(Value, Value)>) -> Result<Value, AllocError> {
-    match fun_of(alloc, List::from_vec(pairs))? {
-        Some(f) => Ok(f),
-        None => Ok(Value::Bool(false)),
-    }
-}
-
-fn members(
-    alloc: Global,
-    edges: &[(Lit, CellId)],
-    values: &[Value],
-    a: &[bool],
-) -> Result<Value, AllocError> {
-    let mut items = Vec::new(alloc);
-    for (l, e) in edges {
-        if is_true(*l, a) {
-            items.push(value_at(alloc, values, *e)?)?;
-        }
-    }
-    let set = set_of(alloc, List::from_vec(items))?;
-    Ok(set)
-}
-
-// Whether the value is an argument of the pairs.
-fn has_argument(pairs: &[(Value, Value)], argument: &Value) -> bool {
-    pairs.iter().any(|p| same_value(&p.0, argument))
-}
-
-// The function of the arrows that are there; of two with one argument the first counts.
-fn results(
-    alloc: Global,
-    arrows: &[(Lit, CellId, CellId)],
-    values: &[Value],
-    a: &[bool],
-) -> Result<Value, AllocError> {
-    let mut pairs = Vec::new(alloc);
-    for (l, from, to) in arrows {
-        let argument = value_at(alloc, values, *from)?;
-        if is_true(*l, a) && !has_argument(pairs.as_slice(), &argument) {
-            pairs.push((argument, value_at(alloc, values, *to)?))?;
-        }
-    }
-    function(alloc, pairs)
-}
-
-fn fields(alloc: Global, fields: &[(Text, CellId)], values: &[Value]) -> Result<Value, AllocError> {
-    let mut pairs = Vec::new(alloc);
-    for (name, part) in fields {
-        let pair = (
-            Value::Text(copy_text(alloc, name)?),
-            value_at(alloc, values, *part)?,
-        );
-        pairs.push(pair)?;
-    }
-    function(alloc, pairs)
-}
-
-// The first parts, as many as `count` says, at the numbers from 1 on.
-fn items(
-    alloc: Global,
-    parts: &[CellId],
-    count: i128,
-    values: &[Value],
-) -> Result<Value, AllocError> {
-    let mut pairs = Vec::new(alloc);
-    for i in 0..parts.len() {
-        if (i as i128) < count {
-            let pair = (
-                Value::Int(i as i128 + 1),
-                value_at(alloc, values, parts[i])?,
-            );
-            pairs.push(pair)?;
-        }
-    }
-    function(alloc, pairs)
-}
-
-// The value of a kind, by the values of the older cells.
-fn kind_value(
-    alloc: Global,
-    texts: &[Text],
-    kind: &CellKind,
-    values: &[Value],
-    a: &[bool],
-) -> Result<Value, AllocError> {
-    match kind {
-        CellKind::Bit(l) => Ok(Value::Bool(is_true(*l, a))),
-        CellKind::Word(w) => Ok(Value::Int(number(w, a))),
-        CellKind::Text(w) => text(alloc, texts, number(w, a)),
-        CellKind::Set(edges) => members(alloc, edges.as_slice(), values, a),
-        CellKind::Fun(arrows) => results(alloc, arrows.as_slice(), values, a),
-        CellKind::Rec(parts) => fields(alloc, parts.as_slice(), values),
-        CellKind::Tup(parts) => items(alloc, parts.as_slice(), i128::MAX, values),
-        CellKind::Seq(count, parts) => items(alloc, parts.as_slice(), number(count, a), values),
-    }
-}
-
-/// The values of all cells.
-pub fn decoded(alloc: Global, b: &Build, a: &[bool]) -> Result<Vec<Value>, AllocError> {
-    let mut values = Vec::new(alloc);
-    for index in 0..b.arena.len() {
-        let kind = b.arena.kind(CellId { index });
-        let value = kind_value(alloc, b.texts().as_slice(), kind, values.as_slice(), a)?;
-        values.push(value)?;
-    }
-    Ok(values)
 }

@@ -1,8 +1,6 @@
 use Rattle.std.proofs.Common.{◌∙◌, ap}
-use Rattle.rewriting_tests.proofs.Operands.{empty-among, one-text}
+use Rattle.function_rewriter.proofs.KnownValues.{texts-later}
 use Rattle.rewriting_tests.proofs.settings.begun.Goals as goal
 
 pub returns : goal.returns
-returns c =
-    empty-among _ (ap (λ a. a.texts) c.in_ok-b.ensures.arena
-    ∙ one-text _ _ _ _ c.in_ok-push.ensures.added c.new-texts.ensures c.from_vec.ensures c.new.ensures.items)
+returns c = texts-later _ _ c.in_ok-free_literals.ensures ∙ ap (λ a. a.texts) c.in_ok-b.ensures.arena

@@ -1,9 +1,9 @@
-use Rattle.cell_merge.proofs.SortLaws.{sort-bit}
-use Rattle.typed_cells.proofs.DefaultCells.{of-bool, of-int}
+use Rattle.rewriting_tests.proofs.ValueCells.{type-later}
 use Rattle.rewriting_tests.proofs.settings.name_cell.Goals as goal
 
-pub returns-in_ok-id-in-Bool-clause-cell : goal.returns-in_ok-id-in-Bool-clause-cell
-returns-in_ok-id-in-Bool-clause-cell c = of-bool _ _ _ c.in-Bool.is (sort-bit _ _ _ _ c.in_ok-id-in-Bool.ensures.cell)
+pub chosen-requires-clause-first : goal.chosen-requires-clause-first
+chosen-requires-clause-first c =
+    type-later _ _ _ _ (type-later _ _ _ _ c.in_ok-x.ensures.cell c.in_ok-y.ensures.grows) c.in_ok-l.ensures.grows
 
-pub returns-in_ok-id-in-Int-clause-cell : goal.returns-in_ok-id-in-Int-clause-cell
-returns-in_ok-id-in-Int-clause-cell c = of-int _ _ _ c.in-Int.is c.in_ok-id-in-Int.ensures.sort
+pub chosen-requires-clause-second : goal.chosen-requires-clause-second
+chosen-requires-clause-second c = type-later _ _ _ _ c.in_ok-y.ensures.cell c.in_ok-l.ensures.grows

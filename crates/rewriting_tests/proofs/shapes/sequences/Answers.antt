@@ -1,0 +1,7 @@
+use Rattle.std.proofs.Common.{subst, sym}
+use Rattle.rewriting_tests.specs.inner.KeptShapes.{IsKept}
+use Rattle.rewriting_tests.proofs.KeptShapes.{kept-seq}
+use Rattle.rewriting_tests.proofs.shapes.sequences.Goals as goal
+
+pub returns : goal.returns
+returns c = kept-seq _ _ c.ranges.count.fits (subst IsKept (sym c.in_ok-boxed.ensures) c.requires)

@@ -1,6 +1,0 @@
-use Rattle.std.proofs.Common.{take}
-use Rattle.rewriting_tests.proofs.Plain.{AreTextless}
-use Rattle.rewriting_tests.proofs.texts.+is_textless.Given as goal
-
-abbrev pub invariant-loop-i : goal.invariant-loop-i
-invariant-loop-i l = AreTextless (take l.i l.args)
