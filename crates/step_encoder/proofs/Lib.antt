@@ -1,0 +1,16 @@
+pub mod AskedTrees
+pub mod AtStates
+pub mod CellKinds
+pub mod Conditions
+pub mod Constants
+pub mod Each
+pub mod Encoding
+pub mod Extents
+pub mod FirstLevel
+pub mod Going
+pub mod Judged
+pub mod Late
+pub mod MadeParts
+pub mod NextLevel
+pub mod Systems
+pub mod TreeTexts

@@ -1,0 +1,4 @@
+use Rattle.step_encoder.proofs.stepping.step_part.Given as goal
+
+abbrev pub ghost-along : goal.ghost-along
+ghost-along g a = g.names

@@ -1,0 +1,3 @@
+-- The definitions of the crate.
+pub mod Encoders
+pub mod inner

@@ -1,0 +1,4 @@
+-- What private clauses and proofs need.
+pub mod Asked
+pub mod Made
+pub mod Growing
