@@ -1,5 +1,5 @@
 -- What is accepted stands for its job, and can be encoded.
-use Rattle.std.proofs.Common.{◌≡◌, ℕ, ◌≤◌, Bool, true, false, ◌&&◌, IsTrue, List, [], ◌∷◌, map, filter, length, Option, Some, refl, sym, ◌∙◌, ap, ap₂, subst}
+use Rattle.std.proofs.Common.{◌≡◌, ℕ, ◌≤◌, Bool, ◌&&◌, IsTrue, List, [], ◌∷◌, map, filter, length, Option, Some, refl, sym, ◌∙◌, ap, ap₂, subst}
 use Rattle.std.specs.List.{list_all}
 use Rattle.tla_meaning.specs.declared.actions.Assignable.{Assignable}
 use Rattle.tla_meaning.specs.declared.actions.Assignable.TheVariants as assignable
@@ -23,13 +23,12 @@ use Rattle.kernel_trees.proofs.Trees.{Each}
 use Rattle.kernel_shapes.specs.Laws.{ConstantPathsAre, PathsAre}
 use Rattle.kernel_shapes.specs.Systems.{assigns, every_name, the_constants_of}
 use Rattle.assignment_finder.specs.Finding.{IsAssigned}
-use Rattle.front_end.specs.Accepted.{AreAssigned, HasPaths, IsAccepted, IsAcceptedFor}
-use Rattle.front_end.specs.Requests.{IsRequest}
+use Rattle.front_end.specs.Accepted.{AreAssigned, HasPaths, IsAccepted}
 use Rattle.front_end.specs.declared.request.Accepted.{Accepted}
 use Rattle.front_end.specs.declared.request.Request.{Request}
-use Rattle.step_laws.specs.Encodable.{CanEncode, constant_count, start_marks, step_marks, the_variables}
+use Rattle.step_laws.specs.Encodable.{CanEncode, constant_count}
 use Rattle.step_laws.specs.Systems.{StandsFor, steps_of}
-use Rattle.accepted_systems.specs.Checking.{CanBeChecked, CanCheck}
+use Rattle.accepted_systems.specs.Checking.{CanBeChecked}
 use Rattle.accepted_systems.proofs.AlongPaths.{PathHas, paths_have}
 use Rattle.accepted_systems.proofs.JobMarks.{as_many_constants, assigns_fewer, constant_marked, same_marks}
 use Rattle.accepted_systems.proofs.JobNames.{AreConstant, answered_constant}
@@ -131,14 +130,19 @@ module _ (a : Accepted) (h : IsAccepted a) (c : AreConstant a.job) where
   own = sound_parts a.system.ker h.reduced.sound
 
   start_facts : Each (Facts own.names a.system.ker.texts (marks_of Start a.job.names)) a.system.start
-  start_facts = part_facts a.job.names own.names a.system.ker.texts Start a.system.ker.init a.system.start own.init h.paths.start
+  start_facts =
+      part_facts a.job.names own.names a.system.ker.texts Start a.system.ker.init a.system.start own.init
+      h.paths.start
 
   next_facts : Each (Facts own.names a.system.ker.texts (marks_of Step a.job.names)) a.system.next
-  next_facts = part_facts a.job.names own.names a.system.ker.texts Step a.system.ker.next a.system.next own.next h.paths.next
+  next_facts =
+      part_facts a.job.names own.names a.system.ker.texts Step a.system.ker.next a.system.next own.next
+      h.paths.next
 
   constant_facts : Each (Facts own.names a.system.ker.texts (marks_of Constants a.job.names)) a.system.constants
   constant_facts =
-      part_facts a.job.names own.names a.system.ker.texts Constants a.system.ker.cinit a.system.constants own.cinit h.paths.constants
+      part_facts a.job.names own.names a.system.ker.texts Constants a.system.ker.cinit a.system.constants own.cinit
+      h.paths.constants
 
   system_sound : IsTrue (sound_system a.system)
   system_sound =
@@ -168,7 +172,8 @@ module _ (a : Accepted) (h : IsAccepted a) (c : AreConstant a.job) where
         names = own.names;
         kinds = own.kinds;
         sound = system_sound;
-        constants = constants_are names own.names texts a.system.ker.cinit a.system.ker.fixed a.system.constants fixed own.first own.cinit
+        constants = constants_are names own.names texts a.system.ker.cinit a.system.ker.fixed a.system.constants fixed
+            own.first own.cinit
             (none_past (constants names) _ [] a.job.cinit a.system.ker.cinit h.reduced.built.cinit c.cinit) h.paths.constants;
         assume = ap (λ (n : ℕ). mentions (counts (assignable.Variables n)) a.system.ker.assume) as_many
             ∙ no_variable (constants names) a.system.ker.assume
@@ -189,5 +194,6 @@ accepted_check held r a q h =
       narrow = subst (λ (n : ℕ). n ≤ 64) (sym h.same_width) q.narrow;
       short = subst (λ (n : ℕ). n ≤ 1000) (sym h.same_length) q.short;
       stands = accepted_stands a h.whole wide;
-      encodable = accepted_can a h.whole (answered_constant h.flat r.init r.next r.cinit r.invs a.job h.makes.gives);
+      encodable = accepted_can a h.whole
+          (answered_constant h.flat r.init r.next r.cinit r.invs a.job h.makes.gives);
     }

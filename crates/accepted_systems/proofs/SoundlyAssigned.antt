@@ -88,8 +88,8 @@ module _ (names : List Kind) (c : Context) where
 
   value_sound : (x e : Ker) (i : ℕ) (primed : Bool) (d : Kind) → (out-Ker x).op ≡ ker.Name i primed →
       Child names c false d x →
-      Child names c false d e → IsTrue
-      (passes (λ a. is_kind a (kind_at e)) (slice_get names i) && sound names e c false)
+      Child names c false d e →
+      IsTrue (passes (λ a. is_kind a (kind_at e)) (slice_get names i) && sound names e c false)
   value_sound x e i primed d q h g =
       and_both (passes (λ a. is_kind a (kind_at e)) (slice_get names i)) (sound names e c false)
       (ap (passes (λ a. is_kind a (kind_at e))) (name_kind false x i primed d q h) ∙ kind_found d (kind_at e) g.0) g.1
