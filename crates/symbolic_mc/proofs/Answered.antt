@@ -1,6 +1,7 @@
 -- Why an answer is given.
 use Rattle.std.proofs.Common.{◌≡◌, ◌⊎◌, ℕ, ◌≤◌, inl, inr, Bool, true, false, List, length, Option, Some, None, refl, sym, ◌∙◌, ap, subst, arith}
 use Rattle.std.specs.Prelude.{IfSome}
+use Rattle.bounded_engine.specs.Answers.{IsChecked}
 use Rattle.tool_outside.specs.Causes.{Holds, HandedOut, IsCut, IsLong}
 use Rattle.tool_outside.specs.Outside.{Folder, Changes, Rose, file_at}
 use Rattle.tool_outside.specs.declared.files.FileFail.{FileFail}
@@ -14,23 +15,20 @@ use Rattle.refutation_checker.specs.Certificate.{certificate_text}
 use Rattle.refutation_checker.specs.Rechecking.{IsRechecked, RefutesClosed, WhereAccepted}
 use Rattle.front_end.specs.Accepted.{IsAcceptedFor}
 use Rattle.front_end.specs.Refused.{IsRefusal, is_want}
+use Rattle.front_end.specs.Requests.{IsRequest}
 use Rattle.front_end.specs.declared.fault.FrontFault.{FrontFault}
 use Rattle.front_end.specs.declared.fault.FrontFault.TheVariants as front
 use Rattle.front_end.specs.declared.fault.Refusal.{Refusal}
 use Rattle.front_end.specs.declared.request.Accepted.{Accepted as Module}
 use Rattle.front_end.specs.declared.request.Request.{Request}
-use Rattle.plain_jobs.specs.Plain.{IsPlain, IsPlainBy}
-use Rattle.plain_jobs.specs.declared.plain.Plain.{Plain}
 use Rattle.tla_meaning.specs.declared.expr.Decl.{Decl}
-use Rattle.tla_meaning.specs.declared.job.Job.{Job}
 use Rattle.trace_text.specs.declared.verdict.Verdict.{Verdict}
 use Rattle.symbolic_mc.specs.declared.answer.Answer.{Answer}
-use Rattle.symbolic_mc.specs.declared.answer.Answer.TheVariants.{Refused, NotBuilt, WriteFault, Checked, NoCertificate, Rechecked}
+use Rattle.symbolic_mc.specs.declared.answer.Answer.TheVariants.{Refused, WriteFault, Checked, NoCertificate, Rechecked}
 use Rattle.symbolic_mc.specs.Naming.{certificate_name}
 use Rattle.symbolic_mc.specs.Report.{refusal_status}
-use Rattle.symbolic_mc.specs.Top.{Checks, IsAnswer, IsPlainModule, ReadFailed, IsTooLong, NotAccepted, NotPlain, WriteFailed, Found, NoFile, Reread, Saves, SavesPart, Touches, asked_of, certificate_limit}
+use Rattle.symbolic_mc.specs.Top.{Checks, IsAnswer, ReadFailed, IsTooLong, NotAccepted, WriteFailed, Found, NoFile, Reread, Saves, SavesPart, Touches, asked_of, certificate_limit, width}
 use Rattle.tla_modules.specs.declared.fault.ModuleFault.TheVariants as modules
-use Rattle.symbolic_mc.specs.Verdicts.{IsChecked}
 use Rattle.symbolic_mc.specs.Words.{Command}
 use Rattle.symbolic_mc.specs.inner.Told.{IsCalm, IsReadFault, requests}
 
@@ -78,10 +76,6 @@ module _ (file : List ℕ) (longest : ℕ) (budget : Option ℕ) (again : Option
   not_accepted r answer is refused want =
       subst (IsAnswer (requests file longest budget again) old new before now) (sym is) (NotAccepted file longest budget r refl refused want stay)
 
-  pub not_plain : (m : Module) → IsAcceptedFor old (asked_of file longest) m → ((says : Plain) → IsPlainBy m.job m.typed says → ⊥)
-      → IsAnswer (requests file longest budget again) old new before now NotBuilt
-  not_plain m accepted none = NotPlain file longest budget m refl accepted none stay
-
 -- the count of the files' faults rises with a failed read alone
 refused_calm : (held : Option Folder) (before now : ℕ) (asked : Request) (files : List (List ℕ)) (names : List Decl) (f : FrontFault)
     → IsRefusal held before now asked files names f → is_want f ≡ false → (now ≡ before) ⊎ (refusal_status f ≡ 40)
@@ -119,7 +113,8 @@ calm_refusal held before now asked r answer is h want =
 
 -- ---- a module that was checked
 
-module _ (m : Plain) (file : List ℕ) (of : Module) (longest : ℕ) (budget : Option ℕ) (again : Option (List ℕ)) (old new : Option Folder) (before now : ℕ) (verdict : Verdict) (sections : List Section) (read : IsPlainModule old file longest of m) (checked : (x : Job) → IsPlain x m → IsChecked x longest budget verdict sections) where
+module _ (file : List ℕ) (of : Module) (longest : ℕ) (budget : Option ℕ) (again : Option (List ℕ)) (old new : Option Folder) (before now : ℕ) (verdict : Verdict) (sections : List Section)
+    (accepted : IsAcceptedFor old (asked_of file longest) of) (checked : IsChecked width of.job of.typed.names longest budget verdict sections) where
   abbrev checks : Checks (requests file longest budget again) old verdict sections
   checks = record {
     file = file;
@@ -127,9 +122,8 @@ module _ (m : Plain) (file : List ℕ) (of : Module) (longest : ℕ) (budget : O
     budget = budget;
     asked = refl;
     of = of;
-    says = m;
-    form = read;
-    checked = checked of.job read.is_plain.plain;
+    accepted = accepted;
+    checked = checked;
   }
 
   pub found_answer : (name : List ℕ) (seen : List Section) → name ≡ certificate_name file → seen ≡ sections
@@ -163,3 +157,12 @@ module _ (m : Plain) (file : List ℕ) (of : Module) (longest : ℕ) (budget : O
       (subst (λ (x : List Section). Changes old new name (IsCut (certificate_text x))) seen_is cut) in
       subst (λ (x : List ℕ). IsAnswer (requests file longest budget again) old new before now (WriteFault x)) (sym (text_is ∙ name_is))
       (WriteFailed verdict sections checks rose here)
+
+-- ---- what a check of accepted modules asks, and what it says of the request
+
+module _ (file : List ℕ) (longest : ℕ) (of : Module) (held : Option Folder) (asked : IsRequest (asked_of file longest)) (accepted : IsAcceptedFor held (asked_of file longest) of) where
+  pub for_request : (budget : Option ℕ) (verdict : Verdict) (sections : List Section) → IsChecked (Some of.width) of.job of.typed.names of.length budget verdict sections
+      → IsChecked width of.job of.typed.names longest budget verdict sections
+  for_request budget verdict sections c =
+      subst (λ (n : ℕ). IsChecked width of.job of.typed.names n budget verdict sections) accepted.same_length
+      (subst (λ (n : ℕ). IsChecked (Some n) of.job of.typed.names of.length budget verdict sections) accepted.same_width c)

@@ -3,12 +3,13 @@ use Rattle.std.proofs.Common.{◌≡◌, ℕ, ◌<◌, ◌≤◌, inl, inr, ◌�
 use Rattle.std.specs.Prelude.{OnOk, OnErr, unwrap_or}
 use Rattle.std.specs.Io.KnownBytes.{Appends}
 use Rattle.refutation_checker.specs.declared.answers.Recheck.TheVariants.{Accepted, BadLine, BadStep}
+use Rattle.bounded_engine.specs.Verdicts.{IsVerdict}
 use Rattle.tool_outside.specs.Causes.{IsLong, WritesPrefix, Stayed}
 use Rattle.tool_outside.specs.Outside.{Folder, Rose, file_at}
 use Rattle.tool_outside.proofs.Prefixes.{all_of}
 use Rattle.tla_meaning.specs.declared.expr.Decl.{Decl}
 use Rattle.tla_meaning.specs.declared.job.Job.{Job}
-use Rattle.front_end.proofs.Apart.{not_refused, one_accepted_job}
+use Rattle.front_end.proofs.Apart.{not_refused}
 use Rattle.front_end.proofs.OneKernel.{same_numbers}
 use Rattle.front_end.specs.Accepted.{IsAcceptedFor}
 use Rattle.front_end.specs.Refused.{IsPassing, IsRefusal, is_want}
@@ -17,10 +18,6 @@ use Rattle.front_end.specs.declared.fault.FrontFault.TheVariants as front
 use Rattle.front_end.specs.declared.fault.Refusal.{Refusal}
 use Rattle.front_end.specs.declared.request.Accepted.{Accepted as Module}
 use Rattle.front_end.specs.declared.request.Request.{Request as Asked}
-use Rattle.plain_jobs.specs.Plain.{IsPlainBy}
-use Rattle.plain_jobs.specs.declared.plain.Plain.{Plain}
-use Rattle.plain_jobs.proofs.EachTyping.{each_typing}
-use Rattle.snowcat_types.specs.Answers.{IsTypedAs}
 use Rattle.tla_modules.specs.Answers as joined
 use Rattle.tla_modules.specs.declared.fault.ModuleFault.TheVariants as modules
 use Rattle.trace_text.specs.declared.verdict.Verdict.{Verdict}
@@ -28,8 +25,7 @@ use Rattle.trace_text.specs.declared.verdict.Verdict.TheVariants.{Clean, Inducti
 use Rattle.trace_text.specs.declared.verdict.Where.TheVariants.{Level, Typed}
 use Rattle.symbolic_mc.specs.declared.answer.Answer.{Answer}
 use Rattle.symbolic_mc.specs.Report.{status_of, refusal_status, verdict_status, report_of, memory_line}
-use Rattle.symbolic_mc.specs.Top.{IsAnswer, NoCommand, NotAccepted, NotPlain, WriteFailed, Found, ReadFailed, IsTooLong, NoFile, Reread, AsksForPlainJob, AsksToRecheck, IsStatus, IsVerdictStatus, IsCutStatus, Tells, TellsPart, WritesError, WritesClean, WritesSpent, WritesAccepted, asked_of, certificate_limit}
-use Rattle.symbolic_mc.specs.Verdicts.{IsVerdict}
+use Rattle.symbolic_mc.specs.Top.{IsAnswer, NoCommand, NotAccepted, WriteFailed, Found, ReadFailed, IsTooLong, NoFile, Reread, AsksForModule, AsksToRecheck, IsStatus, IsVerdictStatus, IsCutStatus, Tells, TellsPart, WritesError, WritesClean, WritesOverflow, WritesSpent, WritesAccepted, asked_of, certificate_limit, width}
 use Rattle.symbolic_mc.specs.Words.{Command, Request}
 use Rattle.std.proofs.lemmas.Bool.{true≢false}
 use Rattle.symbolic_mc.specs.inner.Told.{IsCalm, IsTold}
@@ -42,12 +38,13 @@ in_part (Err e) old new report whole cut = cut
 
 -- ---- the statuses of the answers
 
-found_status : (job : Job) (longest : ℕ) (budget : Option ℕ) (v : Verdict) → IsVerdict job longest budget v → IsVerdictStatus (verdict_status v) × (verdict_status v ≤ 41)
+found_status : (job : Job) (longest : ℕ) (budget : Option ℕ) (v : Verdict) → IsVerdict width job longest budget v → IsVerdictStatus (verdict_status v) × (verdict_status v ≤ 41)
 found_status job longest budget (Clean n) is = (inl refl, omega arith)
 found_status job longest budget (Error n fault trace) is = (inr (inl refl), omega arith)
-found_status job longest budget (Spent n at) is = (inr (inr refl), omega arith)
+found_status job longest budget (Overflow (Level n) part place trace) is = (inr (inr (inl refl)), omega arith)
+found_status job longest budget (Overflow Typed part place trace) is = absurd is
+found_status job longest budget (Spent n at) is = (inr (inr (inr refl)), omega arith)
 found_status job longest budget Inductive is = absurd is
-found_status job longest budget (Overflow w part place trace) is = absurd is
 found_status job longest budget (NotInductive fault trace) is = absurd is
 
 refusal_either : (fault : FrontFault) → (refusal_status fault ≡ 30) ⊎ (refusal_status fault ≡ 40)
@@ -72,7 +69,6 @@ answer_status c old new before now _ (NoCommand none again stay) = (inr (inr (in
 answer_status c old new before now _ (ReadFailed cert asked rose stay) = (inr (inr (inr (inr (inl refl)))), omega arith)
 answer_status c old new before now _ (IsTooLong cert asked long stay) = (inr (inr (inr (inr (inl refl)))), omega arith)
 answer_status c old new before now _ (NotAccepted file longest budget r asked refused want stay) = refusal_answer (refusal_status r.fault) (refusal_either r.fault)
-answer_status c old new before now _ (NotPlain file longest budget m asked accepted nothing stay) = (inr (inr (inl refl)), omega arith)
 answer_status c old new before now _ (WriteFailed verdict sections k rose saved) = (inr (inr (inr (inr (inr (inl refl))))), omega arith)
 answer_status c old new before now _ (Found verdict sections k saved) =
     let of = found_status k.of.job k.longest k.budget verdict k.checked.verdict_is in
@@ -121,14 +117,14 @@ one_request : (c : Command) (file other : List ℕ) (n m : ℕ) (b d : Option �
     → asked_of other m ≡ asked_of file n
 one_request c file other n m b d asked again = ap (λ (r : Request). asked_of r.0 r.1) (the_same (other, m, d) (file, n, b) (sym again ∙ asked))
 
-is_told : (c : Command) (old : Option Folder) (form : AsksForPlainJob c old) → joined.IsTold old
+is_told : (c : Command) (old : Option Folder) (form : AsksForModule c old) → joined.IsTold old
 is_told c old form = (form.folder, form.told)
 
--- modules that are accepted and checked so far are not refused, and are found to be checked so far
-module _ (c : Command) (old : Option Folder) (form : AsksForPlainJob c old) (file : List ℕ) (longest : ℕ) (budget : Option ℕ)
+-- modules that are accepted are not refused
+module _ (c : Command) (old : Option Folder) (form : AsksForModule c old) (file : List ℕ) (longest : ℕ) (budget : Option ℕ)
     (asked : c.0 ≡ Some (file, longest, budget)) where
   accepted_too : IsAcceptedFor old (asked_of file longest) form.of
-  accepted_too = subst (λ (r : Asked). IsAcceptedFor old r form.of) (one_request c _ _ _ _ _ _ asked form.asked) form.form.accepted
+  accepted_too = subst (λ (r : Asked). IsAcceptedFor old r form.of) (one_request c _ _ _ _ _ _ asked form.asked) form.accepted
 
   refused_not : (before now : ℕ) (r : Refusal) → IsRefusal old before now (asked_of file longest) r.files r.names r.fault → is_want r.fault ≡ false
       → Stayed before now → ⊥
@@ -136,20 +132,11 @@ module _ (c : Command) (old : Option Folder) (form : AsksForPlainJob c old) (fil
       passing_not old before now (asked_of file longest) r.files r.names r.fault refused want
       (not_refused same_numbers old (asked_of file longest) (omega arith) form.of accepted_too before now r.files r.names r.fault (is_told c old form) refused) stayed
 
-  plain_too : (m : Module) → IsAcceptedFor old (asked_of file longest) m → ((says : Plain) → IsPlainBy m.job m.typed says → ⊥) → ⊥
-  plain_too m accepted none =
-      let e : form.of.job ≡ m.job = one_accepted_job old (asked_of file longest) form.of m (is_told c old form) accepted_too accepted in
-      let typed : IsTypedAs m.job form.of.typed = subst (λ (j : Job). IsTypedAs j form.of.typed) e form.form.accepted.whole.typed.types in
-      let plain : IsPlainBy m.job form.of.typed form.says = subst (λ (j : Job). IsPlainBy j form.of.typed form.says) e form.form.is_plain in
-      none form.says (each_typing m.job form.of.typed m.typed form.says typed accepted.whole.typed.types plain)
-
-form_answer : (c : Command) (old new : Option Folder) (before now : ℕ) (answer : Answer) → AreApart c → AsksForPlainJob c old → Stayed before now
+form_answer : (c : Command) (old new : Option Folder) (before now : ℕ) (answer : Answer) → AreApart c → AsksForModule c old → Stayed before now
     → IsAnswer c old new before now answer → IsVerdictStatus (status_of answer)
 form_answer c old new before now _ apart form stayed (NoCommand none again stay) = absurd (none_some (sym none ∙ form.asked))
 form_answer c old new before now _ apart form stayed (NotAccepted file longest budget r asked refused want stay) =
     absurd (refused_not c old form file longest budget asked before now r refused want stayed)
-form_answer c old new before now _ apart form stayed (NotPlain file longest budget m asked accepted nothing stay) =
-    absurd (plain_too c old form file longest budget asked m accepted nothing)
 form_answer c old new before now _ apart form stayed (ReadFailed cert asked rose stay) = absurd (apart _ _ form.asked asked)
 form_answer c old new before now _ apart form stayed (IsTooLong cert asked long stay) = absurd (apart _ _ form.asked asked)
 form_answer c old new before now _ apart form stayed (WriteFailed verdict sections k rose saved) = absurd (omega arith)
@@ -161,7 +148,6 @@ cert_answer : (c : Command) (old new : Option Folder) (before now : ℕ) (answer
     → IsAnswer c old new before now answer → (status_of answer ≡ 0) ⊎ (status_of answer ≡ 14)
 cert_answer c old new before now _ apart form stayed (NoCommand none again stay) = absurd (none_some (sym again ∙ form.asked))
 cert_answer c old new before now _ apart form stayed (NotAccepted file longest budget r asked refused want stay) = absurd (apart _ _ asked form.asked)
-cert_answer c old new before now _ apart form stayed (NotPlain file longest budget m asked accepted nothing stay) = absurd (apart _ _ asked form.asked)
 cert_answer c old new before now _ apart form stayed (ReadFailed cert asked rose stay) = absurd (omega arith)
 cert_answer c old new before now _ apart form stayed (IsTooLong cert asked long stay) =
     let same : cert ≡ form.cert = the_same _ _ (sym asked ∙ form.asked) in
@@ -177,7 +163,6 @@ cert_answer c old new before now _ apart form stayed (Reread cert bytes (BadStep
 usage_answer : (c : Command) (old new : Option Folder) (before now : ℕ) (answer : Answer) → c.0 ≡ None → c.1 ≡ None → IsAnswer c old new before now answer → status_of answer ≡ 31
 usage_answer c old new before now _ none again (NoCommand check recheck stay) = refl
 usage_answer c old new before now _ none again (NotAccepted file longest budget r asked refused want stay) = absurd (none_some (sym none ∙ asked))
-usage_answer c old new before now _ none again (NotPlain file longest budget m asked accepted nothing stay) = absurd (none_some (sym none ∙ asked))
 usage_answer c old new before now _ none again (ReadFailed cert asked rose stay) = absurd (none_some (sym again ∙ asked))
 usage_answer c old new before now _ none again (IsTooLong cert asked long stay) = absurd (none_some (sym again ∙ asked))
 usage_answer c old new before now _ none again (WriteFailed verdict sections k rose saved) = absurd (none_some (sym none ∙ k.asked))
@@ -194,7 +179,6 @@ error_answer c old new before now was is _ coded added (ReadFailed cert asked ro
 error_answer c old new before now was is _ coded added (IsTooLong cert asked long stay) = absurd (omega arith)
 error_answer c old new before now was is _ coded added (NotAccepted file longest budget r asked refused want stay) =
     absurd (refusal_not r.fault 12 coded (λ e. omega (e, arith)) (λ e. omega (e, arith)))
-error_answer c old new before now was is _ coded added (NotPlain file longest budget m asked accepted nothing stay) = absurd (omega arith)
 error_answer c old new before now was is _ coded added (WriteFailed verdict sections k rose saved) = absurd (omega arith)
 error_answer c old new before now was is _ coded added (Found (Error n fault trace) sections k saved) =
     record { level = n; fault = fault; trace = trace; sections = sections; checks = k; saved = saved; written = added }
@@ -215,7 +199,6 @@ clean_answer c old new before now was is _ coded added (ReadFailed cert asked ro
 clean_answer c old new before now was is _ coded added (IsTooLong cert asked long stay) = absurd (omega arith)
 clean_answer c old new before now was is _ coded added (NotAccepted file longest budget r asked refused want stay) =
     absurd (refusal_not r.fault 0 coded (λ e. omega (e, arith)) (λ e. omega (e, arith)))
-clean_answer c old new before now was is _ coded added (NotPlain file longest budget m asked accepted nothing stay) = absurd (omega arith)
 clean_answer c old new before now was is _ coded added (WriteFailed verdict sections k rose saved) = absurd (omega arith)
 clean_answer c old new before now was is _ coded added (Found (Clean n) sections k saved) =
     inl record { level = n; sections = sections; checks = k; saved = saved; written = added }
@@ -237,7 +220,6 @@ spent_answer c old new before now was is _ coded added (ReadFailed cert asked ro
 spent_answer c old new before now was is _ coded added (IsTooLong cert asked long stay) = absurd (omega arith)
 spent_answer c old new before now was is _ coded added (NotAccepted file longest budget r asked refused want stay) =
     absurd (refusal_not r.fault 21 coded (λ e. omega (e, arith)) (λ e. omega (e, arith)))
-spent_answer c old new before now was is _ coded added (NotPlain file longest budget m asked accepted nothing stay) = absurd (omega arith)
 spent_answer c old new before now was is _ coded added (WriteFailed verdict sections k rose saved) = absurd (omega arith)
 spent_answer c old new before now was is _ coded added (Found (Spent n (Level l)) sections k saved) =
     record { conflicts = n; level = l; sections = sections; checks = k; saved = saved; written = added }
@@ -251,6 +233,27 @@ spent_answer c old new before now was is _ coded added (NoFile cert asked none s
 spent_answer c old new before now was is _ coded added (Reread cert bytes (Accepted r o) asked handed rechecked refutes stay) = absurd (omega arith)
 spent_answer c old new before now was is _ coded added (Reread cert bytes (BadLine n) asked handed rechecked refutes stay) = absurd (omega arith)
 spent_answer c old new before now was is _ coded added (Reread cert bytes (BadStep q s) asked handed rechecked refutes stay) = absurd (omega arith)
+
+overflow_answer : (c : Command) (old new : Option Folder) (before now : ℕ) (was is : Option (List ℕ)) (answer : Answer) → status_of answer ≡ 20
+    → Appends was is (report_of answer) → IsAnswer c old new before now answer → WritesOverflow c old new was is
+overflow_answer c old new before now was is _ coded added (NoCommand none again stay) = absurd (omega arith)
+overflow_answer c old new before now was is _ coded added (ReadFailed cert asked rose stay) = absurd (omega arith)
+overflow_answer c old new before now was is _ coded added (IsTooLong cert asked long stay) = absurd (omega arith)
+overflow_answer c old new before now was is _ coded added (NotAccepted file longest budget r asked refused want stay) =
+    absurd (refusal_not r.fault 20 coded (λ e. omega (e, arith)) (λ e. omega (e, arith)))
+overflow_answer c old new before now was is _ coded added (WriteFailed verdict sections k rose saved) = absurd (omega arith)
+overflow_answer c old new before now was is _ coded added (Found (Overflow (Level l) part place trace) sections k saved) =
+    record { level = l; part = part; place = place; trace = trace; sections = sections; checks = k; saved = saved; written = added }
+overflow_answer c old new before now was is _ coded added (Found (Overflow Typed part place trace) sections k saved) = absurd k.checked.verdict_is
+overflow_answer c old new before now was is _ coded added (Found (Clean n) sections k saved) = absurd (omega arith)
+overflow_answer c old new before now was is _ coded added (Found (Error n fault trace) sections k saved) = absurd (omega arith)
+overflow_answer c old new before now was is _ coded added (Found Inductive sections k saved) = absurd (omega arith)
+overflow_answer c old new before now was is _ coded added (Found (Spent n at) sections k saved) = absurd (omega arith)
+overflow_answer c old new before now was is _ coded added (Found (NotInductive fault trace) sections k saved) = absurd (omega arith)
+overflow_answer c old new before now was is _ coded added (NoFile cert asked none stay) = absurd (omega arith)
+overflow_answer c old new before now was is _ coded added (Reread cert bytes (Accepted r o) asked handed rechecked refutes stay) = absurd (omega arith)
+overflow_answer c old new before now was is _ coded added (Reread cert bytes (BadLine n) asked handed rechecked refutes stay) = absurd (omega arith)
+overflow_answer c old new before now was is _ coded added (Reread cert bytes (BadStep q s) asked handed rechecked refutes stay) = absurd (omega arith)
 
 -- ---- what the status says
 
@@ -298,12 +301,17 @@ module _ (c : Command) (old new : Option Folder) (before now : ℕ) (was is : Op
   told_spent (inr (inl cut)) coded = absurd (let status = cut.0 in omega arith)
   told_spent (inr (inr none)) coded = absurd (let status = none.0 in omega arith)
 
+  pub told_overflow : IsTold answer was is sink_before sink_now result → result ≡ 20 → WritesOverflow c old new was is
+  told_overflow (inl all) coded = overflow_answer c old new before now was is answer (sym all.0 ∙ coded) all.1 cause
+  told_overflow (inr (inl cut)) coded = absurd (let status = cut.0 in omega arith)
+  told_overflow (inr (inr none)) coded = absurd (let status = none.0 in omega arith)
+
   pub told_usage : IsTold answer was is sink_before sink_now result → c.0 ≡ None → c.1 ≡ None → (result ≡ 31) ⊎ IsCutStatus result
   told_usage (inl all) none again = inl (all.0 ∙ usage_answer c old new before now answer none again cause)
   told_usage (inr (inl cut)) none again = inr (inl cut.0)
   told_usage (inr (inr spent)) none again = inr (inr spent.0)
 
-  pub told_form : AreApart c → IsTold answer was is sink_before sink_now result → AsksForPlainJob c old → Stayed before now → Stayed sink_before sink_now
+  pub told_form : AreApart c → IsTold answer was is sink_before sink_now result → AsksForModule c old → Stayed before now → Stayed sink_before sink_now
       → IsVerdictStatus result ⊎ (result ≡ 50)
   told_form apart (inl all) form stayed calm = inl (subst IsVerdictStatus (sym all.0) (form_answer c old new before now answer apart form stayed cause))
   told_form apart (inr (inl cut)) form stayed calm = absurd (let rose = cut.1 in omega arith)

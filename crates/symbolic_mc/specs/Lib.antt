@@ -1,9 +1,5 @@
-pub mod Encodings
 pub mod Naming
 pub mod Report
-pub mod Sections
-pub mod States
 pub mod Top
-pub mod Verdicts
 pub mod Words
 pub mod inner

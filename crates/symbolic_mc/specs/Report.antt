@@ -11,7 +11,7 @@ use Rattle.trace_text.specs.Reports as reports
 use Rattle.trace_text.specs.declared.verdict.Verdict.{Verdict}
 use Rattle.trace_text.specs.declared.verdict.Verdict.TheVariants.{Clean, Inductive, Error, Overflow, Spent, NotInductive}
 use Rattle.symbolic_mc.specs.declared.answer.Answer.{Answer}
-use Rattle.symbolic_mc.specs.declared.answer.Answer.TheVariants.{Usage, ReadFault, TooLong, Refused, NotBuilt, WriteFault, Checked, NoCertificate, Rechecked}
+use Rattle.symbolic_mc.specs.declared.answer.Answer.TheVariants.{Usage, ReadFault, TooLong, Refused, WriteFault, Checked, NoCertificate, Rechecked}
 
 -- ---- statuses
 
@@ -40,7 +40,6 @@ status_of (ReadFault file) = 40
 status_of (TooLong file) = 40
 status_of (WriteFault file) = 41
 status_of (Refused refusal) = refusal_status refusal.fault
-status_of NotBuilt = 30
 status_of (Checked names files verdict) = verdict_status verdict
 status_of NoCertificate = 14
 status_of (Rechecked answer) = recheck_status answer
@@ -59,7 +58,6 @@ report_of (ReadFault file) = codes "read fault: " ++ file ++ codes "\n"
 report_of (TooLong file) = codes "file is too long: " ++ file ++ codes "\n"
 report_of (WriteFault file) = codes "write fault: " ++ file ++ codes "\n"
 report_of (Refused refusal) = refusal_text refusal
-report_of NotBuilt = codes "refused: form is not built\n"
 report_of (Checked names files verdict) = reports.report_of verdict names files
 report_of NoCertificate = codes "certificate refused: no file\n"
 report_of (Rechecked answer) = recheck_report answer

@@ -6,6 +6,9 @@ use Rattle.refutation_checker.specs.declared.answers.Recheck.TheVariants.{Accept
 use Rattle.refutation_checker.specs.declared.section.Section.{Section}
 use Rattle.refutation_checker.specs.Certificate.{certificate_text}
 use Rattle.refutation_checker.specs.Rechecking.{IsRechecked, RefutesClosed, WhereAccepted}
+use Rattle.bounded_engine.specs.Answers.{IsChecked}
+use Rattle.tla_meaning.specs.declared.place.Place.{Place}
+use Rattle.tla_meaning.specs.Numbers.{Width}
 use Rattle.tool_outside.specs.Causes.{Holds, IsLong, HandedOut, IsCut, WritesPrefix}
 use Rattle.tool_outside.specs.Outside.{Folder, Changes, Rose, file_at}
 use Rattle.front_end.specs.Accepted.{IsAcceptedFor}
@@ -13,19 +16,17 @@ use Rattle.front_end.specs.Refused.{IsRefusal, is_want}
 use Rattle.front_end.specs.declared.fault.Refusal.{Refusal}
 use Rattle.front_end.specs.declared.request.Accepted.{Accepted as Module}
 use Rattle.front_end.specs.declared.request.Request.{Request}
-use Rattle.plain_jobs.specs.Plain.{IsPlainBy}
-use Rattle.plain_jobs.specs.declared.plain.Plain.{Plain}
 use Rattle.trace_text.specs.Reports as reports
 use Rattle.trace_text.specs.declared.verdict.Fault.{Fault}
+use Rattle.trace_text.specs.declared.verdict.Part.{Part}
 use Rattle.trace_text.specs.declared.verdict.Trace.{Trace}
 use Rattle.trace_text.specs.declared.verdict.Verdict.{Verdict}
-use Rattle.trace_text.specs.declared.verdict.Verdict.TheVariants.{Clean, Error, Spent}
+use Rattle.trace_text.specs.declared.verdict.Verdict.TheVariants.{Clean, Error, Overflow, Spent}
 use Rattle.trace_text.specs.declared.verdict.Where.TheVariants.{Level}
 use Rattle.symbolic_mc.specs.declared.answer.Answer.{Answer}
-use Rattle.symbolic_mc.specs.declared.answer.Answer.TheVariants.{Usage, ReadFault, TooLong, Refused, NotBuilt, WriteFault, Checked, NoCertificate, Rechecked}
+use Rattle.symbolic_mc.specs.declared.answer.Answer.TheVariants.{Usage, ReadFault, TooLong, Refused, WriteFault, Checked, NoCertificate, Rechecked}
 use Rattle.symbolic_mc.specs.Naming.{certificate_name}
 use Rattle.symbolic_mc.specs.Report.{recheck_report, report_of, status_of}
-use Rattle.symbolic_mc.specs.Verdicts.{IsChecked}
 use Rattle.symbolic_mc.specs.Words.{Command}
 
 -- the most bytes that a certificate may have: 256 MiB
@@ -47,10 +48,9 @@ asked_of file longest = record {
   bounds = None;
 }
 
--- the modules of the file are accepted for so many steps, and their job says this, which is checked so far
-pub record IsPlainModule (held : Option Folder) (file : List ℕ) (longest : ℕ) (m : Module) (says : Plain) : Type 0 where
-  pub accepted : IsAcceptedFor held (asked_of file longest) m
-  pub is_plain : IsPlainBy m.job m.typed says
+-- the bits of an integer
+abbrev pub width : Width
+width = Some 32
 
 -- the command names a file whose modules are accepted, and these are the verdict on their job and its certificate
 pub record Checks (c : Command) (held : Option Folder) (verdict : Verdict) (sections : List Section) : Type 0 where
@@ -59,9 +59,8 @@ pub record Checks (c : Command) (held : Option Folder) (verdict : Verdict) (sect
   pub budget : Option ℕ
   pub asked : c.0 ≡ Some (file, longest, budget)
   pub of : Module
-  pub says : Plain
-  pub form : IsPlainModule held file longest of says
-  pub checked : IsChecked of.job longest budget verdict sections
+  pub accepted : IsAcceptedFor held (asked_of file longest) of
+  pub checked : IsChecked width of.job of.typed.names longest budget verdict sections
 
 -- the certificate's file holds its text, and every other file is as before
 abbrev pub Saves : List ℕ → List Section → Option Folder → Option Folder → Type 0
@@ -81,10 +80,6 @@ pub data IsAnswer (c : Command) (old new : Option Folder) (before now : ℕ) : A
   NotAccepted : (file : List ℕ) (longest : ℕ) (budget : Option ℕ) (r : Refusal) → c.0 ≡ Some (file, longest, budget)
       → IsRefusal old before now (asked_of file longest) r.files r.names r.fault → is_want r.fault ≡ false → new ≡ old
       → IsAnswer c old new before now (Refused r)
-  -- they are accepted, and what their job says is not checked so far
-  NotPlain : (file : List ℕ) (longest : ℕ) (budget : Option ℕ) (m : Module) → c.0 ≡ Some (file, longest, budget)
-      → IsAcceptedFor old (asked_of file longest) m → ((says : Plain) → IsPlainBy m.job m.typed says → ⊥) → new ≡ old
-      → IsAnswer c old new before now NotBuilt
   -- the count rose while the certificate was written
   WriteFailed : (verdict : Verdict) (sections : List Section) (k : Checks c old verdict sections) → Rose before now
       → SavesPart k.file sections old new → IsAnswer c old new before now (WriteFault (certificate_name k.file))
@@ -137,6 +132,17 @@ pub record WritesClean (c : Command) (old new : Option Folder) (was is : Option 
   pub saved : Saves checks.file sections old new
   pub written : Appends was is (reports.report_of (Clean level) checks.of.job.names checks.of.job.files)
 
+-- an integer outside the width: no lower level errs, and what the report shows computes one
+pub record WritesOverflow (c : Command) (old new : Option Folder) (was is : Option (List ℕ)) : Type 0 where
+  pub level : ℕ
+  pub part : Part
+  pub place : Place
+  pub trace : Trace
+  pub sections : List Section
+  pub checks : Checks c old (Overflow (Level level) part place trace) sections
+  pub saved : Saves checks.file sections old new
+  pub written : Appends was is (reports.report_of (Overflow (Level level) part place trace) checks.of.job.names checks.of.job.files)
+
 -- the conflicts of the command were spent at a level
 pub record WritesSpent (c : Command) (old new : Option Folder) (was is : Option (List ℕ)) : Type 0 where
   pub conflicts : ℕ
@@ -168,8 +174,8 @@ Touches c old new =
 
 -- ---- when which status comes
 
--- the command names a file whose modules, as the files are told, are accepted and checked so far
-pub record AsksForPlainJob (c : Command) (held : Option Folder) : Type 0 where
+-- the command names a file whose modules, as the files are told, are accepted
+pub record AsksForModule (c : Command) (held : Option Folder) : Type 0 where
   pub folder : Folder
   pub told : held ≡ Some folder
   pub file : List ℕ
@@ -177,8 +183,7 @@ pub record AsksForPlainJob (c : Command) (held : Option Folder) : Type 0 where
   pub budget : Option ℕ
   pub asked : c.0 ≡ Some (file, longest, budget)
   pub of : Module
-  pub says : Plain
-  pub form : IsPlainModule held file longest of says
+  pub accepted : IsAcceptedFor held (asked_of file longest) of
 
 -- the command asks for a certificate which the files, as they are told, do not hold too long
 pub record AsksToRecheck (c : Command) (held : Option Folder) : Type 0 where
@@ -194,7 +199,7 @@ IsCutStatus status = (status ≡ 41) ⊎ (status ≡ 50)
 
 -- a verdict on a module
 abbrev pub IsVerdictStatus : ℕ → Type 0
-IsVerdictStatus status = (status ≡ 0) ⊎ (status ≡ 12) ⊎ (status ≡ 21)
+IsVerdictStatus status = (status ≡ 0) ⊎ (status ≡ 12) ⊎ (status ≡ 20) ⊎ (status ≡ 21)
 
 abbrev pub IsStatus : ℕ → Type 0
 IsStatus status = IsVerdictStatus status ⊎ (status ≡ 14) ⊎ (status ≡ 30) ⊎ (status ≡ 31) ⊎ (status ≡ 40) ⊎ IsCutStatus status

@@ -1,5 +1,1 @@
-pub mod Asking
-pub mod Checking
-pub mod Boolean
-pub mod Levels
 pub mod Told

@@ -21,8 +21,6 @@ pub(crate) enum Answer {
     TooLong(Text),
     /// The modules of the file are refused.
     Refused(Refusal),
-    /// They are accepted, and what their job says is not checked so far.
-    NotBuilt,
     /// The certificate of this name could not be written.
     WriteFault(Text),
     /// The verdict on a module with these names, of the files of these names.
@@ -43,7 +41,6 @@ impl Answer {
             Answer::ReadFault(_) | Answer::TooLong(_) => 40,
             Answer::WriteFault(_) => 41,
             Answer::Refused(refusal) => refusal_status(&refusal.fault),
-            Answer::NotBuilt => 30,
             Answer::Checked(_, _, verdict) => verdict_status(verdict),
             Answer::NoCertificate => 14,
             Answer::Rechecked(answer) => recheck_status(answer),
@@ -63,7 +60,6 @@ impl Answer {
             Answer::TooLong(file) => line(alloc, "file is too long: ", file, "\n"),
             Answer::WriteFault(file) => line(alloc, "write fault: ", file, "\n"),
             Answer::Refused(refusal) => refusal_text(alloc, refusal),
-            Answer::NotBuilt => Vec::from_slice(alloc, b"refused: form is not built\n"),
             Answer::Checked(names, files, verdict) => report_text(alloc, verdict, names, files),
             Answer::NoCertificate => Vec::from_slice(alloc, b"certificate refused: no file\n"),
             Answer::Rechecked(answer) => recheck_report(alloc, answer),

@@ -9,10 +9,7 @@ use tool_outside::{HostFiles, HostSink};
 
 mod accepting;
 mod answer;
-mod asking;
-mod checking;
 mod copies;
-mod encoding;
 mod lines;
 mod naming;
 mod saving;
@@ -46,6 +43,10 @@ fn given_words(rt: &HostRuntime, alloc: Global) -> Result<Vec<String>, AllocErro
     }
 }
 
+#[cfg(test)]
+mod checks;
+#[cfg(test)]
+mod known;
 #[cfg(test)]
 mod rows;
 #[cfg(test)]

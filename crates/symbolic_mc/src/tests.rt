@@ -38,7 +38,7 @@ Inv == x # TRUE
 ====
 ";
 
-// Init gives x both values: no state starts, and the layout has no such text.
+// Init gives x both values: no state starts.
 const NO_START: &str = "---- MODULE Toggle ----
 VARIABLE
   \\* @type: Bool;
@@ -334,16 +334,15 @@ fn verdicts_have_their_status_and_their_bytes(rt: HostRuntime) -> Result<(), Fai
     agrees(&rt, toggle, TOGGLE, CALM, 12, TOGGLE_REPORT)?;
     agrees(&rt, start, FREE_TOGGLE, CALM, 12, free)?;
     agrees(&rt, toggle, BY_HAND, CALM, 12, BY_HAND_REPORT)?;
+    agrees(&rt, toggle, UNEQUAL_TOGGLE, CALM, 12, TOGGLE_REPORT)?;
+    agrees(&rt, toggle, NO_START, CALM, 0, "no error to 1\n")?;
     agrees(&rt, start, TOGGLE, CALM, 0, "no error to 0\n")
 }
 
 #[test]
 fn refusals_have_their_status_and_their_bytes(rt: HostRuntime) -> Result<(), Fail> {
     let toggle = &["check", "Toggle.tla", "1"];
-    let no_form = "refused: form is not built\n";
     let no_module = "refused: module Gone is missing\n";
-    agrees(&rt, toggle, UNEQUAL_TOGGLE, CALM, 30, no_form)?;
-    agrees(&rt, toggle, NO_START, CALM, 30, no_form)?;
     agrees(
         &rt,
         toggle,
@@ -358,14 +357,19 @@ fn refusals_have_their_status_and_their_bytes(rt: HostRuntime) -> Result<(), Fai
     Ok(())
 }
 
-// The text of `Row.tla` with this invariant is refused with this line.
-fn refuses(rt: &(impl Abort + AllocGlobal), invariant: &str, line: &str) -> Result<(), Fail> {
+// This is the status, and what is printed, for the text of `Row.tla` with this invariant.
+fn tells(
+    rt: &(impl Abort + AllocGlobal),
+    invariant: &str,
+    expected: u8,
+    line: &str,
+) -> Result<(), Fail> {
     let mut text = String::from_str(rt.alloc(), ROW_HEAD)?;
     text.push_str(invariant)?;
     text.push_str("\n====\n")?;
     let words = &["check", "Row.tla", "0"];
     let (status, out) = answers_for(rt.alloc(), words, "Row.tla", &text, CALM)?;
-    assert_eq!(rt; status, 30, "{line}");
+    assert_eq!(rt; status, expected, "{line}");
     assert_eq!(rt; out.as_slice(), line.as_bytes());
     Ok(())
 }
@@ -384,9 +388,8 @@ fn refusals_of_a_text_name_their_place_and_cause(rt: HostRuntime) -> Result<(), 
             "\\E <<a, b>> \\in {} : x",
             "refused: tuple pattern is not supported at Row:8:11\n",
         ),
-        ("x = FALSE", "refused: form is not built\n"),
     ] {
-        refuses(&rt, invariant, line)?;
+        tells(&rt, invariant, 30, line)?;
     }
     Ok(())
 }
@@ -397,9 +400,15 @@ fn four_hundred_levels_are_read_and_no_more(rt: HostRuntime) -> Result<(), Fail>
     for _sign in 0..399 {
         invariant = format!(in rt.alloc(); "~{invariant}")?;
     }
-    refuses(&rt, &invariant, "refused: form is not built\n")?;
+    let found = "error at level 0: invariant Inv is FALSE\nstate 0\n/\\ x = FALSE\n";
+    tells(&rt, &invariant, 12, found)?;
     invariant = format!(in rt.alloc(); "~{invariant}")?;
-    refuses(&rt, &invariant, "refused: nesting past 400 at Row:8:1\n")
+    tells(
+        &rt,
+        &invariant,
+        30,
+        "refused: nesting past 400 at Row:8:1\n",
+    )
 }
 
 // Behind the read come the create of the certificate, its first line and its six sections.

@@ -2,25 +2,22 @@
 ghost use Rattle.std.specs.Prelude.{◌≡◌, ◌⊎◌, ◌<◌, ℕ, List as Items, Option, None, Some, IfOk};
 ghost use Rattle.tool_outside.specs.Causes.{Stayed, WritesPrefix};
 ghost use Rattle.tool_outside.specs.Outside.{Rose};
-ghost use Rattle.tla_meaning.specs.declared.job.Job.{Job as Work};
 ghost use Rattle.front_end.specs.Accepted.{IsAcceptedFor};
-ghost use Rattle.front_end.specs.declared.request.Accepted.{Accepted as Module};
-ghost use Rattle.plain_jobs.specs.Plain.{IsWhole};
 ghost use Rattle.symbolic_mc.specs.Report.{memory_line};
 ghost use Rattle.symbolic_mc.specs.inner.Told.{IsAskable, IsTold, IsReadFault, IsCalm, answer_of, requests};
-ghost use Rattle.symbolic_mc.specs.Top.{WritesError, WritesClean, WritesSpent, WritesAccepted, Tells, TellsPart, Touches, IsAnswer, AsksForPlainJob, AsksToRecheck, IsPlainModule, IsStatus, IsVerdictStatus, IsCutStatus, asked_of};
+ghost use Rattle.symbolic_mc.specs.Top.{WritesError, WritesClean, WritesOverflow, WritesSpent, WritesAccepted, Tells, TellsPart, Touches, IsAnswer, AsksForModule, AsksToRecheck, IsStatus, IsVerdictStatus, IsCutStatus, asked_of};
 ghost use Rattle.symbolic_mc.specs.Words.{command_of, request_of, recheck_of};
 
 use crate::accepting::{accept_file, refused};
 use crate::answer::Answer;
-use crate::checking::check;
 use crate::copies::copied;
 use crate::lines::write_lines;
 use crate::naming::certificate_of;
 use crate::saving::save;
 use crate::words::{Request, recheck_requested, requested};
+use accepted_systems::accepted_systems_can_be_checked;
+use bounded_engine::check_to;
 use front_end::Accepted;
-use plain_jobs::{Plain, plain_of};
 use refutation_checker::recheck;
 use std::alloc::{AllocError, Global};
 use tla_values::Text;
@@ -32,13 +29,14 @@ const CERTIFICATE_LIMIT: u64 = 268_435_456;
 /// Does all that the program does: takes the words after its name, reads the modules or the certificate that they name,
 /// checks it, writes the certificate of a verdict to its file and the report to the sink, and answers the status of
 /// the program: 0 where no level errs or the certificate is accepted, 12 where a level errs, 14 where the certificate
-/// is refused, 21 where the conflicts are spent, 30 where the module is refused, 31 where the words are no command, 40
+/// is refused, 20 where an integer is outside the width, 21 where the conflicts are spent, 30 where the module is refused, 31 where the words are no command, 40
 /// where a read failed or a file is too long, 41 where a write failed, and 50 for want of memory. No file is changed
 /// but the certificate's.
 pub fn run<F: Files, K: Sink>(alloc: Global, words: &[String], files: &mut F, out: &mut K) -> u8
     ensures error { result ≡ 12 → WritesError (command_of words.now) (F.held files.old) (F.held files.new) (K.written out.old) (K.written out.new) }
     ensures clean { result ≡ 0 → WritesClean (command_of words.now) (F.held files.old) (F.held files.new) (K.written out.old) (K.written out.new)
         ⊎ WritesAccepted (command_of words.now) (F.held files.old) (F.held files.new) (K.written out.old) (K.written out.new) }
+    ensures overflow { result ≡ 20 → WritesOverflow (command_of words.now) (F.held files.old) (F.held files.new) (K.written out.old) (K.written out.new) }
     ensures spent { result ≡ 21 → WritesSpent (command_of words.now) (F.held files.old) (F.held files.new) (K.written out.old) (K.written out.new) }
     ensures told { (IsCutStatus result → ⊥) → Tells (command_of words.now) (F.held files.old) (F.held files.new)
         (F.faults files.old) (F.faults files.new) (K.written out.old) (K.written out.new) result }
@@ -51,7 +49,7 @@ pub fn run<F: Files, K: Sink>(alloc: Global, words: &[String], files: &mut F, ou
         ⊎ WritesPrefix (K.written out.old) (K.written out.new) memory_line }
     ensures statuses { IsStatus result }
     ensures usage { request_of words.now ≡ None → recheck_of words.now ≡ None → (result ≡ 31) ⊎ IsCutStatus result }
-    ensures in_form { AsksForPlainJob (command_of words.now) (F.held files.old) → Stayed (F.faults files.old) (F.faults files.new)
+    ensures in_form { AsksForModule (command_of words.now) (F.held files.old) → Stayed (F.faults files.old) (F.faults files.new)
         → Stayed (K.faults out.old) (K.faults out.new) → IsVerdictStatus result ⊎ (result ≡ 50) }
     ensures rechecked { AsksToRecheck (command_of words.now) (F.held files.old) → Stayed (F.faults files.old) (F.faults files.new)
         → Stayed (K.faults out.old) (K.faults out.new) → (result ≡ 0) ⊎ (result ≡ 14) ⊎ (result ≡ 50) }
@@ -106,7 +104,8 @@ fn check_accepted<F: Files>(
     accepted: Accepted,
     files: &mut F,
 ) -> Result<Answer, AllocError>
-    requires { IsAcceptedFor (F.held files.old) (asked_of request.now.file.now request.now.longest) accepted }
+    requires askable { IsAskable request.now.file.now request.now.longest }
+    requires accepted { IsAcceptedFor (F.held files.old) (asked_of request.now.file.now request.now.longest) accepted }
     ensures answer { IfOk result (λ answer. (again : Option (Items ℕ)) → IsAnswer (requests request.now.file.now request.now.longest request.now.budget again)
         (F.held files.old) (F.held files.new) (F.faults files.old) (F.faults files.new) answer) }
     ensures calm { IfOk result (IsCalm (F.faults files.old) (F.faults files.new)) }
@@ -120,58 +119,36 @@ fn check_accepted<F: Files>(
             verdict,
         )),
         Kept::Unsaved(name) => Ok(Answer::WriteFault(name)),
-        Kept::Other => Ok(Answer::NotBuilt),
     }
 }
 
-// What became of a check: its verdict, where the certificate was written; the name of a certificate that could not be;
-// or what the job says is not checked so far.
+// What became of a check: its verdict, where the certificate was written; or the name of a certificate that could not be.
 #[derive(Drop)]
 enum Kept {
     Saved(Verdict),
     Unsaved(Text),
-    Other,
 }
 
-// Checks what the job of accepted modules says, where that is done so far.
+// Checks the job of accepted modules, and writes the certificate.
 fn check_module<F: Files>(
     alloc: Global,
     request: &Request<'_>,
     accepted: &Accepted,
     files: &mut F,
 ) -> Result<Kept, AllocError>
-    requires { IsAcceptedFor (F.held files.old) (asked_of request.now.file.now request.now.longest) accepted.now }
+    requires askable { IsAskable request.now.file.now request.now.longest }
+    requires accepted { IsAcceptedFor (F.held files.old) (asked_of request.now.file.now request.now.longest) accepted.now }
     ensures answer { IfOk result (λ kept. (again : Option (Items ℕ)) → IsAnswer (requests request.now.file.now request.now.longest request.now.budget again)
         (F.held files.old) (F.held files.new) (F.faults files.old) (F.faults files.new) (answer_of kept accepted.now.job)) }
     ensures calm { IfOk result (λ kept. IsCalm (F.faults files.old) (F.faults files.new) (answer_of kept accepted.now.job)) }
     ensures files { (again : Option (Items ℕ)) → Touches (requests request.now.file.now request.now.longest request.now.budget again)
         (F.held files.old) (F.held files.new) }
 {
-    match plain_of(alloc, &accepted.job, &accepted.typed)? {
-        Some(plain) => check_plain(alloc, request, &plain, files),
-        None => Ok(Kept::Other),
-    }
-}
-
-// Checks what a job's parts say, and writes the certificate.
-fn check_plain<F: Files>(
-    alloc: Global,
-    request: &Request<'_>,
-    plain: &Plain,
-    files: &mut F,
-) -> Result<Kept, AllocError>
-    requires { IsWhole plain.now }
-    ensures answer { IfOk result (λ kept. (of : Module) → IsPlainModule (F.held files.old) request.now.file.now request.now.longest of plain.now → (again : Option (Items ℕ))
-        → IsAnswer (requests request.now.file.now request.now.longest request.now.budget again)
-        (F.held files.old) (F.held files.new) (F.faults files.old) (F.faults files.new) (answer_of kept of.job)) }
-    ensures calm { IfOk result (λ kept. (job : Work) → IsCalm (F.faults files.old) (F.faults files.new) (answer_of kept job)) }
-    ensures files { (of : Module) → IsPlainModule (F.held files.old) request.now.file.now request.now.longest of plain.now → (again : Option (Items ℕ))
-        → Touches (requests request.now.file.now request.now.longest request.now.budget again) (F.held files.old) (F.held files.new) }
-{
-    let found = check(alloc, plain, request.longest, request.budget)?;
+    accepted_systems_can_be_checked();
+    let found = check_to(alloc, accepted, request.budget)?;
     let name = certificate_of(alloc, request.file)?;
     let fault = copied(alloc, name.as_bytes())?;
-    match save(alloc, files, name.as_str(), found.sections.as_slice()) {
+    match save(alloc, files, name.as_str(), found.certificate.as_slice()) {
         Ok(()) => Ok(Kept::Saved(found.verdict)),
         Err(FileFail::Failed) => Ok(Kept::Unsaved(fault)),
         Err(FileFail::TooLong) => unreachable!(),

@@ -8,10 +8,10 @@ use Rattle.tool_outside.specs.declared.files.FileFail.{FileFail}
 use Rattle.tool_outside.specs.declared.files.FileFail.TheVariants as fail
 use Rattle.tla_meaning.specs.declared.job.Job.{Job}
 use Rattle.symbolic_mc.specs.declared.answer.Answer.{Answer}
-use Rattle.symbolic_mc.specs.declared.answer.Answer.TheVariants.{Checked, NotBuilt, ReadFault, TooLong, WriteFault}
+use Rattle.symbolic_mc.specs.declared.answer.Answer.TheVariants.{Checked, ReadFault, TooLong, WriteFault}
 use Rattle.symbolic_mc.specs.Report.{status_of, report_of, memory_line}
 use Rattle.symbolic_mc.specs.declared.top.Kept.{Kept}
-use Rattle.symbolic_mc.specs.declared.top.Kept.TheVariants.{Saved, Unsaved, Other}
+use Rattle.symbolic_mc.specs.declared.top.Kept.TheVariants.{Saved, Unsaved}
 use Rattle.symbolic_mc.specs.Words.{Command}
 
 -- the command to check a file
@@ -27,7 +27,6 @@ pub record IsAskable (file : List ℕ) (longest : ℕ) : Type 0 where
 abbrev pub answer_of : Kept → Job → Answer
 answer_of (Saved verdict) job = Checked job.names job.files verdict
 answer_of (Unsaved name) job = WriteFault name
-answer_of Other job = NotBuilt
 
 -- the answer to a read that failed
 abbrev pub IsReadFault : List ℕ → FileFail → Answer → Type 0

@@ -4,8 +4,7 @@ use Rattle.std.specs.Prelude.{Vec}
 use Rattle.std.specs.declared.alloc.Global.{Global}
 use Rattle.symbolic_mc.specs.Top.{certificate_limit}
 use Rattle.symbolic_mc.proofs.Answered.{failed_read, handed_out, no_certificate, not_held, reread}
-use Rattle.symbolic_mc.proofs.Found.{some_of}
-use Rattle.symbolic_mc.proofs.Texts.{on_ok}
+use Rattle.symbolic_mc.proofs.Texts.{on_ok, some_of}
 use Rattle.symbolic_mc.proofs.top.recheck_file.Goals as goal
 
 pub returns-in_ok-recheck-in-Ok-Some-clause-answer : goal.returns-in_ok-recheck-in-Ok-Some-clause-answer

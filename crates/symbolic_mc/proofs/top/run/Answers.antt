@@ -1,5 +1,5 @@
 use Rattle.symbolic_mc.proofs.Commands.{words_apart}
-use Rattle.symbolic_mc.proofs.Told.{told_clean, told_error, told_form, told_memory, told_recheck, told_spent, told_status, told_unwritten, told_usage, told_whole}
+use Rattle.symbolic_mc.proofs.Told.{told_clean, told_error, told_form, told_memory, told_overflow, told_recheck, told_spent, told_status, told_unwritten, told_usage, told_whole}
 use Rattle.symbolic_mc.proofs.top.run.Goals as goal
 
 pub returns-in-Ok-clause-error : goal.returns-in-Ok-clause-error
@@ -7,6 +7,9 @@ returns-in-Ok-clause-error g c = told_error _ (g.F.Files.held c.args.files.now) 
 
 pub returns-in-Ok-clause-clean : goal.returns-in-Ok-clause-clean
 returns-in-Ok-clause-clean g c = told_clean _ (g.F.Files.held c.args.files.now) _ _ _ _ _ _ _ _ c.in-Ok.answer c.in-Ok.ensures.answer c.tell.ensures
+
+pub returns-in-Ok-clause-overflow : goal.returns-in-Ok-clause-overflow
+returns-in-Ok-clause-overflow g c = told_overflow _ (g.F.Files.held c.args.files.now) _ _ _ _ _ _ _ _ c.in-Ok.answer c.in-Ok.ensures.answer c.tell.ensures
 
 pub returns-in-Ok-clause-spent : goal.returns-in-Ok-clause-spent
 returns-in-Ok-clause-spent g c = told_spent _ (g.F.Files.held c.args.files.now) _ _ _ _ _ _ _ _ c.in-Ok.answer c.in-Ok.ensures.answer c.tell.ensures

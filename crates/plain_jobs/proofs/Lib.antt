@@ -1,8 +1,0 @@
-pub mod Counts
-pub mod JobLaws
-pub mod EachTyping
-pub mod Layouts
-pub mod LayoutTypes
-pub mod Trees
-pub mod Truths
-pub mod Typable

@@ -1,4 +1,0 @@
-pub mod Holds
-pub mod Layout
-pub mod Parts
-pub mod Plain
