@@ -1,0 +1,4 @@
+pub mod Plain
+pub mod LateReads
+pub mod TestedPaths
+pub mod ReadyPaths
