@@ -426,10 +426,10 @@ fn decides_known_examples(rt: HostRuntime) -> Result<(), Fail> {
 #[test]
 fn adds_no_more_than_documented(rt: HostRuntime) -> Result<(), Fail> {
     for (call, at8, at32, at64) in [
-        (Call::Add, (26, 103), (98, 391), (194, 775)),
-        (Call::Sub, (26, 103), (98, 391), (194, 775)),
+        (Call::Add, (25, 99), (97, 387), (193, 771)),
+        (Call::Sub, (25, 99), (97, 387), (193, 771)),
         (Call::Neg, (16, 57), (64, 225), (128, 449)),
-        (Call::Mul, (254, 938), (4094, 15290), (16382, 61306)),
+        (Call::Mul, (247, 910), (4063, 15166), (16319, 61054)),
         (Call::DivFloor, (229, 902), (3997, 15926), (16189, 64630)),
         (Call::RemFloor, (229, 902), (3997, 15926), (16189, 64630)),
         (Call::Quotient, (229, 902), (3997, 15926), (16189, 64630)),

@@ -174,6 +174,110 @@ fn gates_add_one_variable_and_few_clauses(rt: HostRuntime) -> Result<(), Fail> {
     Ok(())
 }
 
+// The variable of a literal, and whether it is negated.
+type Operand = (usize, bool);
+
+const A: Operand = (1, false);
+
+const B: Operand = (2, false);
+
+const C: Operand = (3, false);
+
+const NOT_A: Operand = (1, true);
+
+const NOT_B: Operand = (2, true);
+
+const NOT_C: Operand = (3, true);
+
+fn operand(f: &Formula, n: Operand) -> Lit
+    ensures { result.var < f.now.vars }
+{
+    let (var, neg) = n;
+    if var < f.vars() {
+        Lit { var, neg }
+    } else {
+        f.top()
+    }
+}
+
+fn asked(alloc: Global, f: &mut Formula, g: Gate, on: [Operand; 3]) -> Result<Lit, AllocError> {
+    let [x, y, z] = on;
+    let (a, b, c) = (operand(f, x), operand(f, y), operand(f, z));
+    let l = gate_of(alloc, f, g, a, b, c)?;
+    Ok(l)
+}
+
+// One gate and then another over three free variables: how many variables and clauses the second
+// adds, whether its variable is that of the first, and whether its sign is the other.
+fn asked_again(
+    alloc: Global,
+    first: (Gate, [Operand; 3]),
+    second: (Gate, [Operand; 3]),
+) -> Result<(usize, usize, bool, bool), AllocError> {
+    let mut f = Formula::new(alloc)?;
+    for _i in 0..3 {
+        let _l = f.fresh()?;
+    }
+    let older = asked(alloc, &mut f, first.0, first.1)?;
+    let vars = f.vars();
+    let clauses = f.clauses().clauses().len();
+    let newer = asked(alloc, &mut f, second.0, second.1)?;
+    Ok((
+        f.vars().saturating_sub(vars),
+        f.clauses().clauses().len().saturating_sub(clauses),
+        older.var == newer.var,
+        older.neg != newer.neg,
+    ))
+}
+
+// Two gates that ask for the same, and whether for the negation.
+const SAME: [(Gate, [Operand; 3], Gate, [Operand; 3], bool); 12] = [
+    (Gate::And, [A, B, C], Gate::And, [A, B, C], false),
+    (Gate::And, [A, NOT_B, C], Gate::And, [NOT_B, A, C], false),
+    (Gate::Or, [A, B, C], Gate::And, [NOT_B, NOT_A, C], true),
+    (Gate::Xor, [A, B, C], Gate::Xor, [B, A, C], false),
+    (Gate::Xor, [NOT_A, B, C], Gate::Xor, [A, B, C], true),
+    (Gate::Xor, [A, B, C], Gate::Iff, [NOT_A, NOT_B, C], true),
+    (Gate::Mux, [A, B, C], Gate::Mux, [A, B, C], false),
+    (Gate::Mux, [A, B, C], Gate::Mux, [NOT_A, C, B], false),
+    (Gate::Mux, [A, B, NOT_C], Gate::Mux, [A, NOT_B, C], true),
+    (Gate::Mux, [NOT_A, NOT_B, C], Gate::Mux, [A, NOT_C, B], true),
+    (Gate::Iff, [A, C, B], Gate::Mux, [A, C, NOT_C], false),
+    (Gate::All, [A, NOT_B, C], Gate::All, [A, NOT_B, C], false),
+];
+
+#[test]
+fn equal_gates_are_made_once(rt: HostRuntime) -> Result<(), Fail> {
+    for (first, x, second, y, negated) in SAME {
+        let now = asked_again(rt.alloc(), (first, x), (second, y))?;
+        assert_eq!(rt; now, (0, 0, true, negated), "{first:?} {second:?}");
+    }
+    Ok(())
+}
+
+// Two gates that ask for different things, and how many clauses the second adds.
+const DIFFERENT: [(Gate, [Operand; 3], Gate, [Operand; 3], usize); 6] = [
+    (Gate::And, [A, B, C], Gate::And, [A, NOT_B, C], 3),
+    (Gate::And, [A, B, C], Gate::Or, [A, B, C], 3),
+    (Gate::And, [A, B, C], Gate::All, [A, B, C], 4),
+    (Gate::Xor, [A, B, C], Gate::Xor, [A, C, B], 4),
+    (Gate::Mux, [A, B, C], Gate::Mux, [A, C, B], 4),
+    (Gate::Mux, [A, B, C], Gate::Mux, [A, B, NOT_C], 4),
+];
+
+#[test]
+fn other_gates_are_made_anew(rt: HostRuntime) -> Result<(), Fail> {
+    for (first, x, second, y, clauses) in DIFFERENT {
+        let (vars, more, same, _) = asked_again(rt.alloc(), (first, x), (second, y))?;
+        assert_eq!(rt;
+            (vars, more, same),
+            (1, clauses, false),
+            "{first:?} {second:?}"
+        );
+    }
+    Ok(())
+}
+
 // Whether choices by a known literal, or between one literal, are that literal, and add nothing; then how many variables
 // and clauses there are, and with a known branch, which leaves an `and` or an `or`.
 fn known_choices(f: &mut Formula) -> Result<(bool, [usize; 4]), AllocError> {

@@ -1,3 +1,4 @@
 pub mod Extension
 pub mod GateClauses
 pub mod Conjunctions
+pub mod Keeping

@@ -1,15 +1,18 @@
 //! Formulas that grow.
 
-ghost use Rattle.std.specs.Prelude.{◌≡◌, ◌+◌, ◌*◌, ◌^◌, ◌<◌, ◌≤◌, ◌↔◌, ◌++◌, ◌∷◌, [], Bool, true, false, length, IsTrue, IfOk, OnOk, OnErr, All, List};
+ghost use Rattle.std.specs.Prelude.{◌≡◌, ◌+◌, ◌*◌, ◌^◌, ◌<◌, ◌≤◌, ◌↔◌, ◌++◌, ◌∷◌, [], Bool, true, false, length, IsTrue, IfSome, IfOk, OnOk, OnErr, All, List};
 ghost use Rattle.sat_formula.specs.Lit.{lit_value, IsBelow, top_lit};
 ghost use Rattle.sat_formula.specs.Clause.{NamesBelow};
-ghost use Rattle.sat_formula.specs.Formula.{Satisfies, WellFormed, Grows, EitherExtends};
+ghost use Rattle.sat_formula.specs.Formula.{Satisfies, WellFormed, Grows, EitherExtends, HasValue};
+ghost use Rattle.sat_formula.specs.inner.Gates.{gate_value};
 
 use crate::assignment::Assignment;
 use crate::clause::{Clause, Clauses};
 use crate::cnf::Cnf;
+use crate::gate::Gate;
 use crate::lit::Lit;
 use std::alloc::{AllocError, Global};
+use std::collections::HashMap;
 use std::marker::Model;
 
 /// Variables and clauses that grow by gates. Variable 0 is true under each assignment that
@@ -20,6 +23,8 @@ pub struct Formula {
     // One entry for each variable: its length is the number of variables.
     marks: Vec<bool>,
     clauses: Clauses,
+    // The gates so far, each with its literal.
+    gates: HashMap<Gate, Lit>,
 }
 
 impl Model for Formula {
@@ -28,11 +33,11 @@ impl Model for Formula {
 
     ghost Value = { Cnf };
 
-    ghost use Rattle.sat_formula.specs.Formula.{WellFormed};
+    ghost use Rattle.sat_formula.specs.inner.Gates.{IsKept};
 
     ghost view = { λ f. record { vars = vec_len f.marks; clauses = f.clauses } };
 
-    ghost invariant = { λ f. WellFormed (record { vars = vec_len f.marks; clauses = f.clauses }) };
+    ghost invariant = { λ f. IsKept (record { vars = vec_len f.marks; clauses = f.clauses }) f.gates };
 }
 
 impl Formula {
@@ -53,6 +58,7 @@ impl Formula {
             alloc,
             marks,
             clauses,
+            gates: HashMap::new(alloc),
         })
     }
 
@@ -107,6 +113,22 @@ impl Formula {
     {
         let lits = Vec::from_slice(self.alloc, clause)?;
         self.clauses.push(Clause::from_vec(lits))?;
+        Ok(())
+    }
+
+    // The literal that was kept for this gate.
+    pub(crate) fn kept(&self, gate: &Gate) -> Option<Lit>
+        ensures { IfSome result (λ l. HasValue self.now l (gate_value gate.now)) }
+    {
+        self.gates.get(gate).copied()
+    }
+
+    // Keeps the literal of a gate for whoever asks for it again.
+    pub(crate) fn keep(&mut self, gate: Gate, l: Lit) -> Result<(), AllocError>
+        requires { HasValue self.old l (gate_value gate) }
+        ensures { self.new ≡ self.old }
+    {
+        self.gates.insert(gate, l)?;
         Ok(())
     }
 

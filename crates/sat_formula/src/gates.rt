@@ -7,6 +7,7 @@ ghost use Rattle.sat_formula.specs.Clause.{implications};
 ghost use Rattle.sat_formula.specs.Formula.{Grows, HasValue, IsTrivialPair, IsTrivialChoice, IsTrivialList};
 
 use crate::formula::Formula;
+use crate::gate::Gate;
 use crate::lit::Lit;
 use std::alloc::{AllocError, Global};
 
@@ -27,8 +28,26 @@ impl Formula {
         Ok(out)
     }
 
+    // The literal of both, that of an older gate or of a new one.
+    #[tactic(auto, using(crate::proofs::Extension::gates))]
+    fn shared_and(&mut self, x: Lit, y: Lit) -> Result<Lit, AllocError>
+        requires x_below { x.var < self.old.vars }
+        requires y_below { y.var < self.old.vars }
+        ensures value { IfOk result (λ l. HasValue self.new l (λ a. lit_value x a && lit_value y a)) }
+        ensures grows { Grows self.old self.new }
+    {
+        let gate = Gate::both(x, y);
+        if let Some(older) = self.kept(&gate) {
+            return Ok(older);
+        }
+        let out = self.define_and(x, y)?;
+        self.keep(gate, out)?;
+        Ok(out)
+    }
+
     /// A literal that is true exactly where both are. Nothing is added where the operands are
-    /// equal or opposite, or one is `top` or its negation; else one variable and three clauses.
+    /// equal or opposite, or one is `top` or its negation, or where both were asked for before, in
+    /// either order; else one variable and three clauses.
     #[tactic(auto, using(crate::proofs::Extension::gates))]
     pub fn and(&mut self, x: Lit, y: Lit) -> Result<Lit, AllocError>
         requires x_below { x.var < self.old.vars }
@@ -48,7 +67,7 @@ impl Formula {
         if y == top {
             return Ok(x);
         }
-        self.define_and(x, y)
+        self.shared_and(x, y)
     }
 
     /// A literal that is true exactly where one of them is. It adds what `and` does.
@@ -82,9 +101,47 @@ impl Formula {
         Ok(out)
     }
 
+    // The literal of a choice, that of an older gate or of a new one.
+    #[tactic(auto, using(crate::proofs::Extension::gates))]
+    fn shared_mux(&mut self, c: Lit, y: Lit, z: Lit) -> Result<Lit, AllocError>
+        requires c_below { c.var < self.old.vars }
+        requires y_below { y.var < self.old.vars }
+        requires z_below { z.var < self.old.vars }
+        ensures value { IfOk result (λ l. HasValue self.new l
+            (λ a. if lit_value c a then lit_value y a else lit_value z a)) }
+        ensures grows { Grows self.old self.new }
+    {
+        let gate = Gate::Mux(c, y, z);
+        if let Some(older) = self.kept(&gate) {
+            return Ok(older);
+        }
+        let out = self.define_mux(c, y, z)?;
+        self.keep(gate, out)?;
+        Ok(out)
+    }
+
+    // The same choice, by way of one whose second literal is a variable.
+    #[tactic(auto, using(crate::proofs::Extension::gates))]
+    fn upright_mux(&mut self, c: Lit, y: Lit, z: Lit) -> Result<Lit, AllocError>
+        requires c_below { c.var < self.old.vars }
+        requires y_below { y.var < self.old.vars }
+        requires z_below { z.var < self.old.vars }
+        ensures value { IfOk result (λ l. HasValue self.new l
+            (λ a. if lit_value c a then lit_value y a else lit_value z a)) }
+        ensures grows { Grows self.old self.new }
+    {
+        if y.neg {
+            let out = self.shared_mux(c, y.negated(), z.negated())?;
+            return Ok(out.negated());
+        }
+        self.shared_mux(c, y, z)
+    }
+
     /// A literal that has the value of `y` where `c` is true, and that of `z` elsewhere. Nothing
     /// is added where `c` is `top` or its negation, or `y` and `z` are equal; what `and` adds,
-    /// where `y` or `z` is `top` or its negation; else one variable and four clauses.
+    /// where `y` or `z` is `top` or its negation; what `xor` adds, where they are opposite; nothing
+    /// where the choice was asked for before, also by the negation of `c`, or between the negations
+    /// of `y` and `z`; else one variable and four clauses.
     #[tactic(auto, using(crate::proofs::Extension::gates))]
     pub fn mux(&mut self, c: Lit, y: Lit, z: Lit) -> Result<Lit, AllocError>
         requires c_below { c.var < self.old.vars }
@@ -118,11 +175,33 @@ impl Formula {
             let either = self.or(c, z)?;
             return Ok(either);
         }
-        self.define_mux(c, y, z)
+        if y == z.negated() {
+            let same = self.iff(c, y)?;
+            return Ok(same);
+        }
+        if c.neg {
+            return self.upright_mux(c.negated(), z, y);
+        }
+        self.upright_mux(c, y, z)
     }
 
-    /// A literal that is true exactly where the two differ. Nothing is added where `and` adds
-    /// nothing; else one variable and four clauses.
+    // The literal of where the two differ, the lower variable first.
+    #[tactic(auto, using(crate::proofs::Extension::gates))]
+    fn shared_xor(&mut self, x: Lit, y: Lit) -> Result<Lit, AllocError>
+        requires x_below { x.var < self.old.vars }
+        requires y_below { y.var < self.old.vars }
+        ensures value { IfOk result (λ l. HasValue self.new l (λ a. differ (lit_value x a) (lit_value y a))) }
+        ensures grows { Grows self.old self.new }
+    {
+        if y.var < x.var {
+            return self.shared_mux(y, x.negated(), x);
+        }
+        self.shared_mux(x, y.negated(), y)
+    }
+
+    /// A literal that is true exactly where the two differ. Nothing is added where one is `top` or
+    /// its negation, or they are equal or opposite, or where `xor` or `iff` was asked of the same
+    /// variables before; else one variable and four clauses.
     #[tactic(auto, using(crate::proofs::Extension::gates))]
     pub fn xor(&mut self, x: Lit, y: Lit) -> Result<Lit, AllocError>
         requires x_below { x.var < self.old.vars }
@@ -150,7 +229,19 @@ impl Formula {
                 neg: x.neg == y.neg,
             });
         }
-        self.define_mux(x, y.negated(), y)
+        let first = Lit {
+            var: x.var,
+            neg: false,
+        };
+        let second = Lit {
+            var: y.var,
+            neg: false,
+        };
+        let out = self.shared_xor(first, second)?;
+        if x.neg == y.neg {
+            return Ok(out);
+        }
+        Ok(out.negated())
     }
 
     /// A literal that is true exactly where the two agree. It adds what `xor` does.
@@ -195,9 +286,26 @@ impl Formula {
         Ok(out)
     }
 
+    // The literal of all of them, that of an older gate or of a new one.
+    #[tactic(auto, using(crate::proofs::Extension::gates))]
+    fn shared_all(&mut self, alloc: Global, lits: &[Lit]) -> Result<Lit, AllocError>
+        requires { All (IsBelow self.old.vars) lits.now }
+        ensures value { IfOk result (λ l. HasValue self.new l (λ a. list_all (λ x. lit_value x a) lits.now)) }
+        ensures grows { Grows self.old self.new }
+    {
+        let gate = Gate::AndAll(Vec::from_slice(alloc, lits)?);
+        if let Some(older) = self.kept(&gate) {
+            return Ok(older);
+        }
+        let out = self.define_all(alloc, lits)?;
+        self.keep(gate, out)?;
+        Ok(out)
+    }
+
     /// A literal that is true exactly where all of them are, which is everywhere where there is
     /// none. Nothing is added where a literal is the negation of `top`, or at most one is not
-    /// `top`; else one variable, and one clause more than there are literals other than `top`.
+    /// `top`, or where the literals other than `top` were asked for before, in the same order;
+    /// else one variable, and one clause more than there are literals other than `top`.
     #[tactic(auto, using(crate::proofs::Extension::gates))]
     pub fn and_all(&mut self, alloc: Global, lits: &[Lit]) -> Result<Lit, AllocError>
         requires { All (IsBelow self.old.vars) lits.now }
@@ -217,7 +325,7 @@ impl Formula {
         if rest.len() == 1 {
             return Ok(rest[0]);
         }
-        let all = self.define_all(alloc, rest)?;
+        let all = self.shared_all(alloc, rest)?;
         Ok(all)
     }
 }

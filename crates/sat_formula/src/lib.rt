@@ -12,6 +12,7 @@ mod assignment;
 mod clause;
 mod cnf;
 mod formula;
+mod gate;
 mod gates;
 mod lit;
 mod word;

@@ -120,7 +120,7 @@ pub(crate) fn narrow(
 
 /// The sum, and a literal that is true where it is outside of the width; the word then holds its
 /// low bits.
-/// Over free words it adds 26, 98 and 194 variables, and 103, 391 and 775 clauses, at
+/// Over free words it adds 25, 97 and 193 variables, and 99, 387 and 771 clauses, at
 /// widths 8, 32 and 64.
 #[tactic(auto, using(sat_formula::proofs::Extension::gates, crate::proofs::Words::words))]
 pub fn add(alloc: Global, f: &mut Formula, x: &Word, y: &Word) -> Result<(Word, Lit), AllocError>
@@ -137,7 +137,7 @@ pub fn add(alloc: Global, f: &mut Formula, x: &Word, y: &Word) -> Result<(Word, 
 
 /// The difference x - y, and a literal that is true where it is outside of the width; the word
 /// then holds its low bits.
-/// Over free words it adds 26, 98 and 194 variables, and 103, 391 and 775 clauses, at
+/// Over free words it adds 25, 97 and 193 variables, and 99, 387 and 771 clauses, at
 /// widths 8, 32 and 64.
 #[tactic(auto, using(sat_formula::proofs::Extension::gates, crate::proofs::Words::words))]
 pub fn sub(alloc: Global, f: &mut Formula, x: &Word, y: &Word) -> Result<(Word, Lit), AllocError>

@@ -69,7 +69,7 @@ fn wide_product(
 
 /// The product, and a literal that is true where it is outside of the width; the word then holds
 /// its low bits.
-/// Over free words it adds 254, 4094 and 16382 variables, and 938, 15290 and 61306 clauses, at
+/// Over free words it adds 247, 4063 and 16319 variables, and 910, 15166 and 61054 clauses, at
 /// widths 8, 32 and 64.
 #[tactic(auto, using(sat_formula::proofs::Extension::gates, crate::proofs::Words::words))]
 pub fn mul(alloc: Global, f: &mut Formula, x: &Word, y: &Word) -> Result<(Word, Lit), AllocError>

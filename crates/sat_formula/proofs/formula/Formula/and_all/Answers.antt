@@ -44,8 +44,8 @@ returns-then-is_empty-clause-value c =
 below_others : (f : Cnf) (w v : List Lit) → v ≡ others w → All (IsBelow f.vars) w → All (IsBelow f.vars) v
 below_others f w v e h = subst (λ (v : List Lit). All (IsBelow f.vars) v) (sym e) (All-filter (λ (l : Lit). not (nat_eq l.var 0)) (IsBelow f.vars) w h)
 
-pub define_all-requires : goal.define_all-requires
-define_all-requires c = below_others c.args.self.now c.args.lits.now c.as_slice-rest.result.now (c.as_slice-rest.ensures.value ∙ c.in_ok-open.ensures) c.requires
+pub shared_all-requires : goal.shared_all-requires
+shared_all-requires c = below_others c.args.self.now c.args.lits.now c.as_slice-rest.result.now (c.as_slice-rest.ensures.value ∙ c.in_ok-open.ensures) c.requires
 
 pub returns-then-rest-eq1-clause-value : goal.returns-then-rest-eq1-clause-value
 returns-then-rest-eq1-clause-value c =
@@ -68,7 +68,7 @@ returns-clause-value c =
     let w = c.args.lits.now in
     let v = c.as_slice-rest.result.now in
     let same : v ≡ others w = c.as_slice-rest.ensures.value ∙ c.in_ok-open.ensures in
-    HasValue-same c.define_all.new.self c.in_ok-all.all (λ a. all_true v a) (λ a. all_true w a) c.in_ok-all.ensures.value
+    HasValue-same c.shared_all.new.self c.in_ok-all.all (λ a. all_true v a) (λ a. all_true w a) c.in_ok-all.ensures.value
     (λ a s.
     let t = c.top-top.ensures.forced a (Satisfies-older _ _ a c.in_ok-all.ensures.grows s) in
     ap (λ (v : List Lit). all_true v a) same ∙ others_same w a (top_true top a c.top-top.ensures.same t) (sym c.has_bottom.ensures ∙ c.if-has_bottom.false))

@@ -1,0 +1,2 @@
+-- What only private clauses and proofs speak of.
+pub mod Gates
