@@ -26,7 +26,7 @@ use Rattle.typed_cells.specs.KindSorts.{sort_of}
 use Rattle.branch_cells.specs.declared.branch.BranchCells.{BranchCells}
 use Rattle.branch_cells.specs.declared.branch.Ends.{Ends}
 use Rattle.branch_cells.specs.Ends.{end_of, ends_at}
-use Rattle.branch_cells.specs.Branches.{AreOfKinds, IsWhole}
+use Rattle.branch_cells.specs.Branches.{AreOfEither, AreOfKinds, IsWhole}
 use Rattle.branch_cells.specs.inner.Layers.{AreCellsOfEither, AreChosen, IsCellOfEither, IsEither, partner}
 use Rattle.branch_cells.proofs.Items.{at_more, decoded_later, kind_at, kinds_at, kinds_count, kinds_from}
 use Rattle.branch_cells.proofs.Narrowing.{partner_all}
@@ -178,18 +178,21 @@ module _ (old : Build) (names : List Kind) (xs ys : List CellId) (first : AreOfK
         (h.each i d (omega (arith, lt, n))).sort (sort_of a) (kinds_at old.arena.kinds names xs i a d first e)
         (kinds_at old.arena.kinds names ys i a d second e))
 
+    pub either_values : AreOfEither new l xs ys ids
+    either_values a s = by (lit_value l a) refl
+      where
+        by : (t : Bool) → lit_value l a ≡ t →
+            map (decode new.arena a) ids ≡ (if lit_value l a then map (decode new.arena a) xs else map
+            (decode new.arena a) ys)
+        by t e =
+            taken a s t e ∙ sym (ap (λ (b : Bool). if b then map (decode new.arena a) xs else map
+            (decode new.arena a) ys) e)
+
     pub either_of_cells : (x y r : Ends) → ((k : Ending) →
         HasValue new.formula (end_of r k) (λ a. if lit_value l a then ends_at x k a else ends_at y k a)) →
         IsEither new l (record { ends = x; next = xs }) (record { ends = y; next = ys })
         (record { ends = r; next = ids })
-    either_of_cells x y r e = record { ends = e; next = λ a s. taken_as a s (lit_value l a) refl; kept = kept_at }
-      where
-        taken_as : (a : List Bool) → Satisfies a new.formula → (t : Bool) → lit_value l a ≡ t →
-            map (decode new.arena a) ids ≡ (if lit_value l a then map (decode new.arena a) xs else map
-            (decode new.arena a) ys)
-        taken_as a s t e =
-            taken a s t e ∙ sym (ap (λ (b : Bool). if b then map (decode new.arena a) xs else map
-            (decode new.arena a) ys) e)
+    either_of_cells x y r e = record { ends = e; next = either_values; kept = kept_at }
 
 -- ---- one part
 

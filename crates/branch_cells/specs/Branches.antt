@@ -1,6 +1,7 @@
 -- Paths over cells as branches: filled, and chosen among. Source: Konnov, Kukovec and Tran, "TLA+ Model Checking Made
 -- Symbolic", OOPSLA 2019, on symbolic transitions.
-use Rattle.std.specs.Prelude.{◌≡◌, ℕ, Bool, true, false, List, [], ◌∷◌, length, map, All, Option, Some, None, slice_get}
+use Rattle.std.specs.Prelude.{◌≡◌, ℕ, Bool, true, false, List, [], ◌∷◌, length, map, All, Option, Some, None}
+use Rattle.std.specs.Prelude.{if◌then◌else◌, slice_get}
 use Rattle.sat_formula.specs.declared.cnf.Cnf.{Cnf}
 use Rattle.sat_formula.specs.Formula.{Satisfies}
 use Rattle.sat_formula.specs.Lit.{lit_value}
@@ -66,6 +67,14 @@ pub record IsFilled (old new : Build) (others : List CellId) (x : PathCells) (r 
   pub rest : (a : List Bool) → Satisfies a new.formula → (k : Ending) → ends_at r.ends k a ≡ true →
       (i : ℕ) (y : CellId × Lit) (id other : CellId) → item_at x.next i ≡ Some y → slice_get r.next i ≡ Some id →
       slice_get others i ≡ Some other → lit_value y.1 a ≡ false → decode new.arena a id ≡ decode new.arena a other
+
+-- ---- one of two
+
+-- the cells have the values of the first where the literal is true, and else of the second
+abbrev pub AreOfEither : Build → Lit → List CellId → List CellId → List CellId → Type 0
+AreOfEither b l xs ys ids =
+    (a : List Bool) → Satisfies a b.formula →
+    map (decode b.arena a) ids ≡ (if lit_value l a then map (decode b.arena a) xs else map (decode b.arena a) ys)
 
 -- ---- one of several
 

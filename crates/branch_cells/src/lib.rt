@@ -14,5 +14,5 @@ pub use branch::{BranchCells, Ends};
 pub use ends::{also, behind, condition, judged};
 pub use filling::fill;
 pub use following::along;
-pub use merging::choose;
+pub use merging::{choose, choose_cells};
 pub use way::Way;

@@ -1,6 +1,6 @@
 //! One of several, chosen by free bits: a chain of up to 8, and a tree above, with one bit for each layer.
 
-ghost use Rattle.branch_cells.specs.Branches.{AreOfKinds, IsChoice, IsWhole};
+ghost use Rattle.branch_cells.specs.Branches.{AreOfEither, AreOfKinds, IsChoice, IsWhole};
 ghost use Rattle.branch_cells.specs.Ends.{EndsBelow, end_of, ends_at};
 ghost use Rattle.branch_cells.specs.declared.branch.BranchCells.{BranchCells as AnyPart};
 ghost use Rattle.branch_cells.specs.inner.Layers.{AreCellsOfEither, AreChosen, IsCellOfEither, IsEither, Narrows, can_end, partner};
@@ -106,6 +106,27 @@ fn choose_names(
         ids.push(id)?;
     }
     Ok(ids)
+}
+
+/// Of each name the first cell where the literal is true, and else the second. Where it is `top` these are the first ones,
+/// and nothing is added.
+#[tactic(auto, using(cell_arena::proofs::Growing::growing))]
+pub fn choose_cells(
+    b: &mut Build,
+    l: Lit,
+    xs: &[CellId],
+    ys: &[CellId],
+) -> Result<List<CellId>, AllocError>
+    ghost names: { Items Kind }
+    requires below { l.var < b.old.formula.vars }
+    requires first { AreOfKinds b.old.arena.kinds names xs.now }
+    requires second { AreOfKinds b.old.arena.kinds names ys.now }
+    ensures either { IfOk result (AreOfEither b.new l xs.now ys.now) }
+    ensures kinds { IfOk result (AreOfKinds b.new.arena.kinds names) }
+    ensures grows { Grows b.old b.new }
+{
+    let cells = choose_names(b, l, xs, ys)?;
+    Ok(List::from_vec(cells))
 }
 
 // The first part where the bit is true, and else the second.

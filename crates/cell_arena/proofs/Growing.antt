@@ -16,7 +16,8 @@ use Rattle.cell_arena.specs.Decode.{decode, kind_value}
 use Rattle.cell_arena.specs.Growth.{Keeps, Grows, Decodes}
 use Rattle.cell_arena.proofs.Held.{NamesBelow-later}
 use Rattle.cell_arena.proofs.Assigned.{decode-append}
-use Rattle.cell_arena.proofs.Decoding.{decode-older, decode-newest}
+use Rattle.cell_arena.specs.inner.Places.{IsOfKind}
+use Rattle.cell_arena.proofs.Decoding.{decode-kind, decode-older, decode-newest}
 
 pub Keeps-refl : (c : Cells) → Keeps c c
 unfolding Keeps
@@ -137,3 +138,10 @@ pub decode-assigned : (b : Build) (id : CellId) (a more : List Bool) → length 
 decode-assigned b id a more n =
     let fits = b.fits in
     decode-append b.arena a more id (held-named (length a) b.arena.vars b.arena.width b.arena.kinds b.built.held (omega arith))
+
+-- a cell of this kind has its value
+pub Decodes-found : (b : Build) (k : CellKind) (id : CellId) → IsOfKind b.arena.kinds k id → Decodes b id (λ a. kind_value b.arena.texts a (decode b.arena a) k)
+Decodes-found b k id is = record {
+  there = is.there;
+  value = λ a s. decode-kind b.arena a id b.built is.there ∙ ap (kind_value b.arena.texts a (decode b.arena a)) is.is;
+}

@@ -82,12 +82,17 @@ pub record IsHeld (n vars width : ℕ) (k : CellKind) : Type 0 where
   pub named : NamesBelow vars k
   pub formed : IsFormed width k
 
--- few and different texts, and cells that refer to older ones only
+-- no two cells have one kind
+abbrev pub AllApart : List CellKind → Type 0
+AllApart ks = (x y : CellId) → x.index < length ks → y.index < length ks → kind_at ks x ≡ kind_at ks y → x.index ≡ y.index
+
+-- few and different texts, and cells of different kinds that refer to older ones only
 pub record WellBuilt (c : Cells) : Type 0 where
   pub differ : AllDiffer c.texts
   pub few : length c.texts < 2 ^ 31
   pub narrow : (4 ≤ c.width) × (c.width ≤ 64)
   pub held : (id : CellId) → id.index < length c.kinds → IsHeld id.index c.vars c.width (kind_at c.kinds id)
+  pub apart : AllApart c.kinds
 
 -- under each satisfying assignment each code and each length is in its range
 unfoldable pub InRange : Cells → Cnf → Type 0

@@ -1,11 +1,11 @@
 -- How a build grows, and what is said of a new cell.
-use Rattle.std.specs.Prelude.{◌≡◌, ◌<◌, ◌≤◌, Bool, List, [], ◌∷◌, ◌++◌, length}
+use Rattle.std.specs.Prelude.{◌≡◌, ◌<◌, ◌≤◌, ◌⊎◌, Bool, List, [], ◌∷◌, ◌++◌, length}
 use Rattle.sat_formula.specs.Formula.{Satisfies, Grows as FormulaGrows}
 use Rattle.tla_values.specs.declared.value.Value.{Value}
 use Rattle.cell_arena.specs.declared.kinds.CellId.{CellId}
 use Rattle.cell_arena.specs.declared.kinds.CellKind.{CellKind}
 use Rattle.cell_arena.specs.declared.build.Build.{Build}
-use Rattle.cell_arena.specs.Cells.{Cells}
+use Rattle.cell_arena.specs.Cells.{Cells, kind_at}
 use Rattle.cell_arena.specs.Decode.{decode}
 
 -- the old cells are the first of the new, and texts and width stay
@@ -30,8 +30,13 @@ pub record Decodes (b : Build) (id : CellId) (meaning : List Bool → Value) : T
   pub there : id.index < length b.arena.kinds
   pub value : (a : List Bool) → Satisfies a b.formula → decode b.arena a id ≡ meaning a
 
--- the cell of this kind is the newest, and nothing else has changed
+-- the cells are as they were, or there is one more, of this kind
+abbrev pub IsOneMore : Cells → Cells → CellKind → Type 0
+IsOneMore old new kind = (new ≡ old) ⊎ (new.kinds ≡ old.kinds ++ kind ∷ [])
+
+-- the cell is there and of this kind, and nothing else has changed but that it may be a new one
 pub record Adds (old new : Build) (kind : CellKind) (id : CellId) : Type 0 where
-  pub newest : id.index ≡ length old.arena.kinds
-  pub kinds : new.arena.kinds ≡ old.arena.kinds ++ kind ∷ []
+  pub there : id.index < length new.arena.kinds
+  pub is : kind_at new.arena.kinds id ≡ kind
+  pub rest : IsOneMore old.arena new.arena kind
   pub formula : new.formula ≡ old.formula

@@ -1,1 +1,3 @@
+pub mod KindNumbers
+pub mod Places
 pub mod Props

@@ -18,7 +18,7 @@ use tla_values::{List, Text, Value};
 
 /// An arena over a formula. Under each assignment that satisfies the formula each cell has one
 /// value, the codes of texts are indexes into the texts, and the lengths of sequences are numbers
-/// of their places.
+/// of their places. A call that makes a cell answers the older one where there is one of its kind.
 #[derive(Drop)]
 pub struct Build {
     pub arena: Arena,
@@ -63,15 +63,18 @@ impl Build {
         self.arena.width()
     }
 
-    // One more cell.
+    // The cell of this kind; one more where there is none.
     #[tactic(auto, using(crate::proofs::Growing::growing))]
-    fn push(&mut self, kind: CellKind) -> Result<CellId, AllocError>
+    fn make(&mut self, kind: CellKind) -> Result<CellId, AllocError>
         requires held { IsHeld (length self.old.arena.kinds) self.old.formula.vars self.old.arena.width kind }
         requires ranges { (a : List Bool) → Satisfies a self.old.formula → IsTrue (in_range (length self.old.arena.texts) a kind) }
         ensures cell { IfOk result (Adds self.old self.new kind) }
         ensures value { IfOk result (λ id. Decodes self.new id (λ a. kind_value self.old.arena.texts a (decode self.old.arena a) kind)) }
         ensures grows { Grows self.old self.new }
     {
+        if let Some(id) = self.arena.find(&kind) {
+            return Ok(id);
+        }
         let vars = self.formula.vars();
         let id = self.arena.push(kind, vars)?;
         Ok(id)
@@ -85,7 +88,7 @@ impl Build {
         ensures value { IfOk result (λ id. Decodes self.new id (λ a. Value.Bool (lit_value l a))) }
         ensures grows { Grows self.old self.new }
     {
-        let id = self.push(CellKind::Bit(l))?;
+        let id = self.make(CellKind::Bit(l))?;
         Ok(id)
     }
 
@@ -98,7 +101,7 @@ impl Build {
         ensures value { IfOk result (λ id. Decodes self.new id (λ a. Value.Int (word_value w a))) }
         ensures grows { Grows self.old self.new }
     {
-        let id = self.push(CellKind::Word(w))?;
+        let id = self.make(CellKind::Word(w))?;
         Ok(id)
     }
 
@@ -113,7 +116,7 @@ impl Build {
         ensures value { IfOk result (λ id. Decodes self.new id (λ a. Value.Text (text_at self.old.arena.texts (word_value code a)))) }
         ensures grows { Grows self.old self.new }
     {
-        let id = self.push(CellKind::Text(code))?;
+        let id = self.make(CellKind::Text(code))?;
         Ok(id)
     }
 
@@ -126,7 +129,7 @@ impl Build {
         ensures value { IfOk result (λ id. Decodes self.new id (λ a. Value.Set (set_of (present a (decode self.old.arena a) edges)))) }
         ensures grows { Grows self.old self.new }
     {
-        let id = self.push(CellKind::Set(edges))?;
+        let id = self.make(CellKind::Set(edges))?;
         Ok(id)
     }
 
@@ -140,7 +143,7 @@ impl Build {
         ensures value { IfOk result (λ id. Decodes self.new id (λ a. Value.Fun (function_of (present_pairs a (decode self.old.arena a) edges)))) }
         ensures grows { Grows self.old self.new }
     {
-        let id = self.push(CellKind::Fun(edges))?;
+        let id = self.make(CellKind::Fun(edges))?;
         Ok(id)
     }
 
@@ -153,7 +156,7 @@ impl Build {
         ensures value { IfOk result (λ id. Decodes self.new id (λ a. Value.Fun (function_of (field_pairs (decode self.old.arena a) fields)))) }
         ensures grows { Grows self.old self.new }
     {
-        let id = self.push(CellKind::Rec(fields))?;
+        let id = self.make(CellKind::Rec(fields))?;
         Ok(id)
     }
 
@@ -165,7 +168,7 @@ impl Build {
         ensures value { IfOk result (λ id. Decodes self.new id (λ a. sequence (map (decode self.old.arena a) parts))) }
         ensures grows { Grows self.old self.new }
     {
-        let id = self.push(CellKind::Tup(parts))?;
+        let id = self.make(CellKind::Tup(parts))?;
         Ok(id)
     }
 
@@ -185,7 +188,7 @@ impl Build {
         if places.len() >= 1 << 31 {
             return Err(AllocError);
         }
-        let id = self.push(CellKind::Seq(count, places))?;
+        let id = self.make(CellKind::Seq(count, places))?;
         Ok(id)
     }
 }

@@ -1,6 +1,5 @@
 -- Sorts in a longer arena, and of a new set.
 use Rattle.std.proofs.Common.{◌≡◌, ℕ, ◌<◌, false, List, length, map, get_or, All, sym, subst, arith}
-use Rattle.std.proofs.lemmas.List.{get_or_push, length_push}
 use Rattle.std.proofs.lemmas.List.Elements.{All-weaker}
 use Rattle.sat_formula.specs.declared.lit.Lit.{Lit}
 use Rattle.cell_arena.specs.declared.build.Build.{Build}
@@ -98,10 +97,10 @@ OfSort-later b c (tuple_of n s) id h g = (
 )
 
 pub added-kind : (b c : Build) (k : CellKind) (id : CellId) → Adds b c k id → kind_at c.arena.kinds id ≡ k
-added-kind b c k id h = rw h.kinds (get_or_push b.arena.kinds k (Bit (record { var = 0; neg = false })) id.index (sym h.newest))
+added-kind b c k id h = h.is
 
 pub added-there : (b c : Build) (k : CellKind) (id : CellId) → Adds b c k id → id.index < length c.arena.kinds
-added-there b c k id h = rw h.kinds (let p = length_push b.arena.kinds k in let q = h.newest in omega arith)
+added-there b c k id h = h.there
 
 -- the sorts of new cells
 pub sort-bit : (b c : Build) (l : Lit) (id : CellId) → Adds b c (Bit l) id → OfSort c.arena.kinds truth id

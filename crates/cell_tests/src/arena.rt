@@ -28,11 +28,13 @@ fn texts(alloc: Global, names: &[&[u8]]) -> Result<List<Text>, AllocError> {
 fn set(alloc: Global, b: &mut Build, p: Lit, q: Lit) -> Result<CellId, AllocError>
     requires p_below { p.var < b.old.formula.vars }
     requires q_below { q.var < b.old.formula.vars }
+    ensures grows { Grows b.old b.new }
 {
     let x = int(alloc, b, 1)?;
     let y = int(alloc, b, 2)?;
     let edges = Vec::from_slice(alloc, &[(p, x), (q, y), (p, x)])?;
-    b.set(List::from_vec(edges))
+    let id = b.set(List::from_vec(edges))?;
+    Ok(id)
 }
 
 // 1 goes to 2 where p, else to 1 where q; 2 goes to 2 where q.
@@ -40,11 +42,13 @@ fn set(alloc: Global, b: &mut Build, p: Lit, q: Lit) -> Result<CellId, AllocErro
 fn fun(alloc: Global, b: &mut Build, p: Lit, q: Lit) -> Result<CellId, AllocError>
     requires p_below { p.var < b.old.formula.vars }
     requires q_below { q.var < b.old.formula.vars }
+    ensures grows { Grows b.old b.new }
 {
     let x = int(alloc, b, 1)?;
     let y = int(alloc, b, 2)?;
     let edges = Vec::from_slice(alloc, &[(p, x, y), (q, x, x), (q, y, y)])?;
-    b.fun(List::from_vec(edges))
+    let id = b.fun(List::from_vec(edges))?;
+    Ok(id)
 }
 
 // A word of two free bits, as a part of a tuple.
@@ -166,6 +170,70 @@ fn equal_texts_are_seen(rt: HostRuntime) -> Result<(), Fail> {
             want,
             "{:?}",
             want
+        );
+    }
+    Ok(())
+}
+
+// A word of free bits, at a width of 4.
+#[tactic(auto, using(cell_arena::proofs::Growing::growing), unfolding(word_blaster::specs::Word::WordBelow))]
+fn word(alloc: Global, b: &mut Build, p: Lit, q: Lit) -> Result<CellId, AllocError>
+    requires p_below { p.var < b.old.formula.vars }
+    requires q_below { q.var < b.old.formula.vars }
+    ensures grows { Grows b.old b.new }
+{
+    if b.width() != 4 {
+        return b.bit(p);
+    }
+    let lits = Vec::from_slice(alloc, &[q, p, p, p])?;
+    let id = b.word(Word::from_vec(lits))?;
+    Ok(id)
+}
+
+#[derive(Clone, Copy, Debug)]
+enum Made {
+    Bit,
+    Word,
+    Set,
+    Fun,
+}
+
+#[tactic(auto, using(cell_arena::proofs::Growing::growing))]
+fn make(alloc: Global, b: &mut Build, kind: Made, p: Lit, q: Lit) -> Result<CellId, AllocError>
+    requires p_below { p.var < b.old.formula.vars }
+    requires q_below { q.var < b.old.formula.vars }
+    ensures grows { Grows b.old b.new }
+{
+    match kind {
+        Made::Bit => b.bit(p),
+        Made::Word => word(alloc, b, p, q),
+        Made::Set => set(alloc, b, p, q),
+        Made::Fun => fun(alloc, b, p, q),
+    }
+}
+
+// A cell that is asked for twice, and then with its literals the other way round: whether the second
+// is the first, whether it adds none, and whether the third is the first.
+#[tactic(auto, using(cell_arena::proofs::Growing::growing))]
+fn made_again(alloc: Global, kind: Made) -> Result<[bool; 3], AllocError> {
+    let mut b = Build::new(alloc, &List::new(alloc), 4)?;
+    let p = free(&mut b)?;
+    let q = free(&mut b)?;
+    let first = make(alloc, &mut b, kind, p, q)?;
+    let cells = b.arena.len();
+    let again = make(alloc, &mut b, kind, p, q)?;
+    let none = b.arena.len() == cells;
+    let other = make(alloc, &mut b, kind, q, p)?;
+    Ok([again == first, none, other == first])
+}
+
+#[test]
+fn equal_cells_are_made_once(rt: HostRuntime) -> Result<(), Fail> {
+    for kind in [Made::Bit, Made::Word, Made::Set, Made::Fun] {
+        assert_eq!(rt;
+            made_again(rt.alloc(), kind)?,
+            [true, true, false],
+            "{kind:?}"
         );
     }
     Ok(())

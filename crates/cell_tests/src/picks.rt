@@ -360,12 +360,13 @@ fn rows_have_negative_numbers(rt: HostRuntime) -> Result<(), Fail> {
     Ok(())
 }
 
+// The numbers without the two ends, which are cells already, and the set.
 #[test]
 fn rows_add_no_more_than_they_need(rt: HostRuntime) -> Result<(), Fail> {
     let (_, four) = row(rt.alloc(), (1, 3), 0, 3, true)?;
-    assert_eq!(rt; four, [0, 0, 5]);
+    assert_eq!(rt; four, [0, 0, 3]);
     let (_, eight) = row(rt.alloc(), (1, 6), 0, 7, true)?;
-    assert_eq!(rt; eight, [0, 0, 9]);
+    assert_eq!(rt; eight, [0, 0, 7]);
     Ok(())
 }
 

@@ -110,8 +110,8 @@ const SIZES: [(&str, &str, &str, [usize; 3]); 9] = [
     ("update", "1T22T33T4", "25", [0, 0, 1]),
     ("functions", "1T2T", "1T2T3T", [0, 0, 10]),
     ("functions", "1T2T3T", "1T2T", [0, 0, 9]),
-    ("pick", "1T2T", "0T3T", [2, 0, 4]),
-    ("pick", "0T1T2T3T4T5T6T7T", "0T3T", [8, 0, 10]),
+    ("pick", "1T2T", "0T3T", [2, 0, 3]),
+    ("pick", "0T1T2T3T4T5T6T7T", "0T3T", [8, 0, 9]),
 ];
 
 #[test]

@@ -293,27 +293,28 @@ const SIXTEEN: &str = "()*+,-./01234567";
 
 const ALL: &str = "TTTTTTTTTTTTTTTT";
 
-// By a model of the gates: 16 constant arguments in one order cost an equality of results each and one
-// conjunction, and so they do where arrows that are never there stand between; literals that are free
-// cost four gates more an argument. The places of sequences of known lengths cost what their items do.
+// By a model of the gates, equal ones made once: 16 constant arguments in one order with the same two
+// results cost their equality once and one conjunction of 16, and so they do where arrows that are never
+// there stand between; literals that are free cost four gates more. The places of sequences of known
+// lengths cost what their items do.
 const SIZES: [(bool, [&str; 3], [&str; 3], [usize; 3]); 4] = [
     (
         false,
         [SIXTEEN, ALL, "aaaaaaaaaaaaaaaa"],
         [SIXTEEN, ALL, "bbbbbbbbbbbbbbbb"],
-        [17, 81, 0],
+        [2, 21, 0],
     ),
     (
         false,
         ["0123", "TFTF", "aaaa"],
         ["0213", "TTFF", "bbbb"],
-        [3, 11, 0],
+        [2, 7, 0],
     ),
     (
         false,
         ["0123", "cccc", "aaaa"],
         ["0123", "dddd", "bbbb"],
-        [21, 73, 0],
+        [6, 25, 0],
     ),
     (true, ["1m", "T", ""], ["11", "T", ""], [0, 0, 0]),
 ];

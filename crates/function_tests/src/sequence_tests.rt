@@ -26,7 +26,7 @@ fn calls_agree_with_lists(rt: HostRuntime) -> Result<(), Fail> {
 // As measured: variables, clauses and cells, where all of 8 places, the length (0 to 7) and the numbers
 // (of 4 bits) are free.
 const SIZES: [(&str, [usize; 3]); 3] = [
-    ("glue", [46, 173, 29]),
+    ("glue", [44, 167, 29]),
     ("at", [27, 99, 6]),
     ("slice", [54, 202, 18]),
 ];

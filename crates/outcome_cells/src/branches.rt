@@ -7,6 +7,7 @@ ghost use Rattle.outcome_cells.specs.Turns.{TakesBranch, TakesInTurn};
 ghost use Rattle.outcome_cells.specs.inner.Turns.{ShowsTurns, TurnsTo, junction_value};
 ghost use Rattle.sat_formula.specs.Formula.{Grows as FormulaGrows, HasValue};
 ghost use Rattle.sat_formula.specs.Lit.{IsBelow, lit_value};
+ghost use Rattle.std.specs.List.{list_all};
 ghost use Rattle.std.specs.Prelude.{◌&&◌, ◌<◌, ◌≡◌, ◌≤◌, ◌||◌, All, IfOk, if◌then◌else◌, length, not};
 
 use crate::bits::{bit_of, bits_of};
@@ -95,6 +96,19 @@ fn turn_faults(
     Ok(rest)
 }
 
+// Whether all of the literals are true. Two are one gate in either order.
+fn all_of(alloc: Global, f: &mut Formula, bits: &[Lit]) -> Result<Lit, AllocError>
+    requires { All (IsBelow f.old.vars) bits.now }
+    ensures value { IfOk result (λ l. HasValue f.new l (λ a. list_all (λ x. lit_value x a) bits.now)) }
+    ensures grows { FormulaGrows f.old f.new }
+{
+    if bits.len() == 2 {
+        let both = f.and(bits[0], bits[1])?;
+        return Ok(both);
+    }
+    f.and_all(alloc, bits)
+}
+
 // Whether all of the literals are true, or whether one is.
 fn junction_bit(
     alloc: Global,
@@ -107,7 +121,7 @@ fn junction_bit(
     ensures grows { FormulaGrows f.old f.new }
 {
     if wanted {
-        return f.and_all(alloc, bits);
+        return all_of(alloc, f, bits);
     }
     any_of(alloc, f, bits)
 }

@@ -1,4 +1,5 @@
 pub mod TypesAmong
+pub mod TypedParts
 pub mod TreesAmong
 pub mod ValueCells
 pub mod KeptShapes

@@ -22,8 +22,8 @@ use Rattle.kernel_trees.specs.TypeKinds.{all_there}
 use Rattle.tla_meaning.specs.Scopes.{or_else}
 use Rattle.typed_cells.specs.KindSorts.{HasSort, OfSorts, OfType, sort_of}
 use Rattle.typed_cells.specs.Known.{IsTextAmong}
-use Rattle.typed_cells.specs.inner.OfTypes.{OfTypes}
-use Rattle.typed_cells.proofs.DefaultCells.{types-sorts}
+use Rattle.rewriting_tests.specs.OfTypes.{OfTypes}
+use Rattle.rewriting_tests.proofs.TypedParts.{types-sorts}
 use Rattle.cell_arena.specs.Growth.{Grows}
 use Rattle.expr_rewriter.specs.declared.cell_env.CellEnv.{CellEnv}
 use Rattle.expr_rewriter.specs.Environments.{HoldsEnv, IsThere, name_cell, next_cell}

@@ -9,7 +9,7 @@ use Rattle.kernel_trees.specs.Systems.{kinds_of_names}
 use Rattle.kernel_trees.specs.TypeKinds.{Kind, all_there, kind_of}
 use Rattle.cell_arena.specs.declared.kinds.CellId.{CellId}
 use Rattle.snowcat_rows.specs.declared.types.Ty.{Ty}
-use Rattle.typed_cells.specs.inner.OfTypes.{OfTypes}
+use Rattle.rewriting_tests.specs.OfTypes.{OfTypes}
 
 -- the type has a kind
 pub record HasKind (t : Ty) : Type 0 where

@@ -1,2 +1,3 @@
+pub mod OfTypes
 pub mod Cases
 pub mod inner

@@ -7,7 +7,7 @@ ghost use Rattle.rewriting_tests.specs.Cases.{HasCells, HasKind, HaveKinds, IsSo
 ghost use Rattle.rewriting_tests.specs.inner.Among.{AreAmong};
 ghost use Rattle.std.specs.Prelude.{◌<◌, ◌∷◌, ◌≡◌, ◌≤◌, IfOk, IfSome, IsTrue, Some, [], map};
 ghost use Rattle.typed_cells.specs.KindSorts.{OfType};
-ghost use Rattle.typed_cells.specs.inner.OfTypes.{OfTypes};
+ghost use Rattle.rewriting_tests.specs.OfTypes.{OfTypes};
 
 use crate::given::{Freedom, Given};
 use crate::shapes::bounded_tree;

@@ -5,7 +5,7 @@ ghost use Rattle.cell_merge.specs.Sorts.{OfSort, name, number, truth};
 ghost use Rattle.snowcat_rows.specs.declared.types.Ty.{Fun, Rec, Seq, Set};
 ghost use Rattle.std.specs.Prelude.{◌<◌, ◌≡◌, IfOk, IfSome, None, length, map};
 ghost use Rattle.typed_cells.specs.KindSorts.{OfType};
-ghost use Rattle.typed_cells.specs.inner.OfTypes.{OfTypes};
+ghost use Rattle.rewriting_tests.specs.OfTypes.{OfTypes};
 
 use crate::given::Freedom;
 use cell_arena::{Build, CellId, all_differ};

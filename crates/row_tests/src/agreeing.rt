@@ -8,6 +8,7 @@ use crate::calls::{Given, called};
 use crate::cases::{CASES, PICKS};
 use crate::decoding::{are_met, decoded, extended, is_true, value_at};
 use crate::operands::{operands, with_bits};
+use crate::passing::{count_lines, passes};
 use crate::sequences::power;
 use crate::trees::tree;
 use cell_arena::{Build, CellId};
@@ -23,7 +24,6 @@ const WIDTH: u32 = 4;
 // where that is outside of the width.
 #[derive(Drop)]
 struct Case {
-    b: Build,
     ids: Vec<CellId>,
     given: Given,
     e: Expr,
@@ -40,19 +40,22 @@ pub fn parts(line: &str) -> (&str, u8, &str) {
     }
 }
 
-fn begun(alloc: Global, line: &str) -> Result<Case, AllocError> {
+fn begun(alloc: Global, b: &mut Build, line: &str) -> Result<Case, AllocError> {
     let (op, key, words) = parts(line);
-    let mut b = with_bits(alloc, WIDTH, 4)?;
-    let ids = operands(alloc, &mut b, words)?;
-    let given = called(alloc, &mut b, op, key, ids.as_slice())?;
+    let ids = operands(alloc, b, words)?;
+    let given = called(alloc, b, op, key, ids.as_slice())?;
     let e = tree(alloc, op, key, ids.as_slice().len())?;
     Ok(Case {
-        b,
         ids,
         given,
         e,
         is_wide: op == "length" || op == "domain",
     })
+}
+
+// A build with the four bits.
+fn build(alloc: Global) -> Result<Build, AllocError> {
+    with_bits(alloc, WIDTH, 4)
 }
 
 // The values of `top` and of the four bits of a number.
@@ -122,115 +125,158 @@ fn shown(alloc: Global, case: &Case, values: &[Value], a: &[bool]) -> Result<Vec
     }
 }
 
+// The text of what the expression gives of these values.
+fn wanted(alloc: Global, case: &Case, values: &[Value]) -> Result<Vec<u8>, AllocError> {
+    let s = state(alloc, values, case.ids.as_slice())?;
+    meant(alloc, &case.e, &s)
+}
+
 // The assignment that goes on from these values of the bits, with the bits of the mask for what is free.
-fn assigned(
-    alloc: Global,
-    case: &Case,
-    first: &[bool],
-    mask: u64,
-) -> Result<Vec<bool>, AllocError> {
-    let a = extended(alloc, &case.b.formula, first, mask)?;
-    if !are_met(&case.b.formula, a.as_slice()) {
+fn assigned(alloc: Global, b: &Build, first: &[bool], mask: u64) -> Result<Vec<bool>, AllocError> {
+    let a = extended(alloc, &b.formula, first, mask)?;
+    if !are_met(&b.formula, a.as_slice()) {
         return Err(AllocError);
     }
     Ok(a)
 }
 
-// The texts of what the call gave and of what the expression gives, where the bits have these values.
-fn both(alloc: Global, case: &Case, first: &[bool]) -> Result<(Vec<u8>, Vec<u8>), AllocError> {
-    let a = assigned(alloc, case, first, 0)?;
-    let values = decoded(alloc, &case.b, a.as_slice())?;
-    let s = state(alloc, values.as_slice(), case.ids.as_slice())?;
-    let found = shown(alloc, case, values.as_slice(), a.as_slice())?;
-    let want = meant(alloc, &case.e, &s)?;
+fn told_both(
+    alloc: Global,
+    case: &Case,
+    values: &[Value],
+    a: &[bool],
+) -> Result<(Vec<u8>, Vec<u8>), AllocError> {
+    let found = shown(alloc, case, values, a)?;
+    let want = wanted(alloc, case, values)?;
     Ok((found, want))
 }
 
-// Both texts at the first assignment under which they differ.
-fn differing(alloc: Global, line: &str) -> Result<Vec<u8>, AllocError> {
-    let case = begun(alloc, line)?;
-    for n in 0..16usize {
-        let first = bits(alloc, n)?;
-        let (found, want) = both(alloc, &case, first.as_slice())?;
-        if found.as_slice() != want.as_slice() {
-            return joined(alloc, found, want.as_slice());
-        }
-    }
-    Ok(Vec::new(alloc))
+// The texts of what the call gave and of what the expression gives, where the bits are those of the number.
+fn both(alloc: Global, b: &Build, case: &Case, n: usize) -> Result<(Vec<u8>, Vec<u8>), AllocError> {
+    let first = bits(alloc, n)?;
+    let a = assigned(alloc, b, first.as_slice(), 0)?;
+    let values = decoded(alloc, b, a.as_slice())?;
+    told_both(alloc, case, values.as_slice(), a.as_slice())
 }
 
-fn joined(alloc: Global, found: Vec<u8>, want: &[u8]) -> Result<Vec<u8>, AllocError> {
-    let mut out = found;
-    out.extend_from_slice(b" and not ")?;
-    out.extend_from_slice(want)?;
-    Ok(out)
+fn agree_at(alloc: Global, b: &Build, case: &Case, n: usize) -> Result<bool, AllocError> {
+    let (found, want) = both(alloc, b, case, n)?;
+    Ok(found.as_slice() == want.as_slice())
+}
+
+// Whether the two are alike under all values of the bits.
+fn agree(alloc: Global, b: &Build, case: &Case) -> Result<bool, AllocError> {
+    for n in 0..16usize {
+        if !agree_at(alloc, b, case, n)? {
+            return Ok(false);
+        }
+    }
+    Ok(true)
+}
+
+fn agrees_in(alloc: Global, b: &mut Build, line: &str) -> Result<bool, AllocError> {
+    let case = begun(alloc, b, line)?;
+    let right = agree(alloc, b, &case);
+    drop(case);
+    right
+}
+
+fn agrees(alloc: Global, line: &str) -> Result<bool, AllocError> {
+    agrees_in(alloc, &mut build(alloc)?, line)
 }
 
 #[test]
 fn calls_agree_with_the_evaluator(rt: HostRuntime) -> Result<(), Fail> {
-    for line in CASES.lines() {
-        let text = String::from_utf8(differing(rt.alloc(), line)?)?;
-        assert_eq!(rt; text.as_str(), "", "{line}");
-    }
-    Ok(())
+    passes(&rt, count_lines(rt.alloc(), CASES, agrees), 517)
 }
 
-// What a pick gives, where its literal says that it gives something.
-fn value_of(
+// Puts what a pick gives, where its literal says that it gives something.
+fn put_value(
+    list: &mut List<Value>,
     alloc: Global,
-    case: &Case,
-    first: &[bool],
-    mask: u64,
-) -> Result<Option<Value>, AllocError> {
-    let a = assigned(alloc, case, first, mask)?;
-    let values = decoded(alloc, &case.b, a.as_slice())?;
-    match case.given {
-        Some((id, missing)) if !is_true(missing, a.as_slice()) => {
+    b: &Build,
+    given: Given,
+    a: &[bool],
+) -> Result<(), AllocError> {
+    match given {
+        Some((id, missing)) if !is_true(missing, a) => {
+            let values = decoded(alloc, b, a)?;
             let v = value_at(alloc, values.as_slice(), id)?;
-            Ok(Some(v))
+            list.push(v)?;
+            Ok(())
         }
-        _ => Ok(None),
+        _ => Ok(()),
     }
 }
 
-// The set of what a pick gives under all values of the bits that are left to it, which are at most 6.
-fn outcomes(alloc: Global, case: &Case, first: &[bool]) -> Result<Vec<u8>, AllocError> {
+// What a pick gives under all values of the bits that are left to it, which are at most 6.
+fn picked(
+    alloc: Global,
+    b: &Build,
+    given: Given,
+    first: &[bool],
+) -> Result<List<Value>, AllocError> {
     let mut list = List::new(alloc);
     for mask in 0..64u64 {
-        if let Some(v) = value_of(alloc, case, first, mask)? {
-            list.push(v)?;
-        }
+        let a = assigned(alloc, b, first, mask)?;
+        put_value(&mut list, alloc, b, given, a.as_slice())?;
     }
+    Ok(list)
+}
+
+// The set of these.
+fn outcomes(alloc: Global, b: &Build, given: Given, n: usize) -> Result<Vec<u8>, AllocError> {
+    let first = bits(alloc, n)?;
+    let list = picked(alloc, b, given, first.as_slice())?;
     let set = set_of(alloc, list)?;
     text_of(alloc, &set)
 }
 
-// The functions that are picked and the set of all functions, where these differ.
-fn missing(alloc: Global, line: &str) -> Result<Vec<u8>, AllocError> {
-    let case = begun(alloc, line)?;
+// Whether the functions that are picked are those of the set of all functions.
+fn are_picked_at(alloc: Global, b: &Build, case: &Case, n: usize) -> Result<bool, AllocError> {
+    let found = outcomes(alloc, b, case.given, n)?;
+    let (_, want) = both(alloc, b, case, n)?;
+    Ok(found.as_slice() == want.as_slice())
+}
+
+fn are_picked(alloc: Global, b: &Build, case: &Case) -> Result<bool, AllocError> {
     for i in 0..6usize {
-        let first = bits(alloc, 3 * i)?;
-        let found = outcomes(alloc, &case, first.as_slice())?;
-        let (_, want) = both(alloc, &case, first.as_slice())?;
-        if found.as_slice() != want.as_slice() {
-            return joined(alloc, found, want.as_slice());
+        if !are_picked_at(alloc, b, case, 3 * i)? {
+            return Ok(false);
         }
     }
-    Ok(Vec::new(alloc))
+    Ok(true)
+}
+
+fn picks_all_in(alloc: Global, b: &mut Build, line: &str) -> Result<bool, AllocError> {
+    let case = begun(alloc, b, line)?;
+    let right = are_picked(alloc, b, &case);
+    drop(case);
+    right
+}
+
+fn picks_all(alloc: Global, line: &str) -> Result<bool, AllocError> {
+    picks_all_in(alloc, &mut build(alloc)?, line)
 }
 
 #[test]
 fn picks_give_all_functions_of_the_evaluator(rt: HostRuntime) -> Result<(), Fail> {
-    for line in PICKS.lines() {
-        let text = String::from_utf8(missing(rt.alloc(), line)?)?;
-        assert_eq!(rt; text.as_str(), "", "{line}");
-    }
+    passes(&rt, count_lines(rt.alloc(), PICKS, picks_all), 20)
+}
+
+fn put_shown(
+    out: &mut Vec<u8>,
+    alloc: Global,
+    b: &Build,
+    case: &Case,
+    n: usize,
+) -> Result<(), AllocError> {
+    let (found, _) = both(alloc, b, case, n)?;
+    out.extend_from_slice(found.as_slice())?;
     Ok(())
 }
 
-/// The texts of what the call of the line gives under all values of so many bits.
-pub fn texts_under(alloc: Global, line: &str, varying: usize) -> Result<Vec<u8>, AllocError> {
-    let case = begun(alloc, line)?;
+fn all_shown(alloc: Global, b: &Build, case: &Case, varying: usize) -> Result<Vec<u8>, AllocError> {
     if varying > 4 {
         return Err(AllocError);
     }
@@ -239,9 +285,24 @@ pub fn texts_under(alloc: Global, line: &str, varying: usize) -> Result<Vec<u8>,
         if n > 0 {
             out.extend_from_slice(b"; ")?;
         }
-        let first = bits(alloc, n)?;
-        let (found, _) = both(alloc, &case, first.as_slice())?;
-        out.extend_from_slice(found.as_slice())?;
+        put_shown(&mut out, alloc, b, case, n)?;
     }
     Ok(out)
+}
+
+fn texts_in(
+    alloc: Global,
+    b: &mut Build,
+    line: &str,
+    varying: usize,
+) -> Result<Vec<u8>, AllocError> {
+    let case = begun(alloc, b, line)?;
+    let texts = all_shown(alloc, b, &case, varying);
+    drop(case);
+    texts
+}
+
+/// The texts of what the call of the line gives under all values of so many bits.
+pub fn texts_under(alloc: Global, line: &str, varying: usize) -> Result<Vec<u8>, AllocError> {
+    texts_in(alloc, &mut build(alloc)?, line, varying)
 }

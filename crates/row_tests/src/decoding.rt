@@ -138,6 +138,22 @@ fn has_argument(pairs: &[(Value, Value)], argument: &Value) -> bool {
     pairs.iter().any(|p| same_value(&p.0, argument))
 }
 
+// The argument with the value of the cell, unless a pair has that argument already.
+fn put_pair(
+    alloc: Global,
+    pairs: &mut Vec<(Value, Value)>,
+    argument: Value,
+    values: &[Value],
+    answer: CellId,
+) -> Result<(), AllocError> {
+    if has_argument(pairs.as_slice(), &argument) {
+        return Ok(());
+    }
+    let value = value_at(alloc, values, answer)?;
+    pairs.push((argument, value))?;
+    Ok(())
+}
+
 // The function of the arrows that are there; of two with one argument the first counts.
 fn results(
     alloc: Global,
@@ -147,9 +163,9 @@ fn results(
 ) -> Result<Value, AllocError> {
     let mut pairs = Vec::new(alloc);
     for (l, from, to) in arrows {
-        let argument = value_at(alloc, values, *from)?;
-        if is_true(*l, a) && !has_argument(pairs.as_slice(), &argument) {
-            pairs.push((argument, value_at(alloc, values, *to)?))?;
+        if is_true(*l, a) {
+            let argument = value_at(alloc, values, *from)?;
+            put_pair(alloc, &mut pairs, argument, values, *to)?;
         }
     }
     function(alloc, pairs)
@@ -158,11 +174,8 @@ fn results(
 fn fields(alloc: Global, fields: &[(Text, CellId)], values: &[Value]) -> Result<Value, AllocError> {
     let mut pairs = Vec::new(alloc);
     for (name, part) in fields {
-        let pair = (
-            Value::Text(copy_text(alloc, name)?),
-            value_at(alloc, values, *part)?,
-        );
-        pairs.push(pair)?;
+        let name = Value::Text(copy_text(alloc, name)?);
+        put_pair(alloc, &mut pairs, name, values, *part)?;
     }
     function(alloc, pairs)
 }
@@ -177,11 +190,8 @@ fn items(
     let mut pairs = Vec::new(alloc);
     for i in 0..parts.len() {
         if (i as i128) < count {
-            let pair = (
-                Value::Int(i as i128 + 1),
-                value_at(alloc, values, parts[i])?,
-            );
-            pairs.push(pair)?;
+            let place = Value::Int(i as i128 + 1);
+            put_pair(alloc, &mut pairs, place, values, parts[i])?;
         }
     }
     function(alloc, pairs)

@@ -13,6 +13,8 @@ mod decoding;
 #[cfg(test)]
 mod operands;
 #[cfg(test)]
+mod passing;
+#[cfg(test)]
 mod sequence_calls;
 #[cfg(test)]
 mod sequences;

@@ -33,24 +33,34 @@ pub fn name(alloc: Global, code: u8) -> Result<Text, AllocError>
     Ok(Text::from_vec(bytes))
 }
 
-/// A build over the two names with so many free bits, whose variables are 1 and so on.
+// A build over the two names.
 #[tactic(auto, using(cell_arena::proofs::Growing::growing))]
-pub fn with_bits(alloc: Global, width: u32, count: usize) -> Result<Build, AllocError> {
+fn named_build(alloc: Global, width: u32) -> Result<Build, AllocError> {
     let texts = names(alloc)?;
     if !all_differ(texts.as_slice()) || width < 4 || width > 64 {
         return Err(AllocError);
     }
-    let mut b = Build::new(alloc, &texts, width)?;
-    for _i in 0..count {
-        free(&mut b)?;
-    }
-    Ok(b)
+    Build::new(alloc, &texts, width)
 }
 
 #[tactic(auto, using(cell_arena::proofs::Growing::growing))]
 fn free(b: &mut Build) -> Result<(), AllocError> {
     let _ = b.formula.fresh()?;
     Ok(())
+}
+
+fn put_bits(b: &mut Build, count: usize) -> Result<(), AllocError> {
+    for _i in 0..count {
+        free(b)?;
+    }
+    Ok(())
+}
+
+/// A build over the two names with so many free bits, whose variables are 1 and so on.
+pub fn with_bits(alloc: Global, width: u32, count: usize) -> Result<Build, AllocError> {
+    let mut b = named_build(alloc, width)?;
+    put_bits(&mut b, count)?;
+    Ok(b)
 }
 
 // The literal of a variable, or of the first one where there is no such.

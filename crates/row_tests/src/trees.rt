@@ -39,25 +39,24 @@ fn of_all(alloc: Global, op: Op, count: usize) -> Result<Expr, AllocError> {
 
 // The operator of two expressions.
 fn of_two(alloc: Global, op: Op, x: Expr, y: Expr) -> Result<Expr, AllocError> {
-    let mut args = Vec::new(alloc);
-    args.push(x)?;
-    args.push(y)?;
+    let args = vec![in alloc; x, y]?;
     Ok(node(alloc, op, args))
+}
+
+// EXCEPT with one index, and the name of what stands there.
+fn exception(alloc: Global) -> Result<(Op, List<Text>), AllocError> {
+    let binds = vec![in alloc; byte_text(alloc, b'@')?]?;
+    let indexes = vec![in alloc; 1]?;
+    Ok((Op::Except(List::from_vec(indexes)), List::from_vec(binds)))
 }
 
 // [x EXCEPT ![i] = y]
 fn except(alloc: Global, x: Expr, i: Expr, y: Expr) -> Result<Expr, AllocError> {
-    let mut args = Vec::new(alloc);
-    args.push(x)?;
-    args.push(i)?;
-    args.push(y)?;
-    let mut indexes = List::new(alloc);
-    indexes.push(1)?;
-    let mut binds = List::new(alloc);
-    binds.push(byte_text(alloc, b'@')?)?;
+    let args = vec![in alloc; x, i, y]?;
+    let (op, binds) = exception(alloc)?;
     Ok(Expr {
         place: PLACE,
-        op: Op::Except(indexes),
+        op,
         args: List::from_vec(args),
         binds,
     })
@@ -80,19 +79,21 @@ fn arrow(alloc: Global, first: usize) -> Result<Expr, AllocError> {
     let from = operand(alloc, first.saturating_add(1));
     let to = operand(alloc, first.saturating_add(2));
     let single = of_two(alloc, Op::Single, from, to)?;
-    let mut args = Vec::new(alloc);
-    args.push(operand(alloc, first))?;
-    args.push(single)?;
-    args.push(leaf(alloc, Op::Tuple))?;
+    let args = vec![in alloc; operand(alloc, first), single, leaf(alloc, Op::Tuple)]?;
     Ok(node(alloc, Op::If, args))
+}
+
+// The arrow of the operands from this number on behind others.
+fn with_arrow(alloc: Global, whole: Expr, first: usize) -> Result<Expr, AllocError> {
+    let one = arrow(alloc, first)?;
+    of_two(alloc, Op::Merge, whole, one)
 }
 
 // All arrows, one behind another.
 fn arrows(alloc: Global, count: usize) -> Result<Expr, AllocError> {
     let mut whole = leaf(alloc, Op::Tuple);
     for i in 0..count / 3 {
-        let one = arrow(alloc, 3 * i)?;
-        whole = of_two(alloc, Op::Merge, whole, one)?;
+        whole = with_arrow(alloc, whole, 3 * i)?;
     }
     Ok(whole)
 }

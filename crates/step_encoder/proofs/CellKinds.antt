@@ -12,8 +12,8 @@ use Rattle.cell_merge.specs.Sorts.{OfSort}
 use Rattle.cell_merge.proofs.Edges.{sort-there}
 use Rattle.cell_merge.proofs.SortLaws.{OfSort-later}
 use Rattle.typed_cells.specs.KindSorts.{OfSorts, sort_of}
-use Rattle.typed_cells.specs.inner.OfTypes.{OfTypes}
-use Rattle.typed_cells.proofs.DefaultCells.{types-sorts}
+use Rattle.typed_cells.specs.inner.Defaulted.{AreDefaults}
+use Rattle.typed_cells.proofs.DefaultCells.{defaults-sorts}
 use Rattle.expr_rewriter.specs.declared.cell_env.CellEnv.{CellEnv}
 use Rattle.branch_cells.specs.Branches.{AreOfKinds}
 
@@ -75,9 +75,9 @@ module _ (ks : List CellKind) where
   kinds_of_sorts (a ∷ as') [] h = absurd h
   kinds_of_sorts (a ∷ as') (id ∷ ids) h = (h.0, kinds_of_sorts as' ids h.1)
 
-  pub kinds_of_types : (ts : List Ty) (names : List Kind) (ids : List CellId) → OfTypes ks ts ids →
-      all_there (map kind_of ts) ≡ Some names → AreOfKinds ks names ids
-  kinds_of_types ts names ids h e = kinds_of_sorts names ids (types-sorts ks ts ids names h e)
+pub kinds_of_defaults : (b : Build) (ts : List Ty) (names : List Kind) (ids : List CellId) → AreDefaults b ts ids →
+    all_there (map kind_of ts) ≡ Some names → AreOfKinds b.arena.kinds names ids
+kinds_of_defaults b ts names ids h e = kinds_of_sorts b.arena.kinds names ids (defaults-sorts b ts ids names h e)
 
 pub kinds_later : (b c : Build) (names : List Kind) (ids : List CellId) → Grows b c →
     AreOfKinds b.arena.kinds names ids → AreOfKinds c.arena.kinds names ids

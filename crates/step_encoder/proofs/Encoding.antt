@@ -178,8 +178,8 @@ pub first_kinds : (b c : Build) (s : System) (codes : List Code) (x : LevelCells
     AreOfKinds c.arena.kinds (names_of s) x.cells
 first_kinds b c s codes x m =
     subst (AreOfKinds c.arena.kinds (names_of s)) (sym (m.level.cells ∙ m.rest.next))
-    (kinds_later m.rest.to c (names_of s) m.rest.part.next (Grows-trans m.rest.to m.end c m.rest.after m.grows)
-    m.rest.whole.cells)
+    (kinds_later m.rest.chosen c (names_of s) m.rest.cells (Grows-trans m.rest.chosen m.end c m.rest.after m.grows)
+    m.rest.kinds)
 
 pub next_kinds : (b c : Build) (s : System) (from : LevelCells) (codes after : List Code) (x : LevelCells) →
     IsNextLevel b c s from codes after x →

@@ -52,8 +52,9 @@ use Rattle.encoder_laws.proofs.Meant.{IsMeant, filled, level_shapes, same_count}
 use Rattle.step_encoder.specs.inner.Asked.{AreKept, IsConditionOf, IsJudgedLevel, IsOver, names_of}
 use Rattle.step_encoder.specs.inner.Made.{IsConstantsPart, IsFirst, IsStartPart}
 use Rattle.step_encoder.proofs.AtStates.{AtLevel, assumption_ends, invariants_end, invariants_truth}
-use Rattle.step_encoder.proofs.CellKinds.{kinds_later, kinds_there}
+use Rattle.step_encoder.proofs.CellKinds.{kinds_count, kinds_later, kinds_there}
 use Rattle.step_encoder.proofs.Conditions.{condition_later, width_kept}
+use Rattle.step_encoder.proofs.Reached.{IsReached, below_later, over_reached, starts_reached}
 use Rattle.step_encoder.proofs.Going.{can_constants, can_start}
 use Rattle.step_encoder.proofs.Systems.{known, same_names}
 
@@ -182,6 +183,9 @@ module _ (job : Job) (s : System) (old new : Build) (codes : List Code) (x : Lev
   abbrev b3 : Build
   b3 = r.to
 
+  abbrev bc : Build
+  bc = r.chosen
+
   abbrev b4 : Build
   b4 = m.end
 
@@ -194,8 +198,11 @@ module _ (job : Job) (s : System) (old new : Build) (codes : List Code) (x : Lev
   g2 : Grows old b2
   g2 = Grows-trans old b1 b2 g1 g12
 
+  gc : Grows b2 bc
+  gc = Grows-trans b2 b3 bc r.grows r.choosing
+
   g4 : Grows old b4
-  g4 = Grows-trans old b3 b4 (Grows-trans old b2 b3 g2 r.grows) r.after
+  g4 = Grows-trans old bc b4 (Grows-trans old b2 bc g2 gc) r.after
 
   abbrev w : ℕ
   w = old.arena.width
@@ -244,6 +251,9 @@ module _ (job : Job) (s : System) (old new : Build) (codes : List Code) (x : Lev
   condition : IsConditionOf b2 m.way.env m.way.now m.way.next s.ker.assume r.truth
   condition = condition_later r.assumed b2 m.way.env m.way.now m.way.next s.ker.assume r.truth r.onto r.condition
 
+  names_many : length h.over.known.names ≡ length job.names
+  names_many = sym (filled w job s meant) ∙ (ap length h.stands.fixed ∙ many job.names)
+
   shapes_fit : (t : State) → IsState job t → SomeEnds (Some w) (steps_of s.constants) Held t t →
       StateFits (kept_constants s.ker.fixed (constant_shapes (system_parts w s))) t.vals ×
       EachOfKind h.over.known.names (constant_shapes (system_parts w s))
@@ -251,9 +261,6 @@ module _ (job : Job) (s : System) (old new : Build) (codes : List Code) (x : Lev
       constants_fit w s h.over.known.names t (two w h.narrow) (filled w job s meant)
       (st.fills ∙ sym names_many) h.over.known.constants (all_normal t.vals st.normal)
       (follows w s.constants t t e)
-    where
-      names_many : length h.over.known.names ≡ length job.names
-      names_many = sym (filled w job s meant) ∙ (ap length h.stands.fixed ∙ many job.names)
 
   assumed : (a : Assignment) → Satisfies a b2.formula → ends_at m.constants.ends Held a ≡ true → (t : State) →
       HasConstants job (take (constants job) (values_at b2.arena m.constants.next a)) t →
@@ -312,31 +319,50 @@ module _ (job : Job) (s : System) (old new : Build) (codes : List Code) (x : Lev
             (sym ((r.behind Held).value a sat) ∙ o)) t l);
       }
 
-  abbrev start_made : MakesStart w job s b0 b1 b2 b3 b4 m.constants r.truth r.known r.part m.whole.ends
+  -- Init where it is reached, and else the constants
+  abbrev init : BranchCells
+  init = record { ends = r.part.ends; next = r.cells }
+
+  abbrev chosen : IsReached b2 b3 bc r.known.holds m.constants.next r.part.next r.cells
+  chosen = record {
+    below = below_later b2 b3 r.known.holds r.grows (r.behind Held).below;
+    first = r.grows;
+    formed = r.formed_to;
+    grows = r.choosing;
+    there = there_later b1 b2 m.constants.next g12 (kinds_there b1.arena.kinds (names_of s) m.constants.next
+        c.whole.cells);
+    part_there = kinds_there b3.arena.kinds (names_of s) r.part.next r.whole.cells;
+    choice = r.choice;
+  }
+
+  abbrev start_made : MakesStart w job s b0 b1 b2 bc b4 m.constants r.truth r.known init m.whole.ends
   start_made = record {
     made = constants_made;
     some = nothing.some;
     below = condition.below;
     assumed = assumed;
     first = r.behind;
-    starts = starts_are job s b2 b3 (lit_value r.known.holds) m.constants.next m.is.codes m.way r.part from_constants;
-    onward = record { formed = r.formed_from; grows = r.grows };
-    over = λ a sat. starts_over job s b2 b3 (lit_value r.known.holds) m.constants.next m.is.codes m.way r.part
-        from_constants a sat;
-    there = kinds_there b3.arena.kinds (names_of s) r.part.next r.whole.cells;
-    last = record { formed = r.formed_to; grows = r.after };
+    starts = starts_reached job s b2 b3 bc r.known.holds m.constants.next r.part r.cells chosen
+        (starts_are job s b2 b3 (lit_value r.known.holds) m.constants.next m.is.codes m.way r.part from_constants);
+    onward = record { formed = r.formed_from; grows = gc };
+    over = over_reached job b2 b3 bc r.known.holds m.constants.next r.part.next r.cells chosen
+        (kinds_count b1.arena.kinds (names_of s) m.constants.next c.whole.cells ∙ (ap length names ∙ names_many))
+        (λ a sat. starts_over job s b2 b3 (lit_value r.known.holds) m.constants.next m.is.codes m.way r.part
+        from_constants a sat);
+    there = kinds_there bc.arena.kinds (names_of s) r.cells r.kinds;
+    last = record { formed = r.formed_chosen; grows = r.after };
     all = r.ends;
   }
 
   later : IsLater b4 new
   later = record { formed = m.formed; grows = m.grows }
 
-  there_four : AreThere b4 r.part.next
-  there_four = there_later b3 b4 r.part.next r.after (kinds_there b3.arena.kinds (names_of s) r.part.next r.whole.cells)
+  there_four : AreThere b4 r.cells
+  there_four = there_later bc b4 r.cells r.after (kinds_there bc.arena.kinds (names_of s) r.cells r.kinds)
 
-  state_new : (a : Assignment) → state_at b4.arena r.part.next a ≡ state_at new.arena m.whole.next a
+  state_new : (a : Assignment) → state_at b4.arena r.cells a ≡ state_at new.arena m.whole.next a
   state_new a =
-      ap (λ (f : Assignment → State). f a) (state_same b4 new m.grows r.part.next there_four)
+      ap (λ (f : Assignment → State). f a) (state_same b4 new m.grows r.cells there_four)
       ∙ ap (λ (ids : List CellId). state_at new.arena ids a) (sym r.next)
 
   width_new : new.arena.width ≡ w
@@ -348,14 +374,14 @@ module _ (job : Job) (s : System) (old new : Build) (codes : List Code) (x : Lev
     stands = stands_later old new job s (Grows-trans old b4 new g4 m.grows) h.stands;
     kept = subst (λ (n : ℕ). map mean codes ≡ map capped (level_shapes n s 0)) (sym width_new) h.shapes;
     fits = λ a sat o.
-        let f = start_fits w job s b0 b1 b2 b3 b4 m.constants r.truth r.known r.part m.whole.ends start_made
+        let f = start_fits w job s b0 b1 b2 bc b4 m.constants r.truth r.known init m.whole.ends start_made
         (two w h.narrow) a (Satisfies-before b4 new a m.grows sat) o in
         subst (λ (n : ℕ). IsState job (state_at new.arena m.whole.next a) × FitsTyped h.over.known.names
         (level_shapes n s 0) (state_at new.arena m.whole.next a)) (sym width_new)
         (subst (λ (t : State). IsState job t × FitsTyped h.over.known.names (level_shapes w s 0) t) (state_new a) f);
   }
 
-  judged : IsJudged (Some w) job new.formula m.whole.ends.holds (state_at new.arena r.part.next)
+  judged : IsJudged (Some w) job new.formula m.whole.ends.holds (state_at new.arena r.cells)
       m.level.asked.conditions m.level.asked.literals.judged x.not_true x.inv_big
   judged =
       subst (λ (ids : List CellId).
@@ -369,7 +395,7 @@ module _ (job : Job) (s : System) (old new : Build) (codes : List Code) (x : Lev
   pub first_is : (levels : List LevelCells) → IsLevelOf (Some w) job s new.formula 0 (kept_at new.arena levels 0 x)
   first_is levels =
       subst (λ (y : LevelCells). IsLevelOf (Some w) job s new.formula 0 (kept_at new.arena levels 0 y))
-      (level_same x r.part.next m.whole.ends (m.level.cells ∙ r.next) m.level.run m.level.wrong m.level.big)
-      (first_level w job s b0 b1 b2 b3 b4 m.constants r.truth r.known r.part m.whole.ends start_made new later
+      (level_same x r.cells m.whole.ends (m.level.cells ∙ r.next) m.level.run m.level.wrong m.level.big)
+      (first_level w job s b0 b1 b2 bc b4 m.constants r.truth r.known init m.whole.ends start_made new later
       m.level.asked.conditions m.level.asked.literals.judged x.not_true x.inv_big
       levels judged)

@@ -12,5 +12,6 @@ pub mod Judged
 pub mod Late
 pub mod MadeParts
 pub mod NextLevel
+pub mod Reached
 pub mod Systems
 pub mod TreeTexts

@@ -1,6 +1,7 @@
 -- What the parts of a level are made of, put together.
 use Rattle.std.proofs.Common.{◌≡◌, ℕ, ◌<◌, ◌≤◌, List, sym, ◌∙◌, subst}
 use Rattle.std.proofs.Common.{arith}
+use Rattle.sat_formula.specs.declared.lit.Lit.{Lit}
 use Rattle.cell_arena.specs.declared.build.Build.{Build}
 use Rattle.cell_arena.specs.declared.kinds.CellId.{CellId}
 use Rattle.cell_arena.specs.Growth.{Grows}
@@ -12,19 +13,19 @@ use Rattle.kernel_trees.specs.TypeKinds.{Kind}
 use Rattle.kernel_shapes.specs.declared.bounds.Shape.{Shape as Code}
 use Rattle.kernel_shapes.specs.Levels.{constant_shapes}
 use Rattle.kernel_shapes.specs.Systems.{system_parts}
-use Rattle.typed_cells.specs.inner.OfTypes.{OfTypes}
+use Rattle.typed_cells.specs.inner.Defaulted.{AreDefaults}
 use Rattle.branch_cells.specs.declared.branch.BranchCells.{BranchCells}
 use Rattle.branch_cells.specs.declared.branch.Ends.{Ends}
 use Rattle.branch_cells.specs.declared.way.Way.{Way}
 use Rattle.branch_cells.specs.Along.{CanGoAlong, IsAlong}
-use Rattle.branch_cells.specs.Branches.{AreOfKinds, IsWhole}
+use Rattle.branch_cells.specs.Branches.{AreOfEither, AreOfKinds, IsWhole}
 use Rattle.branch_cells.specs.Ends.{EndsBelow, end_of}
 use Rattle.level_laws.specs.Branches.{Held}
 use Rattle.step_branches.specs.Ways.{IsConstantsWay, IsStartWay, IsStepWay}
 use Rattle.encoder_laws.specs.declared.level.LevelCells.{LevelCells}
 use Rattle.step_encoder.specs.inner.Asked.{AreKept, CanJudge, IsOver, names_of}
 use Rattle.step_encoder.specs.inner.Made.{CanGoOn, CanStep, IsConstantsPart, IsStartPart, IsStepPart, IsWayOfStart}
-use Rattle.step_encoder.proofs.CellKinds.{kinds_later, kinds_of_types}
+use Rattle.step_encoder.proofs.CellKinds.{kinds_later, kinds_of_defaults}
 use Rattle.step_encoder.proofs.Conditions.{width_kept}
 use Rattle.step_encoder.proofs.FirstLevel.{over_later}
 use Rattle.step_encoder.proofs.Going.{can_constants, can_start, can_step}
@@ -64,16 +65,17 @@ pub record DefaultWay (b c : Build) (s : System) (w : ℕ) (types : List Ty) (id
   pub wide : IsWide b w
   pub grows : Grows b c
   pub types_are : types ≡ s.ker.names
-  pub cells : OfTypes c.arena.kinds types ids
+  pub cells : AreDefaults c types ids
   pub others_are : others ≡ ids
   pub is : IsConstantsWay s w others way
 
 module _ (b c : Build) (s : System) (w : ℕ) (types : List Ty) (ids others : List CellId) (way : Way)
     (h : DefaultWay b c s w types ids others way) where
+  pub defaults_are : AreDefaults c s.ker.names ids
+  defaults_are = subst (λ (ts : List Ty). AreDefaults c ts ids) h.types_are h.cells
+
   pub default_kinds : AreOfKinds c.arena.kinds (names_of s) ids
-  default_kinds =
-      kinds_of_types c.arena.kinds s.ker.names (names_of s) ids (subst (λ (ts : List Ty). OfTypes c.arena.kinds ts
-      ids) h.types_are h.cells) (known s h.over.known).kinds
+  default_kinds = kinds_of_defaults c s.ker.names (names_of s) ids defaults_are (known s h.over.known).kinds
 
   width_there : w ≡ c.arena.width
   width_there = h.wide.same ∙ sym (width_kept b c h.grows)
@@ -112,6 +114,29 @@ start_goes b c s constants way w names xs h wide g e f =
     (kinds_later b c (names_of s) constants.next g h.whole.cells)
     (subst (λ (n : ℕ). IsStartWay s n constants.next h.is.codes way) (sym (width_kept b c g)) h.is.is))
 
+-- the cells behind the constants stay of their kinds
+pub constants_stay : (b c : Build) (s : System) (constants : BranchCells) (way : Way) (names : List Kind)
+    (ys : List CellId) → CanGoOn b s constants way → Grows b c → names ≡ names_of s → ys ≡ constants.next →
+    AreOfKinds c.arena.kinds names ys
+constants_stay b c s constants way names ys h g e f =
+    subst (λ (ns : List Kind). AreOfKinds c.arena.kinds ns ys) (sym e)
+    (subst (AreOfKinds c.arena.kinds (names_of s)) (sym f)
+    (kinds_later b c (names_of s) constants.next g h.whole.cells))
+
+pub cells_as : (b : Build) (names : List Kind) (xs ys : List CellId) → xs ≡ ys → AreOfKinds b.arena.kinds names ys →
+    AreOfKinds b.arena.kinds names xs
+cells_as b names xs ys e h = subst (AreOfKinds b.arena.kinds names) (sym e) h
+
+pub kinds_as : (b : Build) (names ks : List Kind) (xs : List CellId) → names ≡ ks →
+    AreOfKinds b.arena.kinds names xs → AreOfKinds b.arena.kinds ks xs
+kinds_as b names ks xs e h = subst (λ (ns : List Kind). AreOfKinds b.arena.kinds ns xs) e h
+
+pub either_as : (b : Build) (l : Lit) (xs us ys vs ids : List CellId) → xs ≡ us → ys ≡ vs → AreOfEither b l xs ys ids →
+    AreOfEither b l us vs ids
+either_as b l xs us ys vs ids e f h =
+    subst (λ (zs : List CellId). AreOfEither b l zs vs ids) e (subst (λ (zs : List CellId). AreOfEither b l xs zs ids)
+    f h)
+
 pub can_go_on : (old b : Build) (s : System) (constants : BranchCells) (way : Way) → IsOver old s →
     IsConstantsPart old b s constants → IsWayOfStart b s constants way →
     CanGoOn b s constants way
@@ -128,13 +153,13 @@ pub can_judge_start : (old b c : Build) (s : System) (constants : BranchCells) (
 can_judge_start old b c s constants way codes r h p q k = record {
   over = over_later old c s (Grows-trans old b c (Grows-trans old p.middle b p.before p.grows) grows) h;
   kinds = subst (AreOfKinds c.arena.kinds (names_of s)) (sym q.next)
-      (kinds_later q.to c (names_of s) q.part.next q.after q.whole.cells);
+      (kinds_later q.chosen c (names_of s) q.cells q.after q.kinds);
   shapes = k;
 }
   where
     grows : Grows b c
     grows = Grows-trans b q.from c (Grows-trans b q.assumed q.from q.before q.onto)
-        (Grows-trans q.from q.to c q.grows q.after)
+        (Grows-trans q.from q.to c q.grows (Grows-trans q.to q.chosen c q.choosing q.after))
 
 pub start_run : (b c : Build) (s : System) (constants : BranchCells) (way : Way) (r : BranchCells) →
     IsStartPart b c s constants way r → r.ends.holds.var < c.formula.vars

@@ -8,7 +8,7 @@ ghost use Rattle.std.specs.Prelude.{[], ◌≡◌, IfOk, None, Some, map, if◌t
 ghost use Rattle.step_encoder.specs.inner.Asked.{count};
 ghost use Rattle.step_branches.specs.Ways.{of_constants, shapes_of_constants};
 ghost use Rattle.typed_cells.specs.Known.{IsTextAmong};
-ghost use Rattle.typed_cells.specs.inner.OfTypes.{OfTypes};
+ghost use Rattle.typed_cells.specs.inner.Defaulted.{AreDefaults};
 
 use cell_arena::{Build, CellId};
 use kernel_shapes::{Shape, copy_shape};
@@ -23,11 +23,11 @@ pub(crate) fn formed(b: &Build)
     let _ = b.formula.vars();
 }
 
-// A cell of each type.
+// The default of each type.
 #[tactic(auto, using(cell_arena::proofs::Growing::growing))]
 pub(crate) fn default_cells(b: &mut Build, types: &[Ty]) -> Result<Vec<CellId>, AllocError>
     requires { IsTextAmong b.old.arena.texts [] }
-    ensures cells { IfOk result (λ cs. OfTypes b.new.arena.kinds types.now cs.items) }
+    ensures cells { IfOk result (λ cs. AreDefaults b.new types.now cs.items) }
     ensures grows { Grows b.old b.new }
 {
     let mut cells = Vec::new(b.arena.alloc());

@@ -11,7 +11,7 @@ use crate::asking::{condition_of, level_of};
 use crate::joining::both;
 use crate::names::{default_cells, formed};
 use crate::ways::{constants_way, start_way};
-use branch_cells::{BranchCells, Way, along};
+use branch_cells::{BranchCells, Way, along, choose_cells};
 use cell_arena::Build;
 use encoder_laws::LevelCells;
 use kernel_shapes::Shape;
@@ -57,7 +57,7 @@ fn way_of_start(b: &Build, system: &System, constants: &BranchCells) -> Result<W
 }
 
 // Behind the constants, and where CInit holds: the assumption, and where it holds too the paths of
-// Init.
+// Init. Where Init is not reached, the names have what they have behind CInit.
 #[tactic(auto, using(cell_arena::proofs::Growing::growing))]
 fn start_part(
     b: &mut Build,
@@ -78,11 +78,12 @@ fn start_part(
     formed(b);
     let part = along(b, way, system.start.as_slice())?;
     formed(b);
+    let cells = part.next.as_slice();
+    let others = constants.next.as_slice();
+    let next = choose_cells(b, known.holds, cells, others)?;
+    formed(b);
     let ends = both(b, known, part.ends)?;
-    Ok(BranchCells {
-        ends,
-        next: part.next,
-    })
+    Ok(BranchCells { ends, next })
 }
 
 // The cells of the states at which the start is TRUE. The shapes are those of the start.

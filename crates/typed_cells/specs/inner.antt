@@ -1,2 +1,2 @@
-pub mod OfTypes
+pub mod Defaulted
 pub mod Places

@@ -1,10 +1,11 @@
-//! A cell of each type.
+//! The default of each type as a cell.
 
 ghost use Rattle.cell_arena.specs.Growth.{Grows};
 ghost use Rattle.std.specs.Prelude.{◌≡◌, [], IfOk, map};
+ghost use Rattle.typed_cells.specs.Defaults.{IsDefault};
 ghost use Rattle.typed_cells.specs.KindSorts.{OfType};
 ghost use Rattle.typed_cells.specs.Known.{IsTextAmong};
-ghost use Rattle.typed_cells.specs.inner.OfTypes.{OfTypes};
+ghost use Rattle.typed_cells.specs.inner.Defaulted.{AreDefaults};
 
 use crate::composites::{record_of_fields, sequence_of_cells, tuple_of_cells};
 use crate::constants::{known_number, known_text, known_truth};
@@ -14,11 +15,12 @@ use snowcat_rows::Ty;
 use std::alloc::{AllocError, Global};
 use tla_values::{List, Text, copy_text};
 
-// A cell of a type that is no tuple and no record.
+// The default of a type that is no tuple and no record.
 #[tactic(auto, using(cell_arena::proofs::Growing::growing))]
 fn plain_cell(b: &mut Build, ty: &Ty) -> Result<CellId, AllocError>
     requires { IsTextAmong b.old.arena.texts [] }
     ensures cell { IfOk result (OfType b.new.arena.kinds ty.now) }
+    ensures value { IfOk result (IsDefault b.new ty.now) }
     ensures grows { Grows b.old b.new }
 {
     let alloc = b.arena.alloc();
@@ -63,15 +65,16 @@ fn field_names(alloc: Global, fields: &[(Text, Ty)]) -> Result<Vec<Text>, AllocE
     Ok(names)
 }
 
-/// Some cell of the type's sort, for where there is no value: false, 0, the empty text, what has no
-/// member, argument or item, and records and tuples of these. The empty text is one of the build's.
-/// Want of memory is answered for a type without a kind: one with a variable, an open record, one
-/// that has a name twice, or an operator's. It adds nothing to the formula.
+/// The default of a type as a cell of its sort, for where there is no value: FALSE, 0, the empty text,
+/// set, function or sequence, and for a tuple or record the defaults of its parts. The empty text is
+/// one of the build's. Want of memory is answered for a type without a kind: one with a variable, an
+/// open record, one that has a name twice, or an operator's. It adds nothing to the formula.
 #[cycle(defaults)]
 #[tactic(auto, using(cell_arena::proofs::Growing::growing))]
 pub fn default_cell(b: &mut Build, ty: &Ty) -> Result<CellId, AllocError>
     requires { IsTextAmong b.old.arena.texts [] }
     ensures cell { IfOk result (OfType b.new.arena.kinds ty.now) }
+    ensures value { IfOk result (IsDefault b.new ty.now) }
     ensures grows { Grows b.old b.new }
 {
     match ty {
@@ -102,12 +105,12 @@ pub fn default_cell(b: &mut Build, ty: &Ty) -> Result<CellId, AllocError>
     }
 }
 
-// A cell of each type.
+// The default of each type.
 #[cycle(defaults)]
 #[tactic(auto, using(cell_arena::proofs::Growing::growing))]
 fn item_cells(b: &mut Build, types: &[Ty]) -> Result<Vec<CellId>, AllocError>
     requires { IsTextAmong b.old.arena.texts [] }
-    ensures cells { IfOk result (λ cs. OfTypes b.new.arena.kinds types.now cs.items) }
+    ensures cells { IfOk result (λ cs. AreDefaults b.new types.now cs.items) }
     ensures grows { Grows b.old b.new }
 {
     let mut cells = Vec::new(b.arena.alloc());
@@ -118,12 +121,12 @@ fn item_cells(b: &mut Build, types: &[Ty]) -> Result<Vec<CellId>, AllocError>
     Ok(cells)
 }
 
-// A cell of the type of each field.
+// The default of the type of each field.
 #[cycle(defaults)]
 #[tactic(auto, using(cell_arena::proofs::Growing::growing))]
 fn field_cells(b: &mut Build, fields: &[(Text, Ty)]) -> Result<Vec<CellId>, AllocError>
     requires { IsTextAmong b.old.arena.texts [] }
-    ensures cells { IfOk result (λ cs. OfTypes b.new.arena.kinds (map (λ f. f.1) fields.now) cs.items) }
+    ensures cells { IfOk result (λ cs. AreDefaults b.new (map (λ f. f.1) fields.now) cs.items) }
     ensures grows { Grows b.old b.new }
 {
     let mut cells = Vec::new(b.arena.alloc());

@@ -14,7 +14,7 @@ use Rattle.level_laws.specs.Branches.{Ending}
 use Rattle.branch_cells.specs.declared.branch.BranchCells.{BranchCells}
 use Rattle.branch_cells.specs.declared.branch.Ends.{Ends}
 use Rattle.branch_cells.specs.Ends.{end_of, ends_at}
-use Rattle.branch_cells.specs.Branches.{IsSame}
+use Rattle.branch_cells.specs.Branches.{AreOfEither, IsSame}
 
 -- the literal is not the negation of the first variable, which is true under each satisfying assignment
 abbrev pub can_be : Lit → Bool
@@ -40,9 +40,7 @@ pub record AreCellsOfEither (old new : Build) (l : Lit) (xs ys : List CellId) (i
 pub record IsEither (new : Build) (l : Lit) (x y r : BranchCells) : Type 0 where
   pub ends : (k : Ending) → HasValue new.formula (end_of r.ends k)
       (λ a. if lit_value l a then ends_at x.ends k a else ends_at y.ends k a)
-  pub next : (a : List Bool) → Satisfies a new.formula →
-      map (decode new.arena a) r.next
-      ≡ (if lit_value l a then map (decode new.arena a) x.next else map (decode new.arena a) y.next)
+  pub next : AreOfEither new l x.next y.next r.next
   pub kept : (i : ℕ) (id : CellId) → slice_get x.next i ≡ Some id → slice_get y.next i ≡ Some id →
       slice_get r.next i ≡ Some id
 

@@ -52,7 +52,7 @@ IsHeld-prop : (n vars width : ℕ) (k : CellKind) → IsProp (IsHeld n vars widt
 IsHeld-prop n vars width k = hlevel (RefersBelow-prop, NamesBelow-prop, IsFormed-prop)
 
 pub WellBuilt-prop : (c : Cells) → IsProp (WellBuilt c)
-WellBuilt-prop c = hlevel (IsHeld-prop, le_prop, Bool-set)
+WellBuilt-prop c = hlevel (IsHeld-prop, le_prop, Bool-set, ℕ-set)
 
 pub InRange-prop : (c : Cells) (f : Cnf) → IsProp (InRange c f)
 unfolding InRange

@@ -10,11 +10,12 @@ use Rattle.kernel_shapes.specs.Codes.{mean}
 use Rattle.kernel_shapes.specs.Levels.{constant_shapes}
 use Rattle.kernel_shapes.specs.Systems.{system_parts}
 use Rattle.shape_bounds.specs.Kept.{capped}
+use Rattle.typed_cells.specs.inner.Defaulted.{AreDefaults}
 use Rattle.branch_cells.specs.declared.branch.BranchCells.{BranchCells}
 use Rattle.branch_cells.specs.declared.branch.Ends.{Ends}
 use Rattle.branch_cells.specs.declared.way.Way.{Way}
 use Rattle.branch_cells.specs.Along.{IsAlong}
-use Rattle.branch_cells.specs.Branches.{AreOfKinds, IsWhole}
+use Rattle.branch_cells.specs.Branches.{AreOfEither, AreOfKinds, IsWhole}
 use Rattle.branch_cells.specs.Ends.{AreAlso, AreBehind}
 use Rattle.step_branches.specs.Ways.{IsConstantsWay, IsStartWay, IsStepWay}
 use Rattle.encoder_laws.specs.declared.level.LevelCells.{LevelCells}
@@ -22,7 +23,7 @@ use Rattle.step_encoder.specs.inner.Asked.{AreKept, IsConditionOf, IsJudgedLevel
 
 -- ---- the start
 
--- the paths of CInit
+-- the paths of CInit; a name to which they give no value has the default of its type
 pub record IsConstantsPart (old new : Build) (s : System) (r : BranchCells) : Type 0 where
   pub formed : WellFormed old.formula
   pub middle : Build
@@ -31,6 +32,7 @@ pub record IsConstantsPart (old new : Build) (s : System) (r : BranchCells) : Ty
   pub way : Way
   pub before : Grows old middle
   pub kinds : AreOfKinds middle.arena.kinds (names_of s) others
+  pub defaults : AreDefaults middle s.ker.names others
   pub is : IsConstantsWay s middle.arena.width others way
   pub along : IsAlong middle new way s.constants r
   pub grows : Grows middle new
@@ -47,7 +49,8 @@ pub record CanGoOn (b : Build) (s : System) (constants : BranchCells) (way : Way
   pub whole : IsWhole b (names_of s) constants
   pub is : IsWayOfStart b s constants way
 
--- the assumption behind CInit, and behind both the paths of Init
+-- the assumption behind CInit, and behind both the paths of Init; where these are not reached the names have what they
+-- have behind CInit
 pub record IsStartPart (old new : Build) (s : System) (constants : BranchCells) (way : Way)
     (r : BranchCells) : Type 0 where
   pub formed : WellFormed old.formula
@@ -66,9 +69,15 @@ pub record IsStartPart (old new : Build) (s : System) (constants : BranchCells) 
   pub along : IsAlong from to way s.start part
   pub grows : Grows from to
   pub whole : IsWhole to (names_of s) part
-  pub after : Grows to new
+  pub chosen : Build
+  pub formed_chosen : WellFormed chosen.formula
+  pub cells : List CellId
+  pub choosing : Grows to chosen
+  pub choice : AreOfEither chosen known.holds part.next constants.next cells
+  pub kinds : AreOfKinds chosen.arena.kinds (names_of s) cells
+  pub after : Grows chosen new
   pub ends : AreBehind new.formula known part.ends r.ends
-  pub next : r.next ≡ part.next
+  pub next : r.next ≡ cells
 
 pub record IsFirst (old new : Build) (s : System) (codes : List Code) (x : LevelCells) : Type 0 where
   pub middle : Build

@@ -1,5 +1,5 @@
 use Rattle.cell_arena.proofs.Growing.{Grows-refl, Grows-trans}
-use Rattle.typed_cells.proofs.DefaultCells.{types-all, types-none, types-turn}
+use Rattle.rewriting_tests.proofs.TypedParts.{types-all, types-none, types-turn}
 use Rattle.rewriting_tests.proofs.ValueCells.{kind-of-name}
 use Rattle.rewriting_tests.proofs.settings.name_cells.Goals as goal
 

@@ -1,6 +1,6 @@
 use Rattle.std.proofs.Common.{take}
 use Rattle.cell_arena.specs.Growth.{Grows}
-use Rattle.typed_cells.specs.inner.OfTypes.{OfTypes}
+use Rattle.rewriting_tests.specs.OfTypes.{OfTypes}
 use Rattle.rewriting_tests.proofs.settings.name_cells.Given as goal
 
 abbrev pub invariant-loop-i : goal.invariant-loop-i

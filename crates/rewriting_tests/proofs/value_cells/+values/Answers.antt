@@ -1,6 +1,7 @@
 use Rattle.std.proofs.Common.{◌∙◌, ℕ, ◌<◌, ◌≤◌, map, subst, sym}
 use Rattle.cell_arena.proofs.Growing.{Grows-refl, Grows-trans}
-use Rattle.typed_cells.proofs.DefaultCells.{field-count, field-type, of-tup, types-all, types-none, types-there, types-turn}
+use Rattle.typed_cells.proofs.DefaultCells.{field-count, field-type}
+use Rattle.rewriting_tests.proofs.TypedParts.{of-tup, types-all, types-none, types-there, types-turn}
 use Rattle.rewriting_tests.proofs.ValueCells.{arrows-named, arrows-none, arrows-older, arrows-same, arrows-turn, edges-named, edges-none, edges-older, edges-same, edges-turn, function-type, items-none, items-there, items-turn, sequence-type, set-type}
 use Rattle.rewriting_tests.proofs.value_cells.+values.Goals as goal
 

@@ -1,6 +1,6 @@
 use Rattle.std.proofs.Common.{map, take}
 use Rattle.cell_arena.specs.Growth.{Grows}
-use Rattle.typed_cells.specs.inner.OfTypes.{OfTypes}
+use Rattle.rewriting_tests.specs.OfTypes.{OfTypes}
 use Rattle.rewriting_tests.proofs.ValueCells.{AreArrows, AreEdges, AreItems}
 use Rattle.rewriting_tests.proofs.value_cells.+values.Given as goal
 

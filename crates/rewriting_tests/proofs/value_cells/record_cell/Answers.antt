@@ -1,5 +1,5 @@
 use Rattle.std.proofs.Common.{None, refl, ◌∙◌}
-use Rattle.typed_cells.proofs.DefaultCells.{field-counts, of-rec, types-there}
+use Rattle.rewriting_tests.proofs.TypedParts.{field-counts, of-rec, types-there}
 use Rattle.rewriting_tests.proofs.value_cells.record_cell.Goals as goal
 
 pub record_of_fields-requires-clause-one_each : goal.record_of_fields-requires-clause-one_each

@@ -1,13 +1,13 @@
 use Rattle.std.proofs.Common.{[]}
 use Rattle.cell_arena.proofs.Growing.{Grows-refl, Grows-trans}
-use Rattle.typed_cells.proofs.DefaultCells.{text-later, types-all, types-none, types-turn}
+use Rattle.typed_cells.proofs.DefaultCells.{defaults-all, defaults-none, defaults-turn, text-later}
 use Rattle.step_encoder.proofs.names.default_cells.Goals as goal
 
 pub loop-i-init : goal.loop-i-init
 loop-i-init c = record {
   grows = Grows-refl _;
   text = c.requires;
-  cells = types-none c.args.b.now.arena.kinds c.args.types.now _ c.new-cells.ensures.items;
+  cells = defaults-none c.args.b.now c.args.types.now _ c.new-cells.ensures.items;
 }
 
 pub loop-i-preserved : goal.loop-i-preserved
@@ -16,10 +16,10 @@ loop-i-preserved c =
     record {
       grows = Grows-trans _ _ _ i.grows c.in_ok-id.ensures.grows;
       text = text-later _ _ [] i.text c.in_ok-id.ensures.grows;
-      cells = types-turn _ _ c.args.types.now c.loop-i.i c.index-types-i.result _ _ _
-          c.loop-i-test.true c.index-types-i.is i.cells c.in_ok-id.ensures.grows c.in_ok-id.ensures.cell
-          c.in_ok-push.ensures.items;
+      cells = defaults-turn _ _ c.args.types.now c.loop-i.i c.index-types-i.result _ _ _
+          c.loop-i-test.true c.index-types-i.is i.cells c.in_ok-id.ensures.grows
+          (record { cell = c.in_ok-id.ensures.cell; value = c.in_ok-id.ensures.value }) c.in_ok-push.ensures.items;
     }
 
 pub returns-clause-cells : goal.returns-clause-cells
-returns-clause-cells c = types-all _ _ _ _ c.loop-i-test.false c.loop-i.invariant.cells
+returns-clause-cells c = defaults-all _ _ _ _ c.loop-i-test.false c.loop-i.invariant.cells

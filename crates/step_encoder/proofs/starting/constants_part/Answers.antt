@@ -1,4 +1,5 @@
-use Rattle.step_encoder.proofs.MadeParts.{DefaultWay, along_as, constants_go, default_kinds, default_way, whole_as}
+use Rattle.step_encoder.proofs.MadeParts.{DefaultWay, along_as, constants_go, default_kinds, default_way, defaults_are}
+use Rattle.step_encoder.proofs.MadeParts.{whole_as}
 use Rattle.step_encoder.proofs.starting.constants_part.Goals as goal
 
 pub along-requires : goal.along-requires
@@ -35,6 +36,7 @@ returns-clause-part g c =
       way = c.in_ok-way.way;
       before = c.in_ok-cells.ensures.grows;
       kinds = default_kinds _ _ _ _ _ _ _ _ w;
+      defaults = defaults_are _ _ _ _ _ _ _ _ w;
       is = default_way _ _ _ _ _ _ _ _ w;
       along = along_as _ _ _ _ _ _ c.as_slice-3.ensures c.in_ok-part.ensures.along;
       grows = c.in_ok-part.ensures.grows;
