@@ -255,6 +255,6 @@ module _ (a : Subject) (e : Encoder) (question : Question) (l : Lit) (budget : O
   pub holds_answer : (bits : List Bool) (v : Verdict) → IsReply e.build.formula question l old new (reply.Holds bits)
       → IsTold a question.level question.query v → Answers (Some v)
   holds_answer bits v is told =
-      found_checked a.width a.job.now (types_of a) budget question.level new question.query v told.shown told.typed
+      found_checked a.width a.job.now is_ready.placed (types_of a) budget question.level new question.query v told.shown told.typed
       (holds_now a e question.level is_ready has_level question.query bits of (shown_after bits is))
       (subst (λ (j : Journal). HasRefuted (Some a.width) a.job.now budget (asked_until question.level question.query) j) (sym is.1) has)

@@ -23,6 +23,8 @@ use Rattle.bounded_engine.specs.Sections.{AreRefuted, asked_below, asked_until}
 use Rattle.bounded_engine.specs.Verdicts.{AreTyped, ShowsBig, ShowsFault, query_of_fault, query_of_part, states_of, states_told}
 use Rattle.bounded_engine.specs.inner.Asking.{HasRefuted}
 use Rattle.bounded_engine.specs.inner.Finding.{IsShown}
+use Rattle.front_end.specs.Accepted.{IsInFiles}
+use Rattle.bounded_engine.proofs.InFiles.{big_in_files, fault_in_files, no_places}
 use Rattle.bounded_engine.proofs.Holding.{levels_before, none_below, questions_before}
 use Rattle.bounded_engine.proofs.Journals.{is_within, none_errs_below}
 
@@ -32,7 +34,7 @@ errs_by w job n (StepWrong p) h = wrong_errs w job n h
 errs_by w job n (InvFalse name) h = not_true_errs w job n h
 errs_by w job n (InvWrong name p) h = not_true_errs w job n h
 
-module _ (w : ℕ) (job : Job) (types : List Ty) (budget : Option ℕ) (n : ℕ) (journal : Journal) where
+module _ (w : ℕ) (job : Job) (in_files : IsInFiles job) (types : List Ty) (budget : Option ℕ) (n : ℕ) (journal : Journal) where
   -- the first question that holds, where the others are refuted
   is_first : (q : Query) → Holds q (Some w) job n → HasRefuted (Some w) job budget (asked_until n q) journal → IsFirst (Some w) job n q
   is_first q holds has = record {
@@ -53,6 +55,7 @@ module _ (w : ℕ) (job : Job) (types : List Ty) (budget : Option ℕ) (n : ℕ)
       first = is_first (query_of_fault fault) holds has;
     };
     typed = typed;
+    placed = fault_in_files (Some w) job in_files n fault t shown;
     certificate = has.refuted;
     within = is_within (Some w) job budget (asked_until n (query_of_fault fault)) journal has;
   }
@@ -68,6 +71,7 @@ module _ (w : ℕ) (job : Job) (types : List Ty) (budget : Option ℕ) (n : ℕ)
       first = is_first (query_of_part part) holds has;
     };
     typed = typed;
+    placed = big_in_files (Some w) job in_files n part p t shown;
     certificate = has.refuted;
     within = is_within (Some w) job budget (asked_until n (query_of_part part)) journal has;
   }
@@ -102,6 +106,7 @@ clean_checked w job types budget n longest journal all has =
     record {
       verdict_is = record { all = refl; none = none_errs_below w job (longest + 1) here; questions = here };
       typed = λ i d lt. absurd (omega arith);
+      placed = no_places job;
       certificate = subst (λ (x : ℕ). AreRefuted (Some w) job (asked_below x) journal.sections.items) all has.refuted;
       within = is_within (Some w) job budget (asked_below n) journal has;
     }

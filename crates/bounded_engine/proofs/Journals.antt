@@ -24,6 +24,7 @@ use Rattle.bounded_engine.specs.Sections.{Asked, AreRefuted, Encodes, IsCutAt, I
 use Rattle.bounded_engine.specs.Verdicts.{NoneErrsBelow}
 use Rattle.bounded_engine.specs.inner.Asking.{AddsOpen, AddsRefuted, HasRefuted, IsLeft, section_of}
 use Rattle.bounded_engine.proofs.Conflicts.{all_conflicts, left_at_first, left_more, left_spent, left_within, log_within, spent_more}
+use Rattle.bounded_engine.proofs.InFiles.{no_places}
 use Rattle.bounded_engine.proofs.Holding.{levels_before, no_step_before, none_more, not_holds}
 
 -- ---- one section more
@@ -169,6 +170,7 @@ spent_answer w job types budget question f l old new v of_levels asks has adds s
     subst (λ (x : Verdict). IsChecked (Some w) job types longest budget x new.sections.items) (sym is) record {
       verdict_is = record { given = cut.1; within = le; least = none_errs_below w job n none; questions = none };
       typed = λ i d lt. absurd (omega arith);
+      placed = no_places job;
       certificate = cut.0;
       within = spent_within budget spent cut.1;
     }

@@ -1,6 +1,7 @@
 -- Lemmas of the crate.
 pub mod Conflicts
 pub mod Holding
+pub mod InFiles
 pub mod Journals
 pub mod Checked
 pub mod Firsts

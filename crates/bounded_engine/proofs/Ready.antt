@@ -107,6 +107,7 @@ ready a s accepted can job system width = record {
   wide = subst (λ (w : ℕ). 4 ≤ w) (sym width) can.wide;
   narrow = subst (λ (w : ℕ). w ≤ 64) (sym width) can.narrow;
   expanded = subst AreExpanded (sym job) (are_expanded a.job accepted.typed.bound);
+  placed = subst front.IsInFiles (sym job) accepted.placed;
   stands =
       subst (λ (w : ℕ). StandsFor (Some w) s.job.now s.system.now) (sym width)
       (subst (λ (j : Job). StandsFor (Some a.width) j s.system.now) (sym job)

@@ -9,7 +9,8 @@ use Rattle.trace_text.specs.declared.verdict.Verdict.TheVariants.{Clean, Inducti
 use Rattle.trace_text.specs.declared.verdict.Verdict.TheVariants.{Overflow, Spent, NotInductive}
 use Rattle.trace_text.specs.declared.verdict.Where.TheVariants.{Level, Typed}
 use Rattle.bounded_engine.specs.Sections.{AreRefuted, IsCutAt, IsWithin, asked_below, asked_until, conflicts_spent}
-use Rattle.bounded_engine.specs.Verdicts.{AreTyped, IsVerdict, query_of_fault, query_of_part, states_told}
+use Rattle.bounded_engine.specs.Verdicts.{AreInFiles, AreTyped, IsVerdict, places_told, query_of_fault, query_of_part}
+use Rattle.bounded_engine.specs.Verdicts.{states_told}
 
 -- a section for each question that was refuted, in the order in which they are asked; where the budget was spent, one
 -- more that is open
@@ -30,5 +31,6 @@ pub record IsChecked (w : Width) (job : Job) (types : List Ty) (longest : ℕ) (
     (sections : List Section) : Type 0 where
   pub verdict_is : IsVerdict w job longest budget v
   pub typed : AreTyped types (states_told v)
+  pub placed : AreInFiles job (places_told v)
   pub certificate : IsCertificateOf w job v sections
   pub within : IsWithin budget (conflicts_spent sections)

@@ -106,6 +106,26 @@ states_told Inductive = []
 abbrev pub AreTyped : List Ty → List State → Type 0
 AreTyped types states = All (λ s. HaveTypes types s.vals) states
 
+-- ---- the places of a verdict
+
+abbrev pub places_of_fault : Fault → List Place
+places_of_fault (StartWrong p) = p ∷ []
+places_of_fault (StepWrong p) = p ∷ []
+places_of_fault (InvFalse name) = []
+places_of_fault (InvWrong name p) = p ∷ []
+
+abbrev pub places_told : Verdict → List Place
+places_told (Error n fault t) = places_of_fault fault
+places_told (Overflow at part p t) = p ∷ []
+places_told (NotInductive fault t) = places_of_fault fault
+places_told (Clean n) = []
+places_told (Spent conflicts at) = []
+places_told Inductive = []
+
+-- the file of each place is one of the job's files
+abbrev pub AreInFiles : Job → List Place → Type 0
+AreInFiles job places = All (λ p. p.file < length job.files) places
+
 -- ---- the questions of which verdicts tell
 
 abbrev pub query_of_fault : Fault → Query

@@ -24,8 +24,9 @@ use trace_text::Verdict;
 ///
 /// An error is the least: no lower level errs, and its trace is an execution, also without the
 /// width, of values of the names' types. `Clean` says that no execution of at most so many steps
-/// errs. An integer outside the width is no error. One formula grows from level to level; the
-/// section of a question has what it was when the question was asked. (Specifying Systems, sections
+/// errs. An integer outside the width is no error. The place of a verdict is in a file of the job.
+/// One formula grows from level to level; the section of a question has what it was when the
+/// question was asked. (Specifying Systems, sections
 /// 2.3 and 8.1.)
 pub fn check_to(alloc: Global, a: &Accepted, conflicts: Option<u64>) -> Result<Run, AllocError>
     requires accepted { IsAccepted a.now }

@@ -6,24 +6,30 @@ use crate::scores::Scores;
 use std::alloc::{AllocError, Global};
 
 /// Variables below a fixed number as a binary heap: none has a greater score than the one above it,
-/// at half its place.
+/// at half its place. The numbers have 32 bits, since each variable that is taken back asks for its
+/// place.
 #[derive(Drop)]
 pub struct Heap {
     // The first `count` of them are the heap.
-    items: Vec<usize>,
+    items: Vec<u32>,
     count: usize,
-    // Where each variable of the heap stands.
-    places: Vec<Option<usize>>,
+    // Where each variable of the heap stands; `NOWHERE` for the others.
+    places: Vec<u32>,
 }
 
+const NOWHERE: u32 = 4_294_967_295;
+
 impl Heap {
-    /// All variables below `vars`, whose scores are the same.
+    /// All variables below `vars`, whose scores are the same. 2^32 variables are want of memory.
     pub fn new(alloc: Global, vars: usize) -> Result<Heap, AllocError> {
         let mut items = Vec::with_capacity(alloc, vars)?;
         let mut places = Vec::with_capacity(alloc, vars)?;
         for v in 0..vars {
-            items.push(v)?;
-            places.push(Some(v))?;
+            let Ok(number) = u32::try_from(v) else {
+                return Err(AllocError);
+            };
+            items.push(number)?;
+            places.push(number)?;
         }
         Ok(Heap {
             items,
@@ -40,7 +46,7 @@ impl Heap {
         self.count = end;
         self.sink(scores, last);
         if first < self.places.len() {
-            self.places[first] = None;
+            self.places[first] = NOWHERE;
         }
         Some(first)
     }
@@ -113,12 +119,15 @@ impl Heap {
     }
 
     fn item(&self, at: usize) -> Option<usize> {
-        self.items.get(at).copied()
+        match self.items.get(at) {
+            Some(v) => Some(*v as usize),
+            None => None,
+        }
     }
 
     fn place(&self, v: usize) -> Option<usize> {
-        if v < self.places.len() {
-            self.places[v]
+        if v < self.places.len() && self.places[v] != NOWHERE {
+            Some(self.places[v] as usize)
         } else {
             None
         }
@@ -126,8 +135,10 @@ impl Heap {
 
     fn put(&mut self, v: usize, at: usize) {
         if v < self.places.len() && at < self.items.len() {
-            self.items[at] = v;
-            self.places[v] = Some(at);
+            if let (Ok(var), Ok(place)) = (u32::try_from(v), u32::try_from(at)) {
+                self.items[at] = var;
+                self.places[v] = place;
+            }
         }
     }
 }

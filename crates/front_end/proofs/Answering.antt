@@ -1,5 +1,5 @@
 -- Which answer is given, stage by stage, from the kernel up.
-use Rattle.std.proofs.Common.{◌≡◌, ◌⊎◌, inl, inr, ◌≤◌, ℕ, Bool, true, false, List, [], Option, Result, Ok, Err, arith, refl, sym, ◌∙◌, subst}
+use Rattle.std.proofs.Common.{◌≡◌, ◌⊎◌, inl, inr, ◌≤◌, ℕ, Bool, true, List, [], Option, Result, Ok, Err, arith, refl, sym, ◌∙◌, subst}
 use Rattle.std.specs.Prelude.{IsTrue, MatchResult}
 use Rattle.std.specs.declared.alloc.AllocError.{AllocError}
 use Rattle.assignment_finder.specs.declared.assign_fault.AssignFault.{AssignFault}
@@ -105,9 +105,7 @@ kernel_refusal r job t k (front.Assign f) reduced h = (k, (reduced, h))
 kernel_refusal r job t k (front.Shape f) reduced h = (k, (reduced, h))
 kernel_refusal r job t k (front.Memory e) reduced h = tt
 kernel_refusal r job t k (front.Module f) reduced h = absurd h
-kernel_refusal r job t k front.UseUnknown reduced h = absurd h
 kernel_refusal r job t k (front.Inline f) reduced h = absurd h
-kernel_refusal r job t k front.NameUnbound reduced h = absurd h
 kernel_refusal r job t k (front.«Type» f) reduced h = absurd h
 kernel_refusal r job t k (front.Ker f) reduced h = absurd h
 
@@ -122,9 +120,6 @@ of_kernel r job t k (Ok b) reduced h = record {
 of_kernel r job t k (Err f) reduced h = kernel_refusal r job t k f reduced h
 
 -- ---- of a job
-
-pub unbound : (r : Request) (job : Job) (b : Bool) → b ≡ is_typable job → b ≡ false → IsJobRefusal r job front.NameUnbound
-unbound r job b is not = sym is ∙ not
 
 pub typable : (job : Job) (b : Bool) → b ≡ is_typable job → b ≡ true → IsTrue (is_typable job)
 typable job b is holds = sym is ∙ holds
@@ -144,9 +139,7 @@ typed_refusal r job t (front.Assign f) typed h = (t, (typed, h))
 typed_refusal r job t (front.Shape f) typed h = (t, (typed, h))
 typed_refusal r job t (front.Memory e) typed h = tt
 typed_refusal r job t (front.Module f) typed h = absurd h.1.1
-typed_refusal r job t front.UseUnknown typed h = absurd h.1.1
 typed_refusal r job t (front.Inline f) typed h = absurd h.1.1
-typed_refusal r job t front.NameUnbound typed h = absurd h.1.1
 typed_refusal r job t (front.«Type» f) typed h = absurd h.1.1
 
 -- ---- of modules
@@ -156,7 +149,8 @@ pub only_flat : (held : Option Folder) (root text : List ℕ) (flat : Flat) → 
 only_flat held root text flat e joined one =
     subst (λ (x : List ℕ). IsOnlyFlat held x flat) e (record { joined = joined; only = λ told other there. sym (one other told there) })
 
-stayed : (before now : ℕ) → now ≡ before → before ≤ now
+-- where memory is wanting behind a flat module
+pub stayed : (before now : ℕ) → now ≡ before → before ≤ now
 stayed before now e = omega (arith, e)
 
 module _ (held : Option Folder) (before now : ℕ) (r : Request) where
@@ -187,9 +181,6 @@ module _ (held : Option Folder) (before now : ℕ) (r : Request) where
 
   -- where this is the flat module
   module _ (flat : Flat) (one : IsOnlyFlat held r.root flat) (stay : now ≡ before) where
-    pub unknown : (b : Bool) → b ≡ are_known flat → b ≡ false → IsRefusal held before now r flat.files [] front.UseUnknown
-    unknown b is not = (flat, (one, (sym is ∙ not, refl, refl), stay))
-
     pub want : (files : List (List ℕ)) (names : List Decl) (e : AllocError) → IsRefusal held before now r files names (front.Memory e)
     want files names e = stayed before now stay
 
@@ -205,7 +196,6 @@ module _ (held : Option Folder) (before now : ℕ) (r : Request) where
     module _ (job : Job) (makes : MakesJob r flat job) where
       job_refusal : (files : List (List ℕ)) (names : List Decl) (f : FrontFault) → files ≡ job.files → names ≡ job.names → IsJobRefusal r job f
           → IsRefusal held before now r files names f
-      job_refusal files names front.NameUnbound same same' h = (flat, (one, (job, (makes, h, same, same')), stay))
       job_refusal files names (front.«Type» f) same same' h = (flat, (one, (job, (makes, h, same, same')), stay))
       job_refusal files names (front.Ker f) same same' h = (flat, (one, (job, (makes, h, same, same')), stay))
       job_refusal files names (front.Split f) same same' h = (flat, (one, (job, (makes, h, same, same')), stay))
@@ -213,7 +203,6 @@ module _ (held : Option Folder) (before now : ℕ) (r : Request) where
       job_refusal files names (front.Shape f) same same' h = (flat, (one, (job, (makes, h, same, same')), stay))
       job_refusal files names (front.Memory e) same same' h = stayed before now stay
       job_refusal files names (front.Module f) same same' h = absurd h.1.1.1.1
-      job_refusal files names front.UseUnknown same same' h = absurd h.1.1.1.1
       job_refusal files names (front.Inline f) same same' h = absurd h.1.1.1.1
 
       pub judged : (x : Result Accepted Refusal) → IsJudged r job x → IsAnswer held before now r x

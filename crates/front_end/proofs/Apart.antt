@@ -223,9 +223,7 @@ module _ (law : SameNumbers) (r : Request) (wide : 4 ≤ r.width) (job : Job) (t
       kept.limits f told excess
   of_kernel u j typed reduced (front.Memory e) h = tt
   of_kernel u j typed reduced (front.Module f) h = absurd h
-  of_kernel u j typed reduced front.UseUnknown h = absurd h
   of_kernel u j typed reduced (front.Inline f) h = absurd h
-  of_kernel u j typed reduced front.NameUnbound h = absurd h
   of_kernel u j typed reduced (front.«Type» f) h = absurd h
   of_kernel u j typed reduced (front.Ker f) h = absurd h
 
@@ -236,9 +234,7 @@ module _ (law : SameNumbers) (r : Request) (wide : 4 ≤ r.width) (job : Job) (t
   of_typed u typed (front.Assign f) (j, (reduced, h)) = of_kernel u j typed reduced (front.Assign f) h
   of_typed u typed (front.Shape f) (j, (reduced, h)) = of_kernel u j typed reduced (front.Shape f) h
   of_typed u typed (front.Module f) (j, (reduced, h)) = absurd h
-  of_typed u typed front.UseUnknown (j, (reduced, h)) = absurd h
   of_typed u typed (front.Inline f) (j, (reduced, h)) = absurd h
-  of_typed u typed front.NameUnbound (j, (reduced, h)) = absurd h
   of_typed u typed (front.«Type» f) (j, (reduced, h)) = absurd h
 
   -- ---- of a job
@@ -250,7 +246,6 @@ module _ (law : SameNumbers) (r : Request) (wide : 4 ≤ r.width) (job : Job) (t
   type_told (types.Memory e) told h = absurd (cc)
 
   of_job : (f : FrontFault) → IsJobRefusal r job f → IsPassing f
-  of_job front.NameUnbound h = false≢true (sym h ∙ kept.typed.bound)
   of_job (front.«Type» f) h = type_told f h.2 h.1
   of_job (front.Memory e) h = tt
   of_job (front.Ker f) (u, (typed, h)) = of_typed u typed (front.Ker f) h
@@ -258,7 +253,6 @@ module _ (law : SameNumbers) (r : Request) (wide : 4 ≤ r.width) (job : Job) (t
   of_job (front.Assign f) (u, (typed, h)) = of_typed u typed (front.Assign f) h
   of_job (front.Shape f) (u, (typed, h)) = of_typed u typed (front.Shape f) h
   of_job (front.Module f) (u, (typed, h)) = absurd h.1.1
-  of_job front.UseUnknown (u, (typed, h)) = absurd h.1.1
   of_job (front.Inline f) (u, (typed, h)) = absurd h.1.1
 
 -- ---- of modules
@@ -310,10 +304,8 @@ module _ (law : SameNumbers) (held : Option Folder) (r : Request) (wide : 4 ≤ 
       of_job law r wide a.job a.typed a.system kept f (subst P e g)
 
   of_flat : (files : List (List ℕ)) (names : List Decl) (f : FrontFault) → IsFlatRefusal r h.flat files names f → IsPassing f
-  of_flat files names front.UseUnknown g = false≢true (sym g.0 ∙ h.makes.known)
   of_flat files names (front.Inline f) g = inline_told (made r h.flat) a.job h.makes.gives f g.2 g.1
   of_flat files names (front.Memory e) g = tt
-  of_flat files names front.NameUnbound (job, (makes, g, fs, ns)) = of_made job makes front.NameUnbound g
   of_flat files names (front.«Type» f) (job, (makes, g, fs, ns)) = of_made job makes (front.«Type» f) g
   of_flat files names (front.Ker f) (job, (makes, g, fs, ns)) = of_made job makes (front.Ker f) g
   of_flat files names (front.Split f) (job, (makes, g, fs, ns)) = of_made job makes (front.Split f) g
@@ -332,9 +324,7 @@ module _ (law : SameNumbers) (held : Option Folder) (r : Request) (wide : 4 ≤ 
       → IsRefusal held before now r files names f → IsPassing f
   not_refused before now files names (front.Module f) told g = g.0.apart h.flat told h.joined.joined
   not_refused before now files names (front.Memory e) told g = tt
-  not_refused before now files names front.UseUnknown told (flat, (one, g, stay)) = of_files files names told flat one front.UseUnknown g
   not_refused before now files names (front.Inline f) told (flat, (one, g, stay)) = of_files files names told flat one (front.Inline f) g
-  not_refused before now files names front.NameUnbound told (flat, (one, g, stay)) = of_files files names told flat one front.NameUnbound g
   not_refused before now files names (front.«Type» f) told (flat, (one, g, stay)) = of_files files names told flat one (front.«Type» f) g
   not_refused before now files names (front.Ker f) told (flat, (one, g, stay)) = of_files files names told flat one (front.Ker f) g
   not_refused before now files names (front.Split f) told (flat, (one, g, stay)) = of_files files names told flat one (front.Split f) g

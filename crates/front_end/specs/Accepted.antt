@@ -4,6 +4,7 @@
 -- (Konnov, Kukovec and Tran, "TLA+ Model Checking Made Symbolic", OOPSLA 2019).
 use Rattle.std.specs.Prelude.{◌≡◌, ◌≤◌, ℕ, IsTrue, List, [], ◌∷◌, length, Option, Some, None, Result, Ok}
 use Rattle.assignment_finder.specs.Finding.{IsFound}
+use Rattle.fault_places.specs.Places.{job_places_below}
 use Rattle.front_end.specs.declared.request.Accepted.{Accepted}
 use Rattle.front_end.specs.declared.request.Request.{Request}
 use Rattle.kernel_reduction.specs.BuiltJobs.{IsBuilt}
@@ -55,6 +56,12 @@ made r flat = job_answer flat r.init r.next r.cinit r.invs
 pub record MakesJob (r : Request) (flat : Flat) (job : Job) : Type 0 where
   pub known : IsTrue (are_known flat)
   pub gives : made r flat ≡ Gives job
+
+-- ---- places
+
+-- the file of each place of the job's trees and names is one of the job's files
+abbrev pub IsInFiles : Job → Type 0
+IsInFiles job = IsTrue (job_places_below (length job.files) job)
 
 -- ---- types
 
@@ -124,6 +131,7 @@ KeepsTypedLimits s width (Some b) =
 
 -- what holds of its parts, whatever modules and request it comes from
 pub record IsAccepted (a : Accepted) : Type 0 where
+  pub placed : IsInFiles a.job
   pub typed : IsTypedJob a.job a.typed
   pub reduced : IsReducedJob a.job a.typed a.system.ker
   pub paths : IsSystem a.job.names a.system

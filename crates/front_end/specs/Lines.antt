@@ -167,9 +167,7 @@ shape_text files (shapes.Memory e) = codes "out of memory"
 
 abbrev pub fault_text : List (List ℕ) → List Decl → FrontFault → List ℕ
 fault_text files names (front.Module f) = module_text files f
-fault_text files names front.UseUnknown = codes "refused: form is not built"
 fault_text files names (front.Inline f) = inline_text files f
-fault_text files names front.NameUnbound = codes "refused: form is not built"
 fault_text files names (front.«Type» f) = typing_text files f
 fault_text files names (front.Ker f) = ker_text files f
 fault_text files names (front.Split f) = split_text f

@@ -6,7 +6,7 @@ use Rattle.assignment_finder.specs.declared.assign_fault.AssignFault.{AssignFaul
 use Rattle.front_end.specs.Accepted.{AreAssigned, HasFewPaths, IsAcceptedFor, IsLevelsAnswer, IsOnlyFlat, IsReducedJob, IsSystem, IsTypedJob, MakesJob, action_paths, actions, made, typed_shapes_of}
 use Rattle.front_end.specs.Faults.{of_assign, of_inline, of_ker, of_module, of_shape, of_split, of_type}
 use Rattle.front_end.specs.declared.fault.FrontFault.{FrontFault}
-use Rattle.front_end.specs.declared.fault.FrontFault.TheVariants.{Module, UseUnknown, Inline, NameUnbound, «Type» as Types, Ker as Kers, Split, Assign, Shape, Memory}
+use Rattle.front_end.specs.declared.fault.FrontFault.TheVariants.{Module, Inline, «Type» as Types, Ker as Kers, Split, Assign, Shape, Memory}
 use Rattle.front_end.specs.declared.fault.Refusal.{Refusal}
 use Rattle.front_end.specs.declared.request.Accepted.{Accepted}
 use Rattle.front_end.specs.declared.request.Request.{Request}
@@ -99,14 +99,12 @@ IsTypedRefusal r job t (Memory e) = Unit {0}
 IsTypedRefusal r job t f = (k : KerJob) × (IsReducedJob job t k × IsKernelRefusal r job.names k f)
 
 abbrev pub IsJobRefusal : Request → Job → FrontFault → Type 0
-IsJobRefusal r job NameUnbound = is_typable job ≡ false
 IsJobRefusal r job (Types f) = IsTrue (is_typable job) × IsTypingAnswered job (Err f) × (of_type f ≡ Types f)
 IsJobRefusal r job (Memory e) = Unit {0}
 IsJobRefusal r job f = (t : Typed) × (IsTypedJob job t × IsTypedRefusal r job t f)
 
 -- the files are those of the flat module, and the names are those of the job, where there is one
 abbrev pub IsFlatRefusal : Request → Flat → List (List ℕ) → List Decl → FrontFault → Type 0
-IsFlatRefusal r flat files names UseUnknown = (are_known flat ≡ false) × (files ≡ flat.files) × (names ≡ [])
 IsFlatRefusal r flat files names (Inline f) =
     IsTrue (are_known flat) × IsJobAnswered (made r flat) (Err f) × (of_inline f ≡ Inline f) × (files ≡ flat.files) × (names ≡ [])
 IsFlatRefusal r flat files names (Memory e) = Unit {0}

@@ -14,7 +14,7 @@ use crate::fault::{FrontFault, Refusal, of_inline, of_module};
 use crate::kernels::make;
 use crate::request::{Accepted, Request};
 use op_inliner::{InlineFault, is_known, job_of};
-use std::alloc::Global;
+use std::alloc::{AllocError, Global};
 use std::str;
 use tla_meaning::{Flat, Job};
 use tla_modules::{ModuleRefusal, resolve};
@@ -91,7 +91,9 @@ fn where_known(
     if known {
         of_known(alloc, request, flat)
     } else {
-        Err(at_module(alloc, flat.files, FrontFault::UseUnknown))
+        // A use names nothing before it. No module that is read has one. It is asked, since no law says so yet; want of
+        // memory is answered, as the kernel does of trees that no module spells.
+        Err(at_module(alloc, flat.files, FrontFault::Memory(AllocError)))
     }
 }
 

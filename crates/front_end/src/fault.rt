@@ -22,17 +22,9 @@ pub enum FrontFault {
     /// There is no flat module.
     #[error("the modules are refused")]
     Module(ModuleFault),
-    /// A use in the flat module names nothing that stands before it. No module that is read has such a use; it is
-    /// asked, since no law says so yet.
-    #[error("a use is unknown")]
-    UseUnknown,
     /// The operators of the request make no job.
     #[error("the operators are refused")]
     Inline(InlineFault),
-    /// A name in the job's trees is not bound. No job of modules that are read has such a name; it is asked, since no
-    /// law says so yet.
-    #[error("a name is not bound")]
-    NameUnbound,
     /// The job has no typing.
     #[error("the types are refused")]
     Type(TypeFault),

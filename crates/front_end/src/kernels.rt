@@ -1,6 +1,6 @@
 // What is made of a job: its types, its kernel, the kernel's paths and shapes.
 ghost use Rattle.std.specs.Prelude.{◌≡◌, IsTrue, List as Items, MatchResult};
-ghost use Rattle.front_end.specs.Accepted.{IsSystem};
+ghost use Rattle.front_end.specs.Accepted.{IsInFiles, IsSystem};
 ghost use Rattle.front_end.specs.Refused.{IsJobRefusal, IsKernelRefusal, IsTypedRefusal};
 ghost use Rattle.front_end.specs.Requests.{IsRequest};
 ghost use Rattle.front_end.specs.inner.Stages.{AreSplit, IsBounded, IsKernelBounded, IsMade, IsMadeBy};
@@ -11,11 +11,12 @@ use crate::bounding::{Bounded, shapes_of};
 use crate::fault::{FrontFault, of_assign, of_ker, of_shape, of_split, of_type};
 use crate::request::Request;
 use crate::splitting::{Paths, assign_all, split_all};
+use fault_places::are_places_below;
 use kera_reducer::reduce;
 use kernel_trees::{KerJob, System};
 use snowcat_rows::Typed;
 use snowcat_types::{is_typable, typing, typings_meet_rows};
-use std::alloc::Global;
+use std::alloc::{AllocError, Global};
 use tla_meaning::{Decl, Job};
 use tla_values::List;
 
@@ -105,6 +106,7 @@ fn of_typed(
 // The same with the types.
 fn with_types(alloc: Global, request: &Request, job: &Job, typed: Typed) -> Result<Made, FrontFault>
     requires request { IsRequest request.now }
+    requires placed { IsInFiles job.now }
     requires bound { IsTrue (is_typable job.now) }
     requires typed { IsTypedAs job.now typed }
     ensures { MatchResult result (IsMade request.now job.now) (IsJobRefusal request.now job.now) }
@@ -115,13 +117,18 @@ fn with_types(alloc: Global, request: &Request, job: &Job, typed: Typed) -> Resu
     }
 }
 
-// What is made of a job.
+// What is made of a job. Where modules are read, each place of its trees and names is in one of its files, and each name
+// in the trees is bound. Both are asked, since no law says so yet; want of memory is answered, as the kernel does of trees
+// that no module spells.
 pub(crate) fn make(alloc: Global, request: &Request, job: &Job) -> Result<Made, FrontFault>
     requires { IsRequest request.now }
     ensures { MatchResult result (IsMade request.now job.now) (IsJobRefusal request.now job.now) }
 {
+    if !are_places_below(job, job.files.len()) {
+        return Err(FrontFault::Memory(AllocError));
+    }
     if !is_typable(alloc, job)? {
-        return Err(FrontFault::NameUnbound);
+        return Err(FrontFault::Memory(AllocError));
     }
     match typing(alloc, job) {
         Ok(typed) => with_types(alloc, request, job, typed),

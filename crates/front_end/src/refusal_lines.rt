@@ -44,9 +44,6 @@ fn add_fault(
 {
     match fault {
         FrontFault::Module(fault) => add_module_fault(alloc, fault, files, out),
-        FrontFault::UseUnknown | FrontFault::NameUnbound => {
-            add_words(b"refused: form is not built", out)
-        }
         FrontFault::Inline(fault) => add_inline_fault(alloc, fault, files, out),
         FrontFault::Type(fault) => add_type_fault(alloc, fault, files, out),
         FrontFault::Ker(fault) => add_ker_fault(fault, files, out),

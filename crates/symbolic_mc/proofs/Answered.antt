@@ -91,9 +91,7 @@ refused_calm held before now asked files names (front.Module (modules.Arity p m 
 refused_calm held before now asked files names (front.Module (modules.Lex e)) h want = inl h.0.counted
 refused_calm held before now asked files names (front.Module (modules.Parse e)) h want = inl h.0.counted
 refused_calm held before now asked files names (front.Module (modules.Memory e)) h want = absurd (let d = h.0.no_want in cc)
-refused_calm held before now asked files names front.UseUnknown h want = inl h.1.2
 refused_calm held before now asked files names (front.Inline f) h want = inl h.1.2
-refused_calm held before now asked files names front.NameUnbound h want = inl h.1.2
 refused_calm held before now asked files names (front.«Type» f) h want = inl h.1.2
 refused_calm held before now asked files names (front.Ker f) h want = inl h.1.2
 refused_calm held before now asked files names (front.Split f) h want = inl h.1.2

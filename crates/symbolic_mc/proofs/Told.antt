@@ -3,13 +3,14 @@ use Rattle.std.proofs.Common.{◌≡◌, ℕ, ◌<◌, ◌≤◌, inl, inr, ◌�
 use Rattle.std.specs.Prelude.{OnOk, OnErr, unwrap_or}
 use Rattle.std.specs.Io.KnownBytes.{Appends}
 use Rattle.refutation_checker.specs.declared.answers.Recheck.TheVariants.{Accepted, BadLine, BadStep}
-use Rattle.bounded_engine.specs.Verdicts.{IsVerdict}
+use Rattle.refutation_checker.specs.declared.section.Section.{Section}
+use Rattle.bounded_engine.specs.Verdicts.{IsVerdict, query_of_fault, query_of_part}
 use Rattle.tool_outside.specs.Causes.{IsLong, WritesPrefix, Stayed}
 use Rattle.tool_outside.specs.Outside.{Folder, Rose, file_at}
 use Rattle.tool_outside.proofs.Prefixes.{all_of}
 use Rattle.tla_meaning.specs.declared.expr.Decl.{Decl}
 use Rattle.tla_meaning.specs.declared.job.Job.{Job}
-use Rattle.front_end.proofs.Apart.{not_refused}
+use Rattle.front_end.proofs.Apart.{not_refused, one_accepted_job}
 use Rattle.front_end.proofs.OneKernel.{same_numbers}
 use Rattle.front_end.specs.Accepted.{IsAcceptedFor}
 use Rattle.front_end.specs.Refused.{IsPassing, IsRefusal, is_want}
@@ -20,12 +21,16 @@ use Rattle.front_end.specs.declared.request.Accepted.{Accepted as Module}
 use Rattle.front_end.specs.declared.request.Request.{Request as Asked}
 use Rattle.tla_modules.specs.Answers as joined
 use Rattle.tla_modules.specs.declared.fault.ModuleFault.TheVariants as modules
+use Rattle.trace_text.specs.declared.verdict.Fault.{Fault}
+use Rattle.trace_text.specs.declared.verdict.Fault.TheVariants.{InvFalse, InvWrong, StartWrong, StepWrong}
+use Rattle.trace_text.specs.declared.verdict.Part.{Part}
+use Rattle.trace_text.specs.declared.verdict.Part.TheVariants as parts
 use Rattle.trace_text.specs.declared.verdict.Verdict.{Verdict}
 use Rattle.trace_text.specs.declared.verdict.Verdict.TheVariants.{Clean, Inductive, Error, Overflow, Spent, NotInductive}
 use Rattle.trace_text.specs.declared.verdict.Where.TheVariants.{Level, Typed}
 use Rattle.symbolic_mc.specs.declared.answer.Answer.{Answer}
 use Rattle.symbolic_mc.specs.Report.{status_of, refusal_status, verdict_status, report_of, memory_line}
-use Rattle.symbolic_mc.specs.Top.{IsAnswer, NoCommand, NotAccepted, WriteFailed, Found, ReadFailed, IsTooLong, NoFile, Reread, AsksForModule, AsksToRecheck, IsStatus, IsVerdictStatus, IsCutStatus, Tells, TellsPart, WritesError, WritesClean, WritesOverflow, WritesSpent, WritesAccepted, asked_of, certificate_limit, width}
+use Rattle.symbolic_mc.specs.Top.{IsAnswer, NoCommand, NotAccepted, WriteFailed, Found, ReadFailed, IsTooLong, NoFile, Reread, AsksForModule, AsksToRecheck, Checks, IsComplete, IsStatus, IsVerdictStatus, IsCutStatus, Tells, TellsPart, WritesError, WritesClean, WritesOverflow, WritesSpent, WritesAccepted, asked_of, certificate_limit, query_status, width}
 use Rattle.symbolic_mc.specs.Words.{Command, Request}
 use Rattle.std.proofs.lemmas.Bool.{true≢false}
 use Rattle.symbolic_mc.specs.inner.Told.{IsCalm, IsTold}
@@ -132,15 +137,56 @@ module _ (c : Command) (old : Option Folder) (form : AsksForModule c old) (file 
       passing_not old before now (asked_of file longest) r.files r.names r.fault refused want
       (not_refused same_numbers old (asked_of file longest) (omega arith) form.of accepted_too before now r.files r.names r.fault (is_told c old form) refused) stayed
 
-form_answer : (c : Command) (old new : Option Folder) (before now : ℕ) (answer : Answer) → AreApart c → AsksForModule c old → Stayed before now
-    → IsAnswer c old new before now answer → IsVerdictStatus (status_of answer)
+-- what a verdict's status says
+complete_verdict : (job : Job) (longest : ℕ) (budget : Option ℕ) (v : Verdict) → IsVerdict width job longest budget v
+    → IsComplete job longest budget (verdict_status v)
+complete_verdict job longest budget (Clean n) is = inl (refl, is.questions)
+complete_verdict job longest budget (Error n fault trace) is =
+    inr (inl (record { level = n; query = query_of_fault fault; within = is.within; first = is.first; status_is = fault_query fault }))
+  where
+    fault_query : (fault : Fault) → 12 ≡ query_status (query_of_fault fault)
+    fault_query (StartWrong p) = refl
+    fault_query (StepWrong p) = refl
+    fault_query (InvFalse name) = refl
+    fault_query (InvWrong name p) = refl
+complete_verdict job longest budget (Overflow (Level n) part place trace) is =
+    inr (inl (record { level = n; query = query_of_part part; within = is.within; first = is.first; status_is = part_query part }))
+  where
+    part_query : (part : Part) → 20 ≡ query_status (query_of_part part)
+    part_query parts.Start = refl
+    part_query parts.Step = refl
+    part_query (parts.Inv name) = refl
+    part_query parts.Assumption = refl
+complete_verdict job longest budget (Overflow Typed part place trace) is = absurd is
+complete_verdict job longest budget (Spent n (Level m)) is = inr (inr (refl, λ none. none_some (sym none ∙ is.given)))
+complete_verdict job longest budget (Spent n Typed) is = absurd is
+complete_verdict job longest budget Inductive is = absurd is
+complete_verdict job longest budget (NotInductive fault trace) is = absurd is
+
+-- the job that was checked is the one that is asked for
+module _ (c : Command) (old : Option Folder) (form : AsksForModule c old) (verdict : Verdict) (sections : List Section)
+    (k : Checks c old verdict sections) where
+  same_job : k.of.job ≡ form.of.job
+  same_job =
+      one_accepted_job old (asked_of k.file k.longest) k.of form.of (is_told c old form) k.accepted
+      (accepted_too c old form k.file k.longest k.budget k.asked)
+
+  checked_complete : IsComplete form.of.job form.longest form.budget (verdict_status verdict)
+  checked_complete =
+      subst (λ (job : Job). IsComplete job form.longest form.budget (verdict_status verdict)) same_job
+      (subst (λ (r : Request). IsComplete k.of.job r.1 r.2 (verdict_status verdict))
+      (the_same (k.file, k.longest, k.budget) (form.file, form.longest, form.budget) (sym k.asked ∙ form.asked))
+      (complete_verdict k.of.job k.longest k.budget verdict k.checked.verdict_is))
+
+form_answer : (c : Command) (old new : Option Folder) (before now : ℕ) (answer : Answer) → AreApart c → (form : AsksForModule c old) → Stayed before now
+    → IsAnswer c old new before now answer → IsComplete form.of.job form.longest form.budget (status_of answer)
 form_answer c old new before now _ apart form stayed (NoCommand none again stay) = absurd (none_some (sym none ∙ form.asked))
 form_answer c old new before now _ apart form stayed (NotAccepted file longest budget r asked refused want stay) =
     absurd (refused_not c old form file longest budget asked before now r refused want stayed)
 form_answer c old new before now _ apart form stayed (ReadFailed cert asked rose stay) = absurd (apart _ _ form.asked asked)
 form_answer c old new before now _ apart form stayed (IsTooLong cert asked long stay) = absurd (apart _ _ form.asked asked)
 form_answer c old new before now _ apart form stayed (WriteFailed verdict sections k rose saved) = absurd (omega arith)
-form_answer c old new before now _ apart form stayed (Found verdict sections k saved) = (found_status k.of.job k.longest k.budget verdict k.checked.verdict_is).0
+form_answer c old new before now _ apart form stayed (Found verdict sections k saved) = checked_complete c old form verdict sections k
 form_answer c old new before now _ apart form stayed (NoFile cert asked none stay) = absurd (apart _ _ form.asked asked)
 form_answer c old new before now _ apart form stayed (Reread cert bytes answer asked handed is refutes stay) = absurd (apart _ _ form.asked asked)
 
@@ -311,11 +357,13 @@ module _ (c : Command) (old new : Option Folder) (before now : ℕ) (was is : Op
   told_usage (inr (inl cut)) none again = inr (inl cut.0)
   told_usage (inr (inr spent)) none again = inr (inr spent.0)
 
-  pub told_form : AreApart c → IsTold answer was is sink_before sink_now result → AsksForModule c old → Stayed before now → Stayed sink_before sink_now
-      → IsVerdictStatus result ⊎ (result ≡ 50)
-  told_form apart (inl all) form stayed calm = inl (subst IsVerdictStatus (sym all.0) (form_answer c old new before now answer apart form stayed cause))
-  told_form apart (inr (inl cut)) form stayed calm = absurd (let rose = cut.1 in omega arith)
-  told_form apart (inr (inr none)) form stayed calm = inr none.0
+  pub told_complete : AreApart c → IsTold answer was is sink_before sink_now result → (form : AsksForModule c old) → Stayed before now
+      → Stayed sink_before sink_now → IsComplete form.of.job form.longest form.budget result ⊎ (result ≡ 50)
+  told_complete apart (inl all) form stayed calm =
+      inl (subst (λ (n : ℕ). IsComplete form.of.job form.longest form.budget n) (sym all.0)
+      (form_answer c old new before now answer apart form stayed cause))
+  told_complete apart (inr (inl cut)) form stayed calm = absurd (let rose = cut.1 in omega arith)
+  told_complete apart (inr (inr none)) form stayed calm = inr none.0
 
   pub told_recheck : AreApart c → IsTold answer was is sink_before sink_now result → AsksToRecheck c old → Stayed before now → Stayed sink_before sink_now
       → (result ≡ 0) ⊎ (result ≡ 14) ⊎ (result ≡ 50)

@@ -1,5 +1,5 @@
 -- What the top call answers.
-use Rattle.std.specs.Prelude.{◌≡◌, ◌⊎◌, ℕ, ◌≤◌, false, List, [], ◌∷◌, codes, length, Option, None, Some}
+use Rattle.std.specs.Prelude.{◌≡◌, ◌⊎◌, ℕ, ◌+◌, ◌≤◌, false, List, [], ◌∷◌, codes, length, Option, None, Some}
 use Rattle.std.specs.Io.KnownBytes.{Appends}
 use Rattle.refutation_checker.specs.declared.answers.Recheck.{Recheck}
 use Rattle.refutation_checker.specs.declared.answers.Recheck.TheVariants.{Accepted}
@@ -7,7 +7,11 @@ use Rattle.refutation_checker.specs.declared.section.Section.{Section}
 use Rattle.refutation_checker.specs.Certificate.{certificate_text}
 use Rattle.refutation_checker.specs.Rechecking.{IsRechecked, RefutesClosed, WhereAccepted}
 use Rattle.bounded_engine.specs.Answers.{IsChecked}
+use Rattle.tla_meaning.specs.declared.job.Job.{Job}
 use Rattle.tla_meaning.specs.declared.place.Place.{Place}
+use Rattle.tla_meaning.specs.declared.questions.Query.{Query}
+use Rattle.tla_meaning.specs.declared.questions.Query.TheVariants.{StepWrong, StepBig, InvNotTrue, InvBig, AssumeBig}
+use Rattle.tla_meaning.specs.Questions.{IsFirst, NoneBelow}
 use Rattle.tla_meaning.specs.Numbers.{Width}
 use Rattle.tool_outside.specs.Causes.{Holds, IsLong, HandedOut, IsCut, WritesPrefix}
 use Rattle.tool_outside.specs.Outside.{Folder, Changes, Rose, file_at}
@@ -192,6 +196,29 @@ pub record AsksToRecheck (c : Command) (held : Option Folder) : Type 0 where
   pub cert : List ℕ
   pub asked : c.1 ≡ Some cert
   pub short : (bytes : List ℕ) → file_at folder cert ≡ Some bytes → length bytes ≤ certificate_limit
+
+-- the status of a question that holds
+abbrev pub query_status : Query → ℕ
+query_status StepWrong = 12
+query_status StepBig = 20
+query_status InvNotTrue = 12
+query_status InvBig = 20
+query_status AssumeBig = 20
+
+-- the status is that of the first question that holds at a level up to the longest, over the levels in order and over the
+-- questions of a level in theirs
+pub record IsOfFirst (job : Job) (longest status : ℕ) : Type 0 where
+  pub level : ℕ
+  pub query : Query
+  pub within : level ≤ longest
+  pub first : IsFirst width job level query
+  pub status_is : status ≡ query_status query
+
+-- it is 0 where no question holds at these levels, and else that of the first; or a budget was given, and is spent
+abbrev pub IsComplete : Job → ℕ → Option ℕ → ℕ → Type 0
+IsComplete job longest budget status =
+    ((status ≡ 0) × NoneBelow width job (longest + 1)) ⊎ IsOfFirst job longest status
+    ⊎ ((status ≡ 21) × (budget ≡ None → ⊥))
 
 -- a write failed, or memory ran out
 abbrev pub IsCutStatus : ℕ → Type 0

@@ -5,7 +5,7 @@ ghost use Rattle.tool_outside.specs.Outside.{Rose};
 ghost use Rattle.front_end.specs.Accepted.{IsAcceptedFor};
 ghost use Rattle.symbolic_mc.specs.Report.{memory_line};
 ghost use Rattle.symbolic_mc.specs.inner.Told.{IsAskable, IsTold, IsReadFault, IsCalm, answer_of, requests};
-ghost use Rattle.symbolic_mc.specs.Top.{WritesError, WritesClean, WritesOverflow, WritesSpent, WritesAccepted, Tells, TellsPart, Touches, IsAnswer, AsksForModule, AsksToRecheck, IsStatus, IsVerdictStatus, IsCutStatus, asked_of};
+ghost use Rattle.symbolic_mc.specs.Top.{WritesError, WritesClean, WritesOverflow, WritesSpent, WritesAccepted, Tells, TellsPart, Touches, IsAnswer, AsksForModule, AsksToRecheck, IsComplete, IsStatus, IsCutStatus, asked_of};
 ghost use Rattle.symbolic_mc.specs.Words.{command_of, request_of, recheck_of};
 
 use crate::accepting::{accept_file, refused};
@@ -49,8 +49,8 @@ pub fn run<F: Files, K: Sink>(alloc: Global, words: &[String], files: &mut F, ou
         ⊎ WritesPrefix (K.written out.old) (K.written out.new) memory_line }
     ensures statuses { IsStatus result }
     ensures usage { request_of words.now ≡ None → recheck_of words.now ≡ None → (result ≡ 31) ⊎ IsCutStatus result }
-    ensures in_form { AsksForModule (command_of words.now) (F.held files.old) → Stayed (F.faults files.old) (F.faults files.new)
-        → Stayed (K.faults out.old) (K.faults out.new) → IsVerdictStatus result ⊎ (result ≡ 50) }
+    ensures complete { (asks : AsksForModule (command_of words.now) (F.held files.old)) → Stayed (F.faults files.old) (F.faults files.new)
+        → Stayed (K.faults out.old) (K.faults out.new) → IsComplete asks.of.job asks.longest asks.budget result ⊎ (result ≡ 50) }
     ensures rechecked { AsksToRecheck (command_of words.now) (F.held files.old) → Stayed (F.faults files.old) (F.faults files.new)
         → Stayed (K.faults out.old) (K.faults out.new) → (result ≡ 0) ⊎ (result ≡ 14) ⊎ (result ≡ 50) }
     ensures faults_of_files { F.faults files.old < F.faults files.new → (result ≡ 40) ⊎ IsCutStatus result }

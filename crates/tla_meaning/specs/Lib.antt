@@ -14,7 +14,6 @@ pub mod Substitution
 pub mod Renamings
 pub mod Folds
 pub mod Definitions
-pub mod BooleanLayout
 pub mod Inductive
 pub mod Questions
 pub mod Widths

@@ -2,7 +2,6 @@
 #![tactic(auto)]
 
 mod actions;
-mod boolean;
 mod copy;
 mod expr;
 mod forms;
@@ -16,7 +15,6 @@ mod symbols;
 mod theorems;
 
 pub use actions::{Assignable, Effect};
-pub use boolean::{BooleanModule, Conjunct};
 pub use copy::{copy_expr, copy_op};
 pub use expr::{Decl, Def, Expr};
 pub use forms::SetForm;

@@ -6,6 +6,7 @@ use Rattle.cell_arena.specs.declared.kinds.CellId.{CellId}
 use Rattle.branch_cells.specs.Branches.{AreOfKinds}
 use Rattle.encoder_laws.specs.Levels.{HaveTruths}
 use Rattle.encoder_laws.specs.declared.level.LevelCells.{LevelCells}
+use Rattle.front_end.specs.Accepted.{IsInFiles}
 use Rattle.kernel_trees.specs.Systems.{kinds_of_names}
 use Rattle.kernel_trees.specs.TypeKinds.{Kind}
 use Rattle.snowcat_rows.specs.declared.types.Ty.{Ty}
@@ -53,11 +54,12 @@ pub record AreExpanded (job : Job) : Type 0 where
 abbrev pub types_of : Subject → List Ty
 types_of a = a.system.now.ker.names
 
--- the job can be evaluated, and its system encoded
+-- the job can be evaluated, its places are in its files, and its system can be encoded
 pub record IsReady (a : Subject) : Type 0 where
   pub wide : 4 ≤ a.width
   pub narrow : a.width ≤ 64
   pub expanded : AreExpanded a.job.now
+  pub placed : IsInFiles a.job.now
   pub stands : StandsFor (Some a.width) a.job.now a.system.now
   pub encodable : CanEncode a.system.now
 

@@ -1,7 +1,7 @@
 -- What the stages behind the kernel and behind the types make.
 use Rattle.std.specs.Prelude.{◌≡◌, ◌⊎◌, List, Result, Ok, Err}
 use Rattle.assignment_finder.specs.declared.assign_fault.AssignFault.{AssignFault}
-use Rattle.front_end.specs.Accepted.{AreAssigned, IsAccepted, IsLevelsAnswer, IsReducedJob, IsSystem, IsTypedJob, KeepsTypedLimits, action_paths}
+use Rattle.front_end.specs.Accepted.{AreAssigned, IsAccepted, IsLevelsAnswer, IsInFiles, IsReducedJob, IsSystem, IsTypedJob, KeepsTypedLimits, action_paths}
 use Rattle.front_end.specs.Refused.{HaveFewPaths, IsFirstPath, IsJobRefusal}
 use Rattle.front_end.specs.declared.bounding.Bounded.{Bounded}
 use Rattle.front_end.specs.declared.fault.Refusal.{Refusal}
@@ -64,6 +64,7 @@ pub record IsMadeBy (r : Request) (job : Job) (t : Typed) (b : Bounded) : Type 0
 
 -- what is made of a job
 pub record IsMade (r : Request) (job : Job) (m : Made) : Type 0 where
+  pub placed : IsInFiles job
   pub typed : IsTypedJob job m.typed
   pub by : IsMadeBy r job m.typed m.bounded
 

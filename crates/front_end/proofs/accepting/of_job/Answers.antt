@@ -5,6 +5,7 @@ pub returns-in-Ok : goal.returns-in-Ok
 returns-in-Ok c = record {
   same_job = refl;
   whole = record {
+    placed = c.in-Ok.ensures.placed;
     typed = c.in-Ok.ensures.typed;
     reduced = c.in-Ok.ensures.by.reduced;
     paths = c.in-Ok.ensures.by.paths;

@@ -1,5 +1,5 @@
 use Rattle.symbolic_mc.proofs.Commands.{words_apart}
-use Rattle.symbolic_mc.proofs.Told.{told_clean, told_error, told_form, told_memory, told_overflow, told_recheck, told_spent, told_status, told_unwritten, told_usage, told_whole}
+use Rattle.symbolic_mc.proofs.Told.{told_clean, told_error, told_complete, told_memory, told_overflow, told_recheck, told_spent, told_status, told_unwritten, told_usage, told_whole}
 use Rattle.symbolic_mc.proofs.top.run.Goals as goal
 
 pub returns-in-Ok-clause-error : goal.returns-in-Ok-clause-error
@@ -29,9 +29,9 @@ returns-in-Ok-clause-statuses g c = told_status _ (g.F.Files.held c.args.files.n
 pub returns-in-Ok-clause-usage : goal.returns-in-Ok-clause-usage
 returns-in-Ok-clause-usage g c = told_usage _ (g.F.Files.held c.args.files.now) _ _ _ _ _ _ _ _ c.in-Ok.answer c.in-Ok.ensures.answer c.tell.ensures
 
-pub returns-in-Ok-clause-in_form : goal.returns-in-Ok-clause-in_form
-returns-in-Ok-clause-in_form g c =
-    told_form _ (g.F.Files.held c.args.files.now) _ _ _ _ _ _ _ _ c.in-Ok.answer c.in-Ok.ensures.answer (words_apart c.args.words.now) c.tell.ensures
+pub returns-in-Ok-clause-complete : goal.returns-in-Ok-clause-complete
+returns-in-Ok-clause-complete g c =
+    told_complete _ (g.F.Files.held c.args.files.now) _ _ _ _ _ _ _ _ c.in-Ok.answer c.in-Ok.ensures.answer (words_apart c.args.words.now) c.tell.ensures
 
 pub returns-in-Ok-clause-rechecked : goal.returns-in-Ok-clause-rechecked
 returns-in-Ok-clause-rechecked g c =
