@@ -39,9 +39,9 @@ function ask(    length_asked, invariant, folder, m, t) {
   print length_asked > (folder "/length"); close(folder "/length")
 }
 
-/^"##;/ { close_part(); inside = 0 }
-/r##">set / { inside = 1; sub(/^.*r##"/, "") }
+/r##"$/ { inside = 1; next }
 !inside { next }
+{ is_last = sub(/"##;$/, "") }
 /^>/ {
   close_part()
   word = substr($1, 2); rest = $0; sub(/^[^ ]* ?/, "", rest)
@@ -49,4 +49,5 @@ function ask(    length_asked, invariant, folder, m, t) {
   next
 }
 { body = body $0 "\n" }
+is_last { close_part(); inside = 0 }
 END { print asked }

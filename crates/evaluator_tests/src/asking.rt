@@ -138,8 +138,9 @@ fn valued(
     match trees {
         [e] if is_expanded(e) => {
             let env = environment(alloc)?;
-            let outcome = eval(alloc, e, &env, s, Some(t), width)?;
-            shown(alloc, outcome, mark)
+            let outcome = eval(alloc, e, &env, s, Some(t), width);
+            drop(env);
+            shown(alloc, outcome?, mark)
         }
         _ => unreadable(alloc),
     }
@@ -167,6 +168,7 @@ fn acted(
     }
 }
 
+// A job ends by the call of `drop`, here and below, since its end at the end of a function has many cases.
 fn started(
     alloc: Global,
     trees: Vec<Expr>,
@@ -182,7 +184,9 @@ fn started(
         return unreadable(alloc);
     }
     let job = start_job(alloc, trees)?;
-    at_start(alloc, &job, s, width, mark)
+    let text = at_start(alloc, &job, s, width, mark);
+    drop(job);
+    text
 }
 
 fn at_start(alloc: Global, job: &Job, s: &State, width: u32, mark: u32) -> Result<String, Fail>
@@ -215,7 +219,9 @@ fn stepped(
         return unreadable(alloc);
     }
     let job = step_job(alloc, trees)?;
-    at_step(alloc, &job, s, t, width, mark)
+    let text = at_step(alloc, &job, s, t, width, mark);
+    drop(job);
+    text
 }
 
 fn at_step(
@@ -246,18 +252,28 @@ fn kept(alloc: Global, trees: Vec<Expr>, s: &State, width: u32, mark: u32) -> Re
 {
     let count = trees.len();
     let job = invariant_job(alloc, trees)?;
-    if job.invs.len() != count {
-        return unreadable(alloc);
-    }
-    at_invariants(alloc, &job, s, width, mark)
+    let text = at_invariants(alloc, &job, count, s, width, mark);
+    drop(job);
+    text
 }
 
-fn at_invariants(alloc: Global, job: &Job, s: &State, width: u32, mark: u32) -> Result<String, Fail>
+// Where all of so many trees are expanded.
+fn at_invariants(
+    alloc: Global,
+    job: &Job,
+    count: usize,
+    s: &State,
+    width: u32,
+    mark: u32,
+) -> Result<String, Fail>
     requires narrow { width ≤ 64 }
     requires wide { 4 ≤ width }
     requires now { All Normal s.now.vals }
     requires expanded { All (λ e. IsTrue (is_expanded e.1)) job.now.invs }
 {
+    if job.invs.len() != count {
+        return unreadable(alloc);
+    }
     let (number, outcome) = invariant(alloc, job, s, width)?;
     let text = shown(alloc, outcome, mark)?;
     let numbered = format!(in alloc; "{number} {text}")?;
@@ -378,15 +394,19 @@ fn truth(alloc: Global) -> Expr {
     }
 }
 
+fn value_text(alloc: Global, v: Value) -> Result<String, Fail> {
+    let mut out = Vec::new(alloc);
+    let shown = show(alloc, &v, &mut out);
+    drop(v);
+    shown?;
+    let text = String::from_utf8(out)?;
+    Ok(text)
+}
+
 // The text of a value, or the word alone where a fault stands at the mark.
 pub(crate) fn shown(alloc: Global, outcome: Outcome, mark: u32) -> Result<String, Fail> {
     match outcome {
-        Outcome::Val(v) => {
-            let mut out = Vec::new(alloc);
-            show(alloc, &v, &mut out)?;
-            let text = String::from_utf8(out)?;
-            Ok(text)
-        }
+        Outcome::Val(v) => value_text(alloc, v),
         Outcome::Wrong(p) => fault(alloc, "wrong", p, mark),
         Outcome::Big(p) => fault(alloc, "big", p, mark),
     }
@@ -406,44 +426,63 @@ fn unreadable(alloc: Global) -> Result<String, Fail> {
     Ok(text)
 }
 
-// The lines of a table that give something else, each with what it gives.
-fn failing(
+fn put_wrong(text: &str, found: &str, out: &mut String) -> Result<(), AllocError> {
+    for piece in [text, " => ", found, "\n"] {
+        out.push_str(piece)?;
+    }
+    Ok(())
+}
+
+// Adds the lines of a table that give something else, each with what it gives.
+fn put_failing(
     alloc: Global,
     question: Question,
     table: &str,
     s: &State,
     t: &State,
     width: u32,
-) -> Result<String, Fail>
+    out: &mut String,
+) -> Result<(), Fail>
     requires narrow { width ≤ 64 }
     requires wide { 4 ≤ width }
     requires now { All Normal s.now.vals }
     requires next { All Normal t.now.vals }
 {
-    let mut out = String::new(alloc);
     for line in table.lines() {
         let (text, wanted) = line.split_once(" => ").unwrap_or((line, ""));
         let found = given(alloc, question, text, s, t, width)?;
         if found.as_str() != wanted {
-            let note = format!(in alloc; "{text} => {found}\n")?;
-            out.push_str(note.as_str())?;
+            put_wrong(text, found.as_str(), out)?;
         }
     }
-    Ok(out)
+    Ok(())
+}
+
+fn failing(alloc: Global, s: &State, t: &State) -> Result<String, Fail>
+    requires now { All Normal s.now.vals }
+    requires next { All Normal t.now.vals }
+{
+    let mut all = String::new(alloc);
+    for (question, width, table) in TABLES {
+        if width < 4 || 64 < width {
+            return Err("no width".into());
+        }
+        put_failing(alloc, question, table, s, t, width, &mut all)?;
+    }
+    Ok(all)
+}
+
+fn failing_in_states(alloc: Global) -> Result<String, Fail> {
+    let s = state(alloc, NOW)?;
+    let t = state(alloc, NEXT)?;
+    if s.vals.len() != NAMES.len() || t.vals.len() != NAMES.len() {
+        return Err("a state of other names".into());
+    }
+    failing(alloc, &s, &t)
 }
 
 #[test]
 fn each_case_gives_what_the_language_says(rt: HostRuntime) -> Result<(), Fail> {
-    let alloc = rt.alloc();
-    let s = state(alloc, NOW)?;
-    let t = state(alloc, NEXT)?;
-    assert_eq!(rt; (s.vals.len(), t.vals.len()), (NAMES.len(), NAMES.len()));
-    let mut all = String::new(alloc);
-    for (question, width, table) in TABLES {
-        assert!(rt; 4 <= width && width <= 64);
-        let failing = failing(alloc, question, table, &s, &t, width)?;
-        all.push_str(failing.as_str())?;
-    }
-    assert_eq!(rt; all.as_str(), "");
+    assert_eq!(rt; failing_in_states(rt.alloc())?.as_str(), "");
     Ok(())
 }

@@ -1,22 +1,21 @@
 // What the engine answers of the modules of the table, beside what is found by the search.
 ghost use Rattle.front_end.specs.Accepted.{IsAccepted};
-ghost use Rattle.front_end.specs.Requests.{IsRequest};
 ghost use Rattle.accepted_systems.specs.Checking.{CanCheck};
 
+use crate::accepting::{accepted, file};
 use crate::findings::{Finding, Found, Told, is_among, what_is_told};
 use crate::first_modules::FIRST;
+use crate::passing::passes;
 use crate::records::{invariants, module, options};
-use crate::requests::{may_be_asked, request};
+use crate::requests::request;
 use crate::searching::{Space, search, states_of};
 use crate::second_modules::SECOND;
 use crate::taking::shows;
-use accepted_systems::accepted_systems_can_be_checked;
 use bounded_engine::check_to;
-use front_end::{Accepted, Refusal, Request, accept, refusal_text};
+use front_end::{Accepted, Request};
 use std::alloc::{AllocError, Global};
 use std::test::Fail;
 use tla_meaning::{Job, Query};
-use tla_values::List;
 use tool_outside::MemoryFiles;
 use trace_text::Verdict;
 
@@ -95,11 +94,14 @@ fn found_in(
     search(alloc, &space, length)
 }
 
-fn of_accepted(alloc: Global, accepted: &Accepted) -> Result<Compared, AllocError>
+fn beside_engine(
+    alloc: Global,
+    accepted: &Accepted,
+    found: &Option<Found>,
+) -> Result<Compared, AllocError>
     requires accepted { IsAccepted accepted.now }
     requires ready { CanCheck accepted.now }
 {
-    let found = found_in(alloc, &accepted.job, accepted.width, accepted.length)?;
     let run = check_to(alloc, accepted, None)?;
     let compared = beside(
         alloc,
@@ -107,42 +109,25 @@ fn of_accepted(alloc: Global, accepted: &Accepted) -> Result<Compared, AllocErro
         accepted.width,
         accepted.length,
         &run.verdict,
-        &found,
+        found,
     );
     drop(run);
     compared
 }
 
-fn refused(alloc: Global, refusal: Refusal) -> Result<Compared, AllocError> {
-    let line = refusal_text(alloc, &refusal);
-    drop(refusal);
-    let line = line?;
-    let text = str::from_utf8(&line).unwrap_or("refused");
-    Ok(Compared::Differs(String::from_str(alloc, text)?))
-}
-
-fn answered(
-    alloc: Global,
-    request: &Request,
-    files: &mut MemoryFiles,
-) -> Result<Compared, AllocError>
-    requires { IsRequest request.now }
+fn of_accepted(alloc: Global, accepted: &Accepted) -> Result<Compared, AllocError>
+    requires accepted { IsAccepted accepted.now }
+    requires ready { CanCheck accepted.now }
 {
-    accepted_systems_can_be_checked();
-    match accept(alloc, request, files) {
-        Ok(accepted) => {
-            let compared = of_accepted(alloc, &accepted);
-            drop(accepted);
-            compared
-        }
-        Err(refusal) => refused(alloc, refusal),
-    }
+    let found = found_in(alloc, &accepted.job, accepted.width, accepted.length)?;
+    let compared = beside_engine(alloc, accepted, &found);
+    drop(found);
+    compared
 }
 
-fn files_of(alloc: Global, module: &str) -> Result<MemoryFiles, AllocError> {
-    let mut files = MemoryFiles::new(alloc, List::new(alloc));
-    files.put("Row.tla", module.as_bytes())?;
-    Ok(files)
+fn refused(alloc: Global, line: &[u8]) -> Result<Compared, AllocError> {
+    let text = str::from_utf8(line).unwrap_or("refused");
+    Ok(Compared::Differs(String::from_str(alloc, text)?))
 }
 
 fn of_files(
@@ -150,28 +135,38 @@ fn of_files(
     request: &Request,
     files: &mut MemoryFiles,
 ) -> Result<Compared, AllocError> {
-    if !may_be_asked(request) {
-        return Ok(Compared::Differs(String::from_str(alloc, "not to be asked")?));
+    match accepted(alloc, request, files) {
+        Ok(accepted) => {
+            let compared = of_accepted(alloc, &accepted);
+            drop(accepted);
+            compared
+        }
+        Err(line) => refused(alloc, &line),
     }
-    answered(alloc, request, files)
+}
+
+fn files_of(alloc: Global, record: &str) -> Result<MemoryFiles, AllocError> {
+    let text = module(alloc, record)?;
+    file(alloc, "Row.tla", text.as_str())
 }
 
 fn of_request(alloc: Global, request: &Request, record: &str) -> Result<Compared, AllocError> {
-    let text = module(alloc, record)?;
-    let mut files = files_of(alloc, text.as_str())?;
+    let mut files = files_of(alloc, record)?;
     of_files(alloc, request, &mut files)
 }
 
 fn requested(alloc: Global, record: &str) -> Result<Request, AllocError> {
     let (width, length) = options(record);
     let invs = invariants(alloc, record)?;
-    request(alloc, invs.as_str(), width, length)
+    request(alloc, "Row.tla", invs.as_str(), None, width, length)
 }
 
 // What comes of the module of a record.
 fn of_record(alloc: Global, record: &str) -> Result<Compared, AllocError> {
     let request = requested(alloc, record)?;
-    of_request(alloc, &request, record)
+    let compared = of_request(alloc, &request, record);
+    drop(request);
+    compared
 }
 
 // How many modules agree, by what is found, how many of these err at level 2 or later, and the
@@ -217,14 +212,16 @@ impl Tally {
         match compared {
             Compared::Clean => self.clean = self.clean.wrapping_add(1),
             Compared::Errs(finding) => self.add_finding(finding),
-            Compared::Differs(text) => {
-                self.differs.push_str(text.as_str())?;
-                self.differs.push_str("\n")?;
-                self.differs.push_str(record)?;
-                self.differs.push_str("\n")?;
-            }
+            Compared::Differs(text) => return self.add_difference(text.as_str(), record),
         }
         Ok(())
+    }
+
+    fn add_difference(&mut self, text: &str, record: &str) -> Result<(), AllocError> {
+        self.differs.push_str(text)?;
+        self.differs.push_str("\n")?;
+        self.differs.push_str(record)?;
+        self.differs.push_str("\n")
     }
 
     fn text(&self, alloc: Global) -> Result<String, AllocError> {
@@ -252,14 +249,10 @@ fn tallied(alloc: Global, table: &str) -> Result<String, AllocError> {
 
 #[test]
 fn first_modules_agree_with_a_plain_search(rt: HostRuntime) -> Result<(), Fail> {
-    let text = tallied(rt.alloc(), FIRST)?;
-    assert_eq!(rt; text.as_str(), FIRST_TALLY);
-    Ok(())
+    passes(&rt, tallied(rt.alloc(), FIRST), FIRST_TALLY)
 }
 
 #[test]
 fn second_modules_agree_with_a_plain_search(rt: HostRuntime) -> Result<(), Fail> {
-    let text = tallied(rt.alloc(), SECOND)?;
-    assert_eq!(rt; text.as_str(), SECOND_TALLY);
-    Ok(())
+    passes(&rt, tallied(rt.alloc(), SECOND), SECOND_TALLY)
 }

@@ -1,5 +1,5 @@
-// Requests for the module `Row`.
-ghost use Rattle.std.specs.Prelude.{◌≡◌, IsTrue, None};
+// Requests for a module.
+ghost use Rattle.std.specs.Prelude.{◌≡◌, IfSome, IsTrue, None};
 ghost use Rattle.std.specs.Str.{IsUtf8};
 ghost use Rattle.front_end.specs.Requests.{IsRequest};
 
@@ -20,24 +20,34 @@ fn texts(alloc: Global, words: &str) -> Result<List<Text>, AllocError> {
     Ok(List::from_vec(all))
 }
 
-/// The request for Init, Next and these invariants, at this width for executions of at most so many
-/// steps.
+fn optional_text(alloc: Global, word: Option<&str>) -> Result<Option<Text>, AllocError> {
+    match word {
+        None => Ok(None),
+        Some(word) => Ok(Some(text(alloc, word)?)),
+    }
+}
+
+/// The request for this file's Init, Next and these invariants, with CInit where it is named, at this
+/// width for executions of at most so many steps.
 pub(crate) fn request(
     alloc: Global,
+    root: &str,
     invs: &str,
+    cinit: Option<&str>,
     width: u32,
     length: u32,
 ) -> Result<Request, AllocError> {
-    let root = text(alloc, "Row.tla")?;
+    let root = text(alloc, root)?;
     let init = text(alloc, "Init")?;
     let next = text(alloc, "Next")?;
     let invs = texts(alloc, invs)?;
+    let cinit = optional_text(alloc, cinit)?;
     Ok(Request {
         root,
         init,
         next,
         invs,
-        cinit: None,
+        cinit,
         length,
         width,
         bounds: None,
@@ -61,14 +71,23 @@ fn has_texts(request: &Request) -> bool
     is_text(&request.root) && is_text(&request.init) && is_text(&request.next)
 }
 
-fn has_options(request: &Request) -> bool
-    ensures cinit { IsTrue result → request.now.cinit ≡ None }
-    ensures bounds { IsTrue result → request.now.bounds ≡ None }
+fn is_optional_text(text: &Option<Text>) -> bool
+    ensures { IsTrue result → IfSome text.now IsUtf8 }
 {
-    request.cinit.is_none() && request.bounds.is_none()
+    match text {
+        None => true,
+        Some(text) => is_text(text),
+    }
 }
 
-/// It asks more than a request must: no CInit and no bounds.
+fn has_options(request: &Request) -> bool
+    ensures cinit { IsTrue result → IfSome request.now.cinit IsUtf8 }
+    ensures bounds { IsTrue result → request.now.bounds ≡ None }
+{
+    is_optional_text(&request.cinit) && request.bounds.is_none()
+}
+
+// It asks more than a request must: no bounds.
 pub(crate) fn may_be_asked(request: &Request) -> bool
     ensures { IsTrue result → IsRequest request.now }
 {

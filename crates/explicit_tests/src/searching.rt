@@ -21,6 +21,13 @@ fn values_of(alloc: Global, membership: &Expr) -> Result<Vec<Value>, AllocError>
     }
 }
 
+fn with_value(alloc: Global, s: &State, v: &Value) -> Result<State, AllocError> {
+    let v = copy_value(alloc, v)?;
+    let mut t = s.copy(alloc)?;
+    t.vals.push(v)?;
+    Ok(t)
+}
+
 fn extend(
     alloc: Global,
     s: &State,
@@ -28,8 +35,7 @@ fn extend(
     all: &mut Vec<State>,
 ) -> Result<(), AllocError> {
     for v in values {
-        let mut t = s.copy(alloc)?;
-        t.vals.push(copy_value(alloc, v)?)?;
+        let t = with_value(alloc, s, v)?;
         all.push(t)?;
     }
     Ok(())
@@ -57,22 +63,19 @@ pub(crate) fn states_of(alloc: Global, job: &Job) -> Result<Vec<State>, AllocErr
     Ok(states)
 }
 
-// What the steps to a level give: which states are reached, and the faults.
-#[derive(Drop)]
-struct Steps {
-    reached: Vec<bool>,
-    faults: Faults,
-}
-
-fn first_steps(alloc: Global, space: &Space) -> Result<Steps, AllocError> {
-    let mut reached = Vec::new(alloc);
-    let mut faults = Faults::new(alloc);
+// Adds for each state whether the start leads to it, and the faults there.
+fn add_first_steps(
+    alloc: Global,
+    space: &Space,
+    reached: &mut Vec<bool>,
+    faults: &mut Faults,
+) -> Result<(), AllocError> {
     for t in &space.states {
         let seen = start_seen(alloc, space.job, t, space.width)?;
         faults.add(seen)?;
         reached.push(seen == Seen::Yes)?;
     }
-    Ok(Steps { reached, faults })
+    Ok(())
 }
 
 // Whether a step leads to the state from one of those that are reached.
@@ -94,33 +97,86 @@ fn steps_to(
     Ok(is_reached)
 }
 
-fn next_steps(alloc: Global, space: &Space, from: &[bool]) -> Result<Steps, AllocError> {
-    let mut reached = Vec::new(alloc);
-    let mut faults = Faults::new(alloc);
+// The same of a step from a state that is reached.
+fn add_next_steps(
+    alloc: Global,
+    space: &Space,
+    from: &[bool],
+    reached: &mut Vec<bool>,
+    faults: &mut Faults,
+) -> Result<(), AllocError> {
     for t in &space.states {
-        let is_reached = steps_to(alloc, space, from, t, &mut faults)?;
+        let is_reached = steps_to(alloc, space, from, t, faults)?;
         reached.push(is_reached)?;
     }
-    Ok(Steps { reached, faults })
+    Ok(())
 }
 
-fn steps_at(alloc: Global, space: &Space, level: u32, from: &[bool]) -> Result<Steps, AllocError> {
+fn add_steps(
+    alloc: Global,
+    space: &Space,
+    level: u32,
+    from: &[bool],
+    reached: &mut Vec<bool>,
+    faults: &mut Faults,
+) -> Result<(), AllocError> {
     if level == 0 {
-        first_steps(alloc, space)
+        add_first_steps(alloc, space, reached, faults)
     } else {
-        next_steps(alloc, space, from)
+        add_next_steps(alloc, space, from, reached, faults)
     }
 }
 
-fn broken(alloc: Global, space: &Space, reached: &[bool]) -> Result<Faults, AllocError> {
+fn found_by_steps(
+    alloc: Global,
+    space: &Space,
+    level: u32,
+    from: &[bool],
+    reached: &mut Vec<bool>,
+) -> Result<Option<Found>, AllocError> {
     let mut faults = Faults::new(alloc);
+    add_steps(alloc, space, level, from, reached, &mut faults)?;
+    Ok(faults.first(level, Query::StepWrong, Query::StepBig))
+}
+
+fn add_broken(
+    alloc: Global,
+    space: &Space,
+    reached: &[bool],
+    faults: &mut Faults,
+) -> Result<(), AllocError> {
     for (s, is_reached) in space.states.iter().zip(reached) {
         if *is_reached {
             let seen = invariant_seen(alloc, space.job, s, space.width)?;
             faults.add_false(seen)?;
         }
     }
-    Ok(faults)
+    Ok(())
+}
+
+fn found_in_states(
+    alloc: Global,
+    space: &Space,
+    level: u32,
+    reached: &[bool],
+) -> Result<Option<Found>, AllocError> {
+    let mut faults = Faults::new(alloc);
+    add_broken(alloc, space, reached, &mut faults)?;
+    Ok(faults.first(level, Query::InvNotTrue, Query::InvBig))
+}
+
+// What is found at a level behind these states; those that are reached there are added.
+fn found_at(
+    alloc: Global,
+    space: &Space,
+    level: u32,
+    from: &[bool],
+    reached: &mut Vec<bool>,
+) -> Result<Option<Found>, AllocError> {
+    match found_by_steps(alloc, space, level, from, reached)? {
+        Some(found) => Ok(Some(found)),
+        None => found_in_states(alloc, space, level, reached),
+    }
 }
 
 /// The first question that holds at a level up to the length, with the places where it does.
@@ -129,19 +185,13 @@ pub(crate) fn search(
     space: &Space,
     length: u32,
 ) -> Result<Option<Found>, AllocError> {
-    let mut reached = Vec::new(alloc);
+    let mut from = Vec::new(alloc);
     for level in 0..length.saturating_add(1) {
-        let steps = steps_at(alloc, space, level, &reached)?;
-        let of_steps = steps.faults.first(level, Query::StepWrong, Query::StepBig);
-        if of_steps.is_some() {
-            return Ok(of_steps);
+        let mut reached = Vec::new(alloc);
+        if let Some(found) = found_at(alloc, space, level, &from, &mut reached)? {
+            return Ok(Some(found));
         }
-        let faults = broken(alloc, space, &steps.reached)?;
-        let of_invariants = faults.first(level, Query::InvNotTrue, Query::InvBig);
-        if of_invariants.is_some() {
-            return Ok(of_invariants);
-        }
-        reached = steps.reached;
+        from = reached;
     }
     Ok(None)
 }

@@ -2,7 +2,8 @@
 // from the rules of the language and of paths and shapes, and the places counted by hand.
 
 /// Each line of a refusal once; a form that is read nowhere, and one that is refused where it is reached, once each.
-pub(crate) const LINES: &str = r##">set no token begins there
+pub(crate) const LINES: &str = r##"
+>set no token begins there
 >file Row
 ---- MODULE Row ----
 EXTENDS Integers
@@ -462,11 +463,11 @@ Next == x' = x \o x
 Inv == TRUE
 ====
 >ask length=20
-refused: 8192 places at level 13 at Row:7:16
-"##;
+refused: 8192 places at level 13 at Row:7:16"##;
 
 /// Sets in which two causes stand: the stages come in their order, and in a stage its causes do.
-pub(crate) const TWO_CAUSES: &str = r##">set pieces before the grammar and the name
+pub(crate) const TWO_CAUSES: &str = r##"
+>set pieces before the grammar and the name
 >file Row
 ---- MODULE Row ----
 EXTENDS A
@@ -682,5 +683,4 @@ Next == x' = x
 Inv == Cardinality(1..70000) > 0 /\ \A i \in SUBSET x: TRUE
 ====
 >ask size=17
-refused: 70000 members at level 0 at Row:8:21
-"##;
+refused: 70000 members at level 0 at Row:8:21"##;

@@ -4,58 +4,69 @@ use kernel_shapes::Bounds;
 use std::alloc::{AllocError, Global};
 use tla_values::{List, Text};
 
-fn text(alloc: Global, bytes: &[u8]) -> Result<Text, AllocError> {
-    Ok(Text::from_vec(Vec::from_slice(alloc, bytes)?))
-}
-
-fn number(digits: &str) -> u32 {
-    digits.parse::<u32>().unwrap_or(0)
+fn text(alloc: Global, word: &str) -> Result<Text, AllocError> {
+    Ok(Text::from_vec(Vec::from_slice(alloc, word.as_bytes())?))
 }
 
 // The names between commas.
 fn names_of(alloc: Global, names: &str) -> Result<List<Text>, AllocError> {
     let mut all = Vec::new(alloc);
     for name in names.split(',') {
-        all.push(text(alloc, name.as_bytes())?)?;
+        all.push(text(alloc, name)?)?;
     }
     Ok(List::from_vec(all))
 }
 
-fn set_option(alloc: Global, word: &str, request: &mut Request) -> Result<(), AllocError> {
-    if let Some(digits) = word.strip_prefix("length=") {
-        request.length = number(digits);
-    } else if let Some(digits) = word.strip_prefix("width=") {
-        request.width = number(digits);
-    } else if let Some(digits) = word.strip_prefix("size=") {
-        request.bounds = Some(Bounds {
-            low: -1,
-            high: 7,
-            size: number(digits),
-        });
-    } else if let Some(names) = word.strip_prefix("inv=") {
-        request.invs = names_of(alloc, names)?;
-    } else if let Some(name) = word.strip_prefix("cinit=") {
-        request.cinit = Some(text(alloc, name.as_bytes())?);
-    } else if let Some(file) = word.strip_prefix("root=") {
-        request.root = text(alloc, file.as_bytes())?;
+// What stands behind this beginning of a word, if there is such a word.
+fn option<'a>(words: &'a str, beginning: &str) -> Option<&'a str> {
+    for word in words.split(' ') {
+        if let Some(rest) = word.strip_prefix(beginning) {
+            return Some(rest);
+        }
     }
-    Ok(())
+    None
+}
+
+fn number(words: &str, beginning: &str, default: u32) -> u32 {
+    match option(words, beginning) {
+        Some(digits) => digits.parse::<u32>().unwrap_or(0),
+        None => default,
+    }
+}
+
+fn cinit_of(alloc: Global, words: &str) -> Result<Option<Text>, AllocError> {
+    match option(words, "cinit=") {
+        Some(name) => Ok(Some(text(alloc, name)?)),
+        None => Ok(None),
+    }
+}
+
+fn bounds_of(words: &str) -> Option<Bounds> {
+    if option(words, "size=").is_none() {
+        return None;
+    }
+    Some(Bounds {
+        low: -1,
+        high: 7,
+        size: number(words, "size=", 0),
+    })
 }
 
 /// The request that the words make, of the module `Row` where they name no other.
 pub(crate) fn request_of(alloc: Global, words: &str) -> Result<Request, AllocError> {
-    let mut request = Request {
-        root: text(alloc, b"Row.tla")?,
-        init: text(alloc, b"Init")?,
-        next: text(alloc, b"Next")?,
-        invs: names_of(alloc, "Inv")?,
-        cinit: None,
-        length: 0,
-        width: 32,
-        bounds: None,
-    };
-    for word in words.split(' ') {
-        set_option(alloc, word, &mut request)?;
-    }
-    Ok(request)
+    let root = text(alloc, option(words, "root=").unwrap_or("Row.tla"))?;
+    let init = text(alloc, "Init")?;
+    let next = text(alloc, "Next")?;
+    let invs = names_of(alloc, option(words, "inv=").unwrap_or("Inv"))?;
+    let cinit = cinit_of(alloc, words)?;
+    Ok(Request {
+        root,
+        init,
+        next,
+        invs,
+        cinit,
+        length: number(words, "length=", 0),
+        width: number(words, "width=", 32),
+        bounds: bounds_of(words),
+    })
 }

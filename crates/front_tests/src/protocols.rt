@@ -2,12 +2,9 @@
 //
 // Each text begins with a line behind `>`: `root`, the module's name and how many paths its Init and its Next have,
 // counted by hand, or `part` and the name of a module that others use.
-use crate::asking::answered;
-use crate::options::request_of;
+use crate::asking::{Told, asked, passes};
 use crate::protocol_texts::PROTOCOLS;
-use crate::requests::may_be_asked;
 use crate::small_texts::SMALL;
-use front_end::Request;
 use std::alloc::{AllocError, Global};
 use std::test::Fail;
 use tla_values::List;
@@ -32,16 +29,17 @@ fn head_of<'a>(text: &'a str) -> Head<'a> {
     }
 }
 
-// The files of all texts.
-fn files_of(alloc: Global, texts: &str) -> Result<MemoryFiles, AllocError> {
-    let mut files = MemoryFiles::new(alloc, List::new(alloc));
-    for text in texts.split("\n>") {
-        if let Some((_, module)) = text.split_once('\n') {
-            let file = format!(in alloc; "{}.tla", head_of(text).name)?;
-            files.put(file.as_str(), module.as_bytes())?;
-        }
+fn put_text(alloc: Global, text: &str, files: &mut MemoryFiles) -> Result<(), AllocError> {
+    let (_, module) = text.split_once('\n').unwrap_or((text, ""));
+    let file = format!(in alloc; "{}.tla", head_of(text).name)?;
+    files.put(file.as_str(), module.as_bytes())
+}
+
+fn put_texts(alloc: Global, texts: &str, files: &mut MemoryFiles) -> Result<(), AllocError> {
+    for text in texts.split("\n>").skip(1) {
+        put_text(alloc, text, files)?;
     }
-    Ok(files)
+    Ok(())
 }
 
 // What is answered of a module at a length.
@@ -52,19 +50,29 @@ fn answer(
     files: &mut MemoryFiles,
 ) -> Result<String, AllocError> {
     let words = format!(in alloc; "root={name}.tla length={length}")?;
-    let request = request_of(alloc, words.as_str())?;
-    answered_if_asked(alloc, &request, files)
+    asked(alloc, Told::Words, words.as_str(), files)
 }
 
-fn answered_if_asked(
+// Whether this is the answer where the module is accepted, with its paths.
+fn is_accepted(alloc: Global, head: &Head, length: u32, found: &str) -> Result<bool, AllocError> {
+    let expected = format!(in alloc;
+        "accepted, paths 1 {} {}, levels {}",
+        head.starts,
+        head.steps,
+        length.saturating_add(1)
+    )?;
+    Ok(found == expected.as_str())
+}
+
+fn tell(
     alloc: Global,
-    request: &Request,
-    files: &mut MemoryFiles,
-) -> Result<String, AllocError> {
-    if !may_be_asked(request) {
-        return String::from_str(alloc, "not to be asked");
-    }
-    answered(alloc, request, files)
+    name: &str,
+    length: u32,
+    found: &str,
+    report: &mut String,
+) -> Result<(), AllocError> {
+    let line = format!(in alloc; "{name} to {length}: {found}\n")?;
+    report.push_str(line.as_str())
 }
 
 // Whether a module is accepted at a length, with its paths; if not, what is answered is added.
@@ -75,19 +83,12 @@ fn is_right(
     files: &mut MemoryFiles,
     report: &mut String,
 ) -> Result<bool, AllocError> {
-    let expected = format!(in alloc;
-        "accepted, paths 1 {} {}, levels {}",
-        head.starts,
-        head.steps,
-        length.saturating_add(1)
-    )?;
     let found = answer(alloc, head.name, length, files)?;
-    let is_same = found.as_str() == expected.as_str();
-    if !is_same {
-        let line = format!(in alloc; "{} to {length}: {}\n", head.name, found.as_str())?;
-        report.push_str(line.as_str())?;
+    if is_accepted(alloc, head, length, found.as_str())? {
+        return Ok(true);
     }
-    Ok(is_same)
+    tell(alloc, head.name, length, found.as_str(), report)?;
+    Ok(false)
 }
 
 // At how many of the lengths the module is answered as it should be.
@@ -107,40 +108,48 @@ fn right_lengths(
     Ok(right)
 }
 
-// What is answered otherwise, and how many answers are right.
-fn answers(alloc: Global, texts: &str, lengths: &[u32]) -> Result<String, AllocError> {
-    let mut files = files_of(alloc, texts)?;
-    let mut report = String::new(alloc);
+// At how many of the lengths the roots among the texts are answered so.
+fn right_texts(
+    alloc: Global,
+    texts: &str,
+    lengths: &[u32],
+    files: &mut MemoryFiles,
+    report: &mut String,
+) -> Result<u32, AllocError> {
+    put_texts(alloc, texts, files)?;
     let mut right: u32 = 0;
-    for text in texts.split("\n>") {
+    for text in texts.split("\n>").skip(1) {
         let head = head_of(text);
         if head.is_root {
-            let more = right_lengths(alloc, &head, lengths, &mut files, &mut report)?;
+            let more = right_lengths(alloc, &head, lengths, files, report)?;
             right = right.saturating_add(more);
         }
     }
-    let line = format!(in alloc; "{right} right")?;
+    Ok(right)
+}
+
+// What is answered otherwise, and how many answers are right.
+fn answers(alloc: Global, texts: &str, lengths: &[u32]) -> Result<String, AllocError> {
+    let mut report = String::new(alloc);
+    let mut files = MemoryFiles::new(alloc, List::new(alloc));
+    let right = right_texts(alloc, texts, lengths, &mut files, &mut report);
+    drop(files);
+    let line = format!(in alloc; "{} right", right?)?;
     report.push_str(line.as_str())?;
     Ok(report)
 }
 
 #[test]
 fn protocols_are_accepted(rt: HostRuntime) -> Result<(), Fail> {
-    let report = answers(rt.alloc(), PROTOCOLS, &[1, 10])?;
-    assert_eq!(rt; report.as_str(), "20 right");
-    Ok(())
+    passes(&rt, answers(rt.alloc(), PROTOCOLS, &[1, 10]), "20 right")
 }
 
 #[test]
 fn protocols_are_accepted_at_the_ends(rt: HostRuntime) -> Result<(), Fail> {
-    let report = answers(rt.alloc(), PROTOCOLS, &[0, 20])?;
-    assert_eq!(rt; report.as_str(), "20 right");
-    Ok(())
+    passes(&rt, answers(rt.alloc(), PROTOCOLS, &[0, 20]), "20 right")
 }
 
 #[test]
 fn small_modules_are_accepted(rt: HostRuntime) -> Result<(), Fail> {
-    let report = answers(rt.alloc(), SMALL, &[0, 1, 10, 20])?;
-    assert_eq!(rt; report.as_str(), "28 right");
-    Ok(())
+    passes(&rt, answers(rt.alloc(), SMALL, &[0, 1, 10, 20]), "28 right")
 }

@@ -8,108 +8,104 @@
 //   >more           the body is added to the text of the last file
 //   >each A B       the body is the text of a module for each number from A to B
 //   >padded N       blanks are added to the text of the last file, so that it has N bytes
-//   >fails n ..     these calls of the files fail, numbered from 0
+//   >fails N        this call of the files fails, numbered from 0
 //   >ask WORDS      the request of these words, and the line that is answered
 use std::alloc::{AllocError, Global};
-use std::test::Fail;
 use tla_values::List;
 use tool_outside::MemoryFiles;
 
-// A heading with its body.
-#[derive(Drop)]
+/// A heading, cut at its first blank, and the lines below it.
+#[derive(Clone, Copy)]
 pub(crate) struct Part<'a> {
     pub(crate) word: &'a str,
     pub(crate) rest: &'a str,
-    pub(crate) body: Vec<u8>,
+    pub(crate) body: &'a str,
 }
 
-#[derive(Drop)]
-pub(crate) struct Set<'a> {
-    pub(crate) title: &'a str,
-    pub(crate) parts: Vec<Part<'a>>,
+pub(crate) fn part_of<'a>(text: &'a str) -> Part<'a> {
+    let (head, body) = text.split_once('\n').unwrap_or((text, ""));
+    let (word, rest) = head.split_once(' ').unwrap_or((head, ""));
+    Part { word, rest, body }
 }
 
-/// The sets of a text.
-pub(crate) fn sets<'a>(alloc: Global, text: &'a str) -> Result<Vec<Set<'a>>, AllocError> {
-    let mut sets = Vec::new(alloc);
-    for line in text.lines() {
-        match line.strip_prefix('>') {
-            None => add_text(line, &mut sets)?,
-            Some(heading) => {
-                let (word, rest) = heading.split_once(' ').unwrap_or((heading, ""));
-                add_heading(alloc, word, rest, &mut sets)?;
-            }
-        }
+// ---- texts
+
+fn add_lines(body: &str, text: &mut Vec<u8>) -> Result<(), AllocError> {
+    for line in body.lines() {
+        text.extend_from_slice(line.as_bytes())?;
+        text.push(b'\n')?;
     }
-    Ok(sets)
+    Ok(())
 }
 
-fn add_heading<'a>(
+fn add_number(alloc: Global, number: u32, text: &mut Vec<u8>) -> Result<(), AllocError> {
+    let digits = format!(in alloc; "{number}")?;
+    text.extend_from_slice(digits.as_bytes())
+}
+
+// The lines with the number for `%` and the next one for `@`.
+fn add_numbered(
     alloc: Global,
-    word: &'a str,
-    rest: &'a str,
-    sets: &mut Vec<Set<'a>>,
+    lines: &[u8],
+    number: u32,
+    text: &mut Vec<u8>,
 ) -> Result<(), AllocError> {
-    if word == "set" {
-        let parts = Vec::new(alloc);
-        sets.push(Set { title: rest, parts })?;
-        return Ok(());
-    }
-    let body = Vec::new(alloc);
-    if let Some(set) = sets.last_mut() {
-        set.parts.push(Part { word, rest, body })?;
-    }
-    Ok(())
-}
-
-fn add_text<'a>(line: &'a str, sets: &mut Vec<Set<'a>>) -> Result<(), AllocError> {
-    if let Some(set) = sets.last_mut() {
-        if let Some(part) = set.parts.last_mut() {
-            part.body.extend_from_slice(line.as_bytes())?;
-            part.body.push(b'\n')?;
+    for byte in lines {
+        match *byte {
+            b'%' => add_number(alloc, number, text)?,
+            b'@' => add_number(alloc, number.wrapping_add(1), text)?,
+            other => text.push(other)?,
         }
     }
     Ok(())
 }
 
-impl<'a> Set<'a> {
-    /// The files of the set.
-    pub(crate) fn files(&self, alloc: Global) -> Result<MemoryFiles, Fail> {
-        let mut files = MemoryFiles::new(alloc, self.fails(alloc)?);
-        let mut name = "";
-        let mut text = Vec::new(alloc);
-        for part in &self.parts {
-            match part.word {
-                "file" => {
-                    name = part.rest;
-                    text.clear();
-                    text.extend_from_slice(&part.body)?;
-                }
-                "times" => add_each(alloc, part, &mut text)?,
-                "more" => text.extend_from_slice(&part.body)?,
-                "padded" => {
-                    let size: usize = part.rest.parse()?;
-                    text.resize(size, b' ')?;
-                }
-                "each" => put_each(alloc, part, &mut files)?,
-                _ => continue,
-            }
-            put(alloc, name, &text, &mut files)?;
-        }
-        Ok(files)
-    }
+fn lines_of(alloc: Global, body: &str) -> Result<Vec<u8>, AllocError> {
+    let mut lines = Vec::new(alloc);
+    add_lines(body, &mut lines)?;
+    Ok(lines)
+}
 
-    // The calls that fail.
-    fn fails(&self, alloc: Global) -> Result<List<u64>, Fail> {
-        let mut fails = Vec::new(alloc);
-        for part in &self.parts {
-            if part.word == "fails" {
-                let number: u64 = part.rest.parse()?;
-                fails.push(number)?;
-            }
-        }
-        Ok(List::from_vec(fails))
+fn numbered(alloc: Global, lines: &[u8], number: u32) -> Result<Vec<u8>, AllocError> {
+    let mut text = Vec::new(alloc);
+    add_numbered(alloc, lines, number, &mut text)?;
+    Ok(text)
+}
+
+// The first number of a heading, and the one behind the last.
+fn range(rest: &str) -> (u32, u32) {
+    let (first, last) = rest.split_once(' ').unwrap_or(("", ""));
+    let last = last.parse::<u32>().unwrap_or(0);
+    (first.parse::<u32>().unwrap_or(0), last.saturating_add(1))
+}
+
+fn add_each(alloc: Global, part: Part, text: &mut Vec<u8>) -> Result<(), AllocError> {
+    let (first, end) = range(part.rest);
+    let lines = lines_of(alloc, part.body)?;
+    for number in first..end {
+        add_numbered(alloc, &lines, number, text)?;
     }
+    Ok(())
+}
+
+// What a part adds to the text of a file; the first part has the file's name for its heading.
+fn add_part(alloc: Global, part: Part, text: &mut Vec<u8>) -> Result<(), AllocError> {
+    match part.word {
+        "times" => add_each(alloc, part, text),
+        "padded" => text.resize(part.rest.parse::<usize>().unwrap_or(0), b' '),
+        "each" | "fails" | "ask" => Ok(()),
+        _ => add_lines(part.body, text),
+    }
+}
+
+// ---- files
+
+fn text_of(alloc: Global, parts: &str) -> Result<Vec<u8>, AllocError> {
+    let mut text = Vec::new(alloc);
+    for part in parts.split("\n>") {
+        add_part(alloc, part_of(part), &mut text)?;
+    }
+    Ok(text)
 }
 
 fn put(alloc: Global, name: &str, text: &[u8], files: &mut MemoryFiles) -> Result<(), AllocError> {
@@ -117,46 +113,68 @@ fn put(alloc: Global, name: &str, text: &[u8], files: &mut MemoryFiles) -> Resul
     files.put(file.as_str(), text)
 }
 
-// The first number of a heading, and the one behind the last.
-fn numbers(part: &Part) -> Result<(u32, u32), Fail> {
-    let Some((first, last)) = part.rest.split_once(' ') else {
-        return Err("no two numbers".into());
-    };
-    let first: u16 = first.parse()?;
-    let last: u16 = last.parse()?;
-    Ok((u32::from(first), u32::from(last) + 1))
+fn put_file(alloc: Global, parts: &str, files: &mut MemoryFiles) -> Result<(), AllocError> {
+    let text = text_of(alloc, parts)?;
+    put(alloc, part_of(parts).word, &text, files)
 }
 
-fn add_each(alloc: Global, part: &Part, text: &mut Vec<u8>) -> Result<(), Fail> {
-    let (first, end) = numbers(part)?;
+fn put_number(
+    alloc: Global,
+    number: u32,
+    text: &[u8],
+    files: &mut MemoryFiles,
+) -> Result<(), AllocError> {
+    let file = format!(in alloc; "M{number}.tla")?;
+    files.put(file.as_str(), text)
+}
+
+fn put_numbered(
+    alloc: Global,
+    lines: &[u8],
+    number: u32,
+    files: &mut MemoryFiles,
+) -> Result<(), AllocError> {
+    let text = numbered(alloc, lines, number)?;
+    put_number(alloc, number, &text, files)
+}
+
+fn put_each(alloc: Global, part: Part, files: &mut MemoryFiles) -> Result<(), AllocError> {
+    let (first, end) = range(part.rest);
+    let lines = lines_of(alloc, part.body)?;
     for number in first..end {
-        text.extend_from_slice(&numbered(alloc, &part.body, number)?)?;
+        put_numbered(alloc, &lines, number, files)?;
     }
     Ok(())
 }
 
-fn put_each(alloc: Global, part: &Part, files: &mut MemoryFiles) -> Result<(), Fail> {
-    let (first, end) = numbers(part)?;
-    for number in first..end {
-        let name = format!(in alloc; "M{number}")?;
-        let text = numbered(alloc, &part.body, number)?;
-        put(alloc, name.as_str(), &text, files)?;
+/// Puts the files of a set there.
+pub(crate) fn put_files(
+    alloc: Global,
+    set: &str,
+    files: &mut MemoryFiles,
+) -> Result<(), AllocError> {
+    for parts in set.split("\n>file ").skip(1) {
+        put_file(alloc, parts, files)?;
     }
-    Ok(())
+    put_numbered_files(alloc, set, files)
 }
 
-// The text with the number for `%` and the next one for `@`.
-fn numbered(alloc: Global, text: &[u8], number: u32) -> Result<Vec<u8>, AllocError> {
-    let this = format!(in alloc; "{number}")?;
-    let after = number.wrapping_add(1);
-    let next = format!(in alloc; "{after}")?;
-    let mut out = Vec::new(alloc);
-    for byte in text {
-        match *byte {
-            b'%' => out.extend_from_slice(this.as_bytes())?,
-            b'@' => out.extend_from_slice(next.as_bytes())?,
-            other => out.push(other)?,
+fn put_numbered_files(alloc: Global, set: &str, files: &mut MemoryFiles) -> Result<(), AllocError> {
+    for text in set.split("\n>").skip(1) {
+        let part = part_of(text);
+        if part.word == "each" {
+            put_each(alloc, part, files)?;
         }
     }
-    Ok(out)
+    Ok(())
+}
+
+/// The calls of the files that fail.
+pub(crate) fn fails_of(alloc: Global, set: &str) -> Result<List<u64>, AllocError> {
+    let mut fails = Vec::new(alloc);
+    for text in set.split("\n>fails ").skip(1) {
+        let number = text.lines().next().unwrap_or("");
+        fails.push(number.parse::<u64>().unwrap_or(0))?;
+    }
+    Ok(List::from_vec(fails))
 }

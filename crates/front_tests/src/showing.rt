@@ -16,18 +16,36 @@ fn at(alloc: Global, words: &str, p: Place) -> Result<String, AllocError> {
     format!(in alloc; "{words} {}:{}:{}", p.file, p.line, p.col)
 }
 
+// The number of a name, and a place.
+fn numbered_at(alloc: Global, words: &str, name: usize, p: Place) -> Result<String, AllocError> {
+    format!(in alloc; "{words} {name} {}:{}:{}", p.file, p.line, p.col)
+}
+
+// What there is too much of, at which level and place.
+fn limit_at(
+    alloc: Global,
+    words: &str,
+    number: u64,
+    level: u32,
+    p: Place,
+) -> Result<String, AllocError> {
+    format!(in alloc; "{words} {number} {level} {}:{}:{}", p.file, p.line, p.col)
+}
+
 fn with_name(alloc: Global, words: &str, name: &Text) -> Result<String, AllocError> {
     let name = str::from_utf8(name.bytes()).unwrap_or("?");
     format!(in alloc; "{words} {name}")
 }
 
+fn named_at(alloc: Global, words: &str, name: &Text, p: Place) -> Result<String, AllocError> {
+    let name = str::from_utf8(name.bytes()).unwrap_or("?");
+    format!(in alloc; "{words} {name} {}:{}:{}", p.file, p.line, p.col)
+}
+
 fn module_words(alloc: Global, fault: &ModuleFault) -> Result<String, AllocError> {
     match fault {
         ModuleFault::Missing(name) => with_name(alloc, "Module Missing", name),
-        ModuleFault::Unknown(name, p) => {
-            let words = with_name(alloc, "Module Unknown", name)?;
-            at(alloc, words.as_str(), *p)
-        }
+        ModuleFault::Unknown(name, p) => named_at(alloc, "Module Unknown", name, *p),
         ModuleFault::Parse(ParseFault::BadGrammar(p)) => at(alloc, "Module Parse BadGrammar", *p),
         ModuleFault::Read(name) => with_name(alloc, "Module Read", name),
         _ => String::from_str(alloc, "Module"),
@@ -53,14 +71,8 @@ fn type_words(alloc: Global, fault: &TypeFault) -> Result<String, AllocError> {
 
 fn assign_words(alloc: Global, fault: &AssignFault) -> Result<String, AllocError> {
     match fault {
-        AssignFault::Unassigned(name, p) => {
-            let words = format!(in alloc; "Assign Unassigned {name}")?;
-            at(alloc, words.as_str(), *p)
-        }
-        AssignFault::ReadEarly(name, p) => {
-            let words = format!(in alloc; "Assign ReadEarly {name}")?;
-            at(alloc, words.as_str(), *p)
-        }
+        AssignFault::Unassigned(name, p) => numbered_at(alloc, "Assign Unassigned", *name, *p),
+        AssignFault::ReadEarly(name, p) => numbered_at(alloc, "Assign ReadEarly", *name, *p),
         AssignFault::Infinite(p) => at(alloc, "Assign Infinite", *p),
         AssignFault::Memory(_) => Err(AllocError),
     }
@@ -69,12 +81,10 @@ fn assign_words(alloc: Global, fault: &AssignFault) -> Result<String, AllocError
 fn shape_words(alloc: Global, fault: &ShapeFault) -> Result<String, AllocError> {
     match fault {
         ShapeFault::TooLarge(level, p, number) => {
-            let words = format!(in alloc; "Shape TooLarge {number} {level}")?;
-            at(alloc, words.as_str(), *p)
+            limit_at(alloc, "Shape TooLarge", *number, *level, *p)
         }
         ShapeFault::TooLong(level, p, number) => {
-            let words = format!(in alloc; "Shape TooLong {number} {level}")?;
-            at(alloc, words.as_str(), *p)
+            limit_at(alloc, "Shape TooLong", *number, *level, *p)
         }
         ShapeFault::Memory(_) => Err(AllocError),
     }
@@ -83,9 +93,7 @@ fn shape_words(alloc: Global, fault: &ShapeFault) -> Result<String, AllocError> 
 fn fault_words(alloc: Global, fault: &FrontFault) -> Result<String, AllocError> {
     match fault {
         FrontFault::Module(fault) => module_words(alloc, fault),
-        FrontFault::UseUnknown => String::from_str(alloc, "UseUnknown"),
         FrontFault::Inline(fault) => inline_words(alloc, fault),
-        FrontFault::NameUnbound => String::from_str(alloc, "NameUnbound"),
         FrontFault::Type(fault) => type_words(alloc, fault),
         FrontFault::Ker(KerFault::NotFinite(p)) => at(alloc, "Ker NotFinite", *p),
         FrontFault::Ker(KerFault::Memory(_)) => Err(AllocError),

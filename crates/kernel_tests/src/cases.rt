@@ -1,6 +1,7 @@
 // The answers to the lines of tables.
 use crate::actions::{ACTIONS, CASES, POSITIONS, REFUSALS};
 use crate::details::{PLACES, TYPES};
+use crate::passing::same;
 use crate::reducing::{Answer, part_texts, reduced};
 use crate::scans::{INFINITE, TEXTS};
 use crate::showing::Detail;
@@ -11,34 +12,42 @@ use kera_reducer::{least_infinite, texts_of};
 use std::alloc::{AllocError, Global};
 use std::test::Fail;
 use tla_meaning::{Decl, Job, Place};
+use tla_values::Text;
 
 // A way to answer of a job.
-#[derive(Clone, Copy)]
+#[derive(Clone, Copy, Drop)]
 enum Question {
     Infinite,
     Texts,
     Kernel(Detail),
 }
 
+fn column_text(alloc: Global, place: Place) -> Result<Vec<u8>, AllocError> {
+    let text = format!(in alloc; "{}", place.col)?;
+    Vec::from_slice(alloc, text.as_bytes())
+}
+
 fn infinite_text(alloc: Global, job: &Job) -> Result<Vec<u8>, AllocError> {
-    let mut out = Vec::new(alloc);
     match least_infinite(job) {
-        Some(place) => out.extend_from_slice(format!(in alloc; "{}", place.col)?.as_bytes())?,
-        None => out.extend_from_slice(b"none")?,
+        Some(place) => column_text(alloc, place),
+        None => Vec::from_slice(alloc, b"none"),
+    }
+}
+
+fn words_text(alloc: Global, texts: &[Text]) -> Result<Vec<u8>, AllocError> {
+    let mut out = Vec::new(alloc);
+    for (i, text) in texts.iter().enumerate() {
+        if i > 0 {
+            out.extend_from_slice(b" ")?;
+        }
+        out.extend_from_slice(text.bytes())?;
     }
     Ok(out)
 }
 
 fn literals_text(alloc: Global, job: &Job) -> Result<Vec<u8>, AllocError> {
     let texts = texts_of(alloc, job)?;
-    let mut out = Vec::new(alloc);
-    for (i, text) in texts.as_slice().iter().enumerate() {
-        if i > 0 {
-            out.push(b' ')?;
-        }
-        out.extend_from_slice(text.bytes())?;
-    }
-    Ok(out)
+    words_text(alloc, texts.as_slice())
 }
 
 // The parts from this one on.
@@ -86,10 +95,10 @@ fn kernel_text(
 ) -> Result<Vec<u8>, AllocError> {
     let answer = reduced(alloc, job)?;
     let text = answer_text(alloc, job.names.as_slice(), before, detail, &answer);
+    drop(answer);
     text
 }
 
-// The answer of a job that is lent: it lives beside no call that may fail.
 fn told(
     alloc: Global,
     question: Question,
@@ -112,6 +121,7 @@ fn answered(
     let trees = read(alloc, trees.as_bytes())?;
     let (job, before) = job_of(alloc, front, trees)?;
     let text = told(alloc, question, &job, before);
+    drop(job);
     text
 }
 
@@ -123,11 +133,11 @@ fn usual_front(question: Question) -> &'static str {
     }
 }
 
-fn add_bytes(all: &mut String, bytes: &[u8]) -> Result<(), AllocError> {
-    for byte in bytes {
-        all.push(char::from(*byte))?;
-    }
-    Ok(())
+fn put_wrong(line: &str, given: &[u8], all: &mut Vec<u8>) -> Result<(), AllocError> {
+    all.extend_from_slice(line.as_bytes())?;
+    all.extend_from_slice(b" GIVES ")?;
+    all.extend_from_slice(given)?;
+    all.extend_from_slice(b"\n")
 }
 
 // The line and what is answered, where that is not what it says.
@@ -135,7 +145,7 @@ fn wrong_line(
     alloc: Global,
     question: Question,
     line: &str,
-    all: &mut String,
+    all: &mut Vec<u8>,
 ) -> Result<(), AllocError> {
     let (asked, wanted) = line.split_once(" ==>").unwrap_or((line, ""));
     let wanted = wanted.strip_prefix(" ").unwrap_or("");
@@ -143,84 +153,88 @@ fn wrong_line(
         .split_once(" | ")
         .unwrap_or((usual_front(question), asked));
     let given = answered(alloc, question, front, trees)?;
-    if given.as_slice() != wanted.as_bytes() {
-        all.push_str(line)?;
-        all.push_str(" GIVES ")?;
-        add_bytes(all, given.as_slice())?;
-        all.push('\n')?;
+    if given.as_slice() == wanted.as_bytes() {
+        return Ok(());
+    }
+    put_wrong(line, given.as_slice(), all)
+}
+
+fn wrong_lines(
+    alloc: Global,
+    question: Question,
+    table: &str,
+    all: &mut Vec<u8>,
+) -> Result<(), AllocError> {
+    for line in table.lines() {
+        wrong_line(alloc, question, line, all)?;
     }
     Ok(())
 }
 
-fn wrong(alloc: Global, question: Question, table: &str) -> Result<String, AllocError> {
-    let mut all = String::new(alloc);
-    for line in table.lines() {
-        wrong_line(alloc, question, line, &mut all)?;
+fn wrong(alloc: Global, question: Question, tables: &[&str]) -> Result<Vec<u8>, AllocError> {
+    let mut all = Vec::new(alloc);
+    for table in tables {
+        wrong_lines(alloc, question, *table, &mut all)?;
     }
     Ok(all)
 }
 
+const KERNELS: Question = Question::Kernel(Detail::Nothing);
+
+const TYPED: Question = Question::Kernel(Detail::Types);
+
+const PLACED: Question = Question::Kernel(Detail::Columns);
+
 #[test]
 fn infinite_sets_are_found(rt: HostRuntime) -> Result<(), Fail> {
-    assert_eq!(rt;
-        wrong(rt.alloc(), Question::Infinite, INFINITE)?.as_str(),
-        ""
-    );
-    Ok(())
+    same(&rt, wrong(rt.alloc(), Question::Infinite, &[INFINITE]), "")
 }
 
 #[test]
 fn texts_are_found_once(rt: HostRuntime) -> Result<(), Fail> {
-    assert_eq!(rt; wrong(rt.alloc(), Question::Texts, TEXTS)?.as_str(), "");
-    Ok(())
+    same(&rt, wrong(rt.alloc(), Question::Texts, &[TEXTS]), "")
 }
 
 #[test]
 fn operators_have_their_kernels(rt: HostRuntime) -> Result<(), Fail> {
-    let question = Question::Kernel(Detail::Nothing);
-    for table in [
-        LOGIC,
-        COMPARISONS,
-        NUMBERS,
-        SETS,
-        FORMS,
-        BINDERS,
-        FUNCTIONS,
-        SEQUENCES,
-    ] {
-        assert_eq!(rt; wrong(rt.alloc(), question, table)?.as_str(), "");
-    }
-    Ok(())
+    same(
+        &rt,
+        wrong(
+            rt.alloc(),
+            KERNELS,
+            &[
+                LOGIC,
+                COMPARISONS,
+                NUMBERS,
+                SETS,
+                FORMS,
+                BINDERS,
+                FUNCTIONS,
+                SEQUENCES,
+            ],
+        ),
+        "",
+    )
 }
 
 #[test]
 fn actions_keep_their_paths(rt: HostRuntime) -> Result<(), Fail> {
-    let question = Question::Kernel(Detail::Nothing);
-    for table in [ACTIONS, CASES, POSITIONS, REFUSALS] {
-        assert_eq!(rt; wrong(rt.alloc(), question, table)?.as_str(), "");
-    }
-    Ok(())
+    same(
+        &rt,
+        wrong(rt.alloc(), KERNELS, &[ACTIONS, CASES, POSITIONS, REFUSALS]),
+        "",
+    )
 }
 
 #[test]
 fn made_nodes_have_types_and_places(rt: HostRuntime) -> Result<(), Fail> {
-    for (detail, table) in [(Detail::Types, TYPES), (Detail::Columns, PLACES)] {
-        let question = Question::Kernel(detail);
-        assert_eq!(rt; wrong(rt.alloc(), question, table)?.as_str(), "");
-    }
-    Ok(())
+    same(&rt, wrong(rt.alloc(), TYPED, &[TYPES]), "")?;
+    same(&rt, wrong(rt.alloc(), PLACED, &[PLACES]), "")
 }
 
 #[test]
 fn updates_have_their_kernels(rt: HostRuntime) -> Result<(), Fail> {
-    for (detail, table) in [
-        (Detail::Nothing, UPDATES),
-        (Detail::Nothing, PAIRED),
-        (Detail::Types, UPDATE_TYPES),
-        (Detail::Columns, UPDATE_PLACES),
-    ] {
-        let question = Question::Kernel(detail);
-        assert_eq!(rt; wrong(rt.alloc(), question, table)?.as_str(), "");
-    }
-    Ok(())
+    same(&rt, wrong(rt.alloc(), KERNELS, &[UPDATES, PAIRED]), "")?;
+    same(&rt, wrong(rt.alloc(), TYPED, &[UPDATE_TYPES]), "")?;
+    same(&rt, wrong(rt.alloc(), PLACED, &[UPDATE_PLACES]), "")
 }

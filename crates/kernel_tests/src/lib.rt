@@ -10,6 +10,8 @@ mod details;
 #[cfg(test)]
 mod modules;
 #[cfg(test)]
+mod passing;
+#[cfg(test)]
 mod reducing;
 #[cfg(test)]
 mod samples;

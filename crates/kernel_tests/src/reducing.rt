@@ -2,7 +2,8 @@
 use crate::showing::{Detail, tree_text};
 use kera_reducer::reduce;
 use kernel_trees::{Ker, KerFault, KerJob};
-use snowcat_types::{is_typable, typing};
+use snowcat_rows::Typed;
+use snowcat_types::{TypeFault, is_typable, typing};
 use std::alloc::{AllocError, Global};
 use tla_meaning::{Decl, Job, Place};
 
@@ -16,19 +17,35 @@ pub(crate) enum Answer {
     Nothing(&'static str),
 }
 
+fn answer_of(answer: Result<KerJob, KerFault>) -> Answer {
+    match answer {
+        Ok(kernel) => Answer::Kernel(kernel),
+        Err(KerFault::NotFinite(place)) => Answer::Infinite(place),
+        Err(KerFault::Memory(_)) => Answer::Nothing("memory"),
+    }
+}
+
+// The answer of reduction. Types, kernels and jobs end by a call of `drop`, here and elsewhere, since their end at the end
+// of a function has many cases.
+fn of_typed(alloc: Global, job: &Job, typed: Typed) -> Answer {
+    let answer = reduce(alloc, job, &typed);
+    drop(typed);
+    answer_of(answer)
+}
+
+fn not_typed(fault: TypeFault) -> Answer {
+    drop(fault);
+    Answer::Nothing("not typed")
+}
+
 /// The answer of typing and reduction.
 pub(crate) fn reduced(alloc: Global, job: &Job) -> Result<Answer, AllocError> {
     if !is_typable(alloc, job)? {
         return Ok(Answer::Nothing("not typable"));
     }
-    let typed = match typing(alloc, job) {
-        Ok(typed) => typed,
-        Err(_) => return Ok(Answer::Nothing("not typed")),
-    };
-    match reduce(alloc, job, &typed) {
-        Ok(kernel) => Ok(Answer::Kernel(kernel)),
-        Err(KerFault::NotFinite(place)) => Ok(Answer::Infinite(place)),
-        Err(KerFault::Memory(_)) => Ok(Answer::Nothing("memory")),
+    match typing(alloc, job) {
+        Ok(typed) => Ok(of_typed(alloc, job, typed)),
+        Err(fault) => Ok(not_typed(fault)),
     }
 }
 

@@ -4,6 +4,7 @@ use crate::modules::{
     DIE_HARD, DIE_HARD_KERNEL, INC, INC_KERNEL, PLUS, PLUS_KERNEL, RING, RING_KERNEL, ROW, TOGGLE,
     TOGGLE_KERNEL, TWO_PHASE, TWO_PHASE_KERNEL,
 };
+use crate::passing::same;
 use crate::reducing::{Answer, part_texts, reduced};
 use crate::showing::Detail;
 use kernel_trees::KerJob;
@@ -25,29 +26,25 @@ fn file_of(alloc: Global, text: &str) -> Result<String, AllocError> {
     format!(in alloc; "{name}.tla")
 }
 
+fn put_file(alloc: Global, text: &str, files: &mut MemoryFiles) -> Result<(), AllocError> {
+    let name = file_of(alloc, text)?;
+    let module = format!(in alloc; "{text}====\n")?;
+    files.put(name.as_str(), module.as_bytes())
+}
+
 // Modules that stand one behind the other.
-fn files_of(alloc: Global, texts: &str) -> Result<MemoryFiles, AllocError> {
-    let mut files = MemoryFiles::new(alloc, List::new(alloc));
+fn put_files(alloc: Global, texts: &str, files: &mut MemoryFiles) -> Result<(), AllocError> {
     let texts = texts.strip_suffix("====\n").unwrap_or(texts);
     for text in texts.split("====\n") {
-        let module = format!(in alloc; "{text}====\n")?;
-        files.put(file_of(alloc, text)?.as_str(), module.as_bytes())?;
+        put_file(alloc, text, files)?;
     }
-    Ok(files)
+    Ok(())
 }
 
 fn one_name(alloc: Global, name: &[u8]) -> Result<List<Text>, AllocError> {
     let mut names = List::new(alloc);
     names.push(Text::from_vec(Vec::from_slice(alloc, name)?))?;
     Ok(names)
-}
-
-fn job_in(alloc: Global, flat: &Flat, cinit: Option<&str>) -> Result<Option<Job>, AllocError> {
-    let invariants = one_name(alloc, b"Inv")?;
-    if !is_known(alloc, flat)? {
-        return Ok(None);
-    }
-    Ok(job_of(alloc, flat, "Init", "Next", cinit, &invariants).ok())
 }
 
 // ---- lines
@@ -136,48 +133,75 @@ fn put_kernel(
     put_parts(alloc, names, kernel, out)
 }
 
-fn put_job(alloc: Global, job: &Job, out: &mut Vec<u8>) -> Result<(), AllocError> {
+fn put_reduced(alloc: Global, job: &Job, out: &mut Vec<u8>) -> Result<(), AllocError> {
     let answer = reduced(alloc, job)?;
     let put = put_answer(alloc, job, &answer, out);
+    drop(answer);
     put
 }
 
-fn put_made(alloc: Global, job: Option<Job>, out: &mut Vec<u8>) -> Result<(), AllocError> {
-    match &job {
-        Some(job) => put_job(alloc, job, out),
-        None => out.extend_from_slice(b"no job"),
-    }
+fn put_job(alloc: Global, job: Job, out: &mut Vec<u8>) -> Result<(), AllocError> {
+    let put = put_reduced(alloc, &job, out);
+    drop(job);
+    put
 }
 
-fn put_flat(
+fn put_made(
     alloc: Global,
     flat: &Flat,
     cinit: Option<&str>,
     out: &mut Vec<u8>,
 ) -> Result<(), AllocError> {
-    let job = job_in(alloc, flat, cinit)?;
-    put_made(alloc, job, out)
-}
-
-// What is told of the job of modules, the root first.
-fn modules_text(
-    alloc: Global,
-    texts: &str,
-    cinit: Option<&str>,
-    out: &mut Vec<u8>,
-) -> Result<(), AllocError> {
-    let root = file_of(alloc, texts)?;
-    let mut files = files_of(alloc, texts)?;
-    match resolve(alloc, root.as_str(), &mut files) {
-        Ok(flat) => put_flat(alloc, &flat, cinit, out),
-        Err(_) => out.extend_from_slice(b"no flat module"),
+    let invariants = one_name(alloc, b"Inv")?;
+    if !is_known(alloc, flat)? {
+        return out.extend_from_slice(b"no job");
+    }
+    match job_of(alloc, flat, "Init", "Next", cinit, &invariants) {
+        Ok(job) => put_job(alloc, job, out),
+        Err(fault) => {
+            drop(fault);
+            out.extend_from_slice(b"no job")
+        }
     }
 }
 
-fn answered(alloc: Global, texts: &str, cinit: Option<&str>) -> Result<String, Fail> {
+fn put_flat(
+    alloc: Global,
+    flat: Flat,
+    cinit: Option<&str>,
+    out: &mut Vec<u8>,
+) -> Result<(), AllocError> {
+    let put = put_made(alloc, &flat, cinit, out);
+    drop(flat);
+    put
+}
+
+fn put_resolved(
+    alloc: Global,
+    texts: &str,
+    cinit: Option<&str>,
+    files: &mut MemoryFiles,
+    out: &mut Vec<u8>,
+) -> Result<(), AllocError> {
+    put_files(alloc, texts, files)?;
+    let root = file_of(alloc, texts)?;
+    match resolve(alloc, root.as_str(), files) {
+        Ok(flat) => put_flat(alloc, flat, cinit, out),
+        Err(refusal) => {
+            drop(refusal);
+            out.extend_from_slice(b"no flat module")
+        }
+    }
+}
+
+// What is told of the job of modules, the root first.
+fn answered(alloc: Global, texts: &str, cinit: Option<&str>) -> Result<Vec<u8>, AllocError> {
     let mut out = Vec::new(alloc);
-    modules_text(alloc, texts, cinit, &mut out)?;
-    Ok(String::from_utf8(out)?)
+    let mut files = MemoryFiles::new(alloc, List::new(alloc));
+    let put = put_resolved(alloc, texts, cinit, &mut files, &mut out);
+    drop(files);
+    put?;
+    Ok(out)
 }
 
 #[test]
@@ -191,7 +215,7 @@ fn modules_have_their_kernels(rt: HostRuntime) -> Result<(), Fail> {
         (INC, Some("CInit"), INC_KERNEL),
         (ROW, None, "refused: infinite set at Row:8:17\n"),
     ] {
-        assert_eq!(rt; answered(rt.alloc(), texts, cinit)?.as_str(), wanted);
+        same(&rt, answered(rt.alloc(), texts, cinit), wanted)?;
     }
     Ok(())
 }

@@ -6,8 +6,9 @@ use crate::further_cases::FURTHER;
 use crate::generated_cases::GENERATED;
 use crate::instances_cases::INSTANCES;
 use crate::names_cases::NAMES;
-use crate::reader::{Case, Part, cases};
+use crate::reader::Part;
 use crate::room_cases::ROOM;
+use crate::sets::{Asker, ask_sets, passes, same};
 use crate::showing::{put_aliases, put_files, put_items, put_names, put_refusal};
 use crate::sources_cases::SOURCES;
 use crate::users_cases::USERS;
@@ -46,9 +47,9 @@ fn put_flat(alloc: Global, word: &str, flat: &Flat, out: &mut Vec<u8>) -> Result
 }
 
 // Whether the heading says something of the answer.
-fn is_expected(part: &Part) -> bool {
+fn is_expected(word: &str) -> bool {
     matches!(
-        part.word,
+        word,
         "files" | "refused" | "ok" | "names" | "aliases" | "flat" | "expand" | "job"
     )
 }
@@ -97,121 +98,77 @@ fn is_same(wanted: &[u8], given: &[u8]) -> bool {
 
 // ---- sets
 
-// Adds what differs in a set.
-fn differs(alloc: Global, case: &Case, report: &mut Vec<u8>) -> Result<(), Fail> {
-    let mut files = case.files(alloc)?;
-    let root = case.root(alloc)?;
-    let answer = resolve(alloc, root.as_str(), &mut files);
-    for part in &case.parts {
-        if is_expected(part) {
-            differs_at(alloc, case.title, part, &answer, report)?;
-        }
-    }
-    Ok(())
-}
+// What the modules of a set are joined to.
+struct Joined;
 
-fn differs_at(
-    alloc: Global,
-    title: &str,
-    part: &Part,
-    answer: &Result<Flat, ModuleRefusal>,
-    report: &mut Vec<u8>,
-) -> Result<(), AllocError> {
-    let mut given = Vec::new(alloc);
-    put_answer(alloc, part.word, answer, &mut given)?;
-    let wanted = wanted(alloc, part)?;
-    if is_same(&wanted, &given) {
-        return Ok(());
+impl Asker for Joined {
+    fn asks(&self, word: &str, _is_flat: bool) -> bool {
+        is_expected(word)
     }
-    report.extend_from_slice(title.as_bytes())?;
-    report.extend_from_slice(b": ")?;
-    report.extend_from_slice(part.word.as_bytes())?;
-    report.extend_from_slice(b" gives ")?;
-    report.extend_from_slice(&given)?;
-    report.push(b'\n')?;
-    Ok(())
+
+    fn tell(
+        &self,
+        alloc: Global,
+        part: &Part,
+        answer: &Result<Flat, ModuleRefusal>,
+        given: &mut Vec<u8>,
+    ) -> Result<bool, AllocError> {
+        put_answer(alloc, part.word, answer, given)?;
+        let wanted = wanted(alloc, part)?;
+        Ok(is_same(&wanted, given.as_slice()))
+    }
 }
 
 // What differs in the sets of a text, and how many there are.
-fn differing(alloc: Global, text: &str) -> Result<(String, usize), Fail> {
+fn join_all(alloc: Global, text: &str) -> Result<(Vec<u8>, usize), Fail> {
     let mut report = Vec::new(alloc);
-    let cases = cases(alloc, text)?;
-    for case in &cases {
-        differs(alloc, case, &mut report)?;
-    }
-    Ok((String::from_utf8(report)?, cases.len()))
+    let found = ask_sets(alloc, &Joined, text, &mut report)?;
+    Ok((report, found.sets))
 }
 
 #[test]
 fn extends_brings_in_what_is_exported(rt: HostRuntime) -> Result<(), Fail> {
-    let (report, count) = differing(rt.alloc(), EXTENDING)?;
-    assert_eq!(rt; report.as_str(), "");
-    assert_eq!(rt; count, 14);
-    Ok(())
+    passes(&rt, join_all(rt.alloc(), EXTENDING), 14)
 }
 
 #[test]
 fn instances_bring_in_definitions_under_their_names(rt: HostRuntime) -> Result<(), Fail> {
-    let (report, count) = differing(rt.alloc(), INSTANCES)?;
-    assert_eq!(rt; report.as_str(), "");
-    assert_eq!(rt; count, 32);
-    Ok(())
+    passes(&rt, join_all(rt.alloc(), INSTANCES), 32)
 }
 
 #[test]
 fn names_are_looked_up_where_they_stand(rt: HostRuntime) -> Result<(), Fail> {
-    let (report, count) = differing(rt.alloc(), NAMES)?;
-    assert_eq!(rt; report.as_str(), "");
-    assert_eq!(rt; count, 44);
-    Ok(())
+    passes(&rt, join_all(rt.alloc(), NAMES), 44)
 }
 
 #[test]
 fn files_are_read_in_the_order_of_mentions(rt: HostRuntime) -> Result<(), Fail> {
-    let (report, count) = differing(rt.alloc(), SOURCES)?;
-    assert_eq!(rt; report.as_str(), "");
-    assert_eq!(rt; count, 24);
-    Ok(())
+    passes(&rt, join_all(rt.alloc(), SOURCES), 24)
 }
 
 #[test]
 fn sets_that_are_expanded_are_joined(rt: HostRuntime) -> Result<(), Fail> {
-    let (report, count) = differing(rt.alloc(), EXPANSIONS)?;
-    assert_eq!(rt; report.as_str(), "");
-    assert_eq!(rt; count, 31);
-    Ok(())
+    passes(&rt, join_all(rt.alloc(), EXPANSIONS), 31)
 }
 
 #[test]
 fn further_sets_are_joined(rt: HostRuntime) -> Result<(), Fail> {
-    let (report, count) = differing(rt.alloc(), FURTHER)?;
-    assert_eq!(rt; report.as_str(), "");
-    assert_eq!(rt; count, 17);
-    Ok(())
+    passes(&rt, join_all(rt.alloc(), FURTHER), 17)
 }
 
 #[test]
 fn sets_that_users_write_are_joined(rt: HostRuntime) -> Result<(), Fail> {
-    let (report, count) = differing(rt.alloc(), USERS)?;
-    assert_eq!(rt; report.as_str(), "");
-    assert_eq!(rt; count, 11);
-    Ok(())
+    passes(&rt, join_all(rt.alloc(), USERS), 11)
 }
 
 #[test]
 fn there_are_at_most_64_modules(rt: HostRuntime) -> Result<(), Fail> {
-    let (report, count) = differing(rt.alloc(), GENERATED)?;
-    assert_eq!(rt; report.as_str(), "");
-    assert_eq!(rt; count, 17);
-    Ok(())
+    passes(&rt, join_all(rt.alloc(), GENERATED), 17)
 }
 
 #[test]
 fn where_the_language_leaves_room_the_first_reading_is_taken(rt: HostRuntime) -> Result<(), Fail> {
-    let (report, count) = differing(rt.alloc(), ROOM)?;
-    assert_eq!(rt; report.as_str(), "");
-    assert_eq!(rt; count, 10);
-    Ok(())
+    passes(&rt, join_all(rt.alloc(), ROOM), 10)
 }
 
 // The text with blanks behind it, so many bytes long.
@@ -221,30 +178,50 @@ fn padded(alloc: Global, text: &[u8], size: usize) -> Result<Vec<u8>, AllocError
     Ok(out)
 }
 
-// What the root of these texts gives, where `A.tla` and `B.tla` hold an empty module and so many bytes.
-fn of_sizes(alloc: Global, root: &str, a: usize, b: usize) -> Result<String, Fail> {
-    let mut files = MemoryFiles::new(alloc, List::new(alloc));
-    files.put("Row.tla", root.as_bytes())?;
-    files.put("A.tla", &padded(alloc, b"---- MODULE A ----\n====", a)?)?;
-    files.put("B.tla", &padded(alloc, b"---- MODULE B ----\n====", b)?)?;
-    let answer = resolve(alloc, "Row.tla", &mut files);
+fn put_padded(
+    alloc: Global,
+    name: &str,
+    text: &str,
+    size: usize,
+    files: &mut MemoryFiles,
+) -> Result<(), AllocError> {
+    let text = padded(alloc, text.as_bytes(), size)?;
+    files.put(name, text.as_slice())
+}
+
+// Adds what the root gives, where `A.tla` and `B.tla` hold an empty module and so many bytes.
+fn put_of_sizes(
+    alloc: Global,
+    sizes: (usize, usize),
+    files: &mut MemoryFiles,
+    out: &mut Vec<u8>,
+) -> Result<(), AllocError> {
+    files.put("Row.tla", b"---- MODULE Row ----\nEXTENDS A, B\n====\n")?;
+    put_padded(alloc, "A.tla", "---- MODULE A ----\n====", sizes.0, files)?;
+    put_padded(alloc, "B.tla", "---- MODULE B ----\n====", sizes.1, files)?;
+    let answer = resolve(alloc, "Row.tla", files);
+    let put = put_answer(alloc, "refused", &answer, out);
+    drop(answer);
+    put
+}
+
+fn of_sizes(alloc: Global, a: usize, b: usize) -> Result<Vec<u8>, AllocError> {
     let mut out = Vec::new(alloc);
-    put_answer(alloc, "refused", &answer, &mut out)?;
-    Ok(String::from_utf8(out)?)
+    let mut files = MemoryFiles::new(alloc, List::new(alloc));
+    let put = put_of_sizes(alloc, (a, b), &mut files, &mut out);
+    drop(files);
+    put?;
+    Ok(out)
 }
 
 const MOST: usize = 4_194_304;
 
 #[test]
 fn files_have_at_most_four_megabytes(rt: HostRuntime) -> Result<(), Fail> {
-    let both = "---- MODULE Row ----\nEXTENDS A, B\n====\n";
-    assert_eq!(rt;
-        of_sizes(rt.alloc(), both, MOST, MOST)?.as_str(),
-        "a flat module"
-    );
-    assert_eq!(rt;
-        of_sizes(rt.alloc(), both, MOST, MOST + 1)?.as_str(),
-        "file is too long: B.tla"
-    );
-    Ok(())
+    same(&rt, of_sizes(rt.alloc(), MOST, MOST)?, "a flat module")?;
+    same(
+        &rt,
+        of_sizes(rt.alloc(), MOST, MOST + 1)?,
+        "file is too long: B.tla",
+    )
 }

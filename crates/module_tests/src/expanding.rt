@@ -11,8 +11,9 @@ use crate::generated_cases::GENERATED;
 use crate::instances_cases::INSTANCES;
 use crate::lines::line_of;
 use crate::names_cases::NAMES;
-use crate::reader::{Case, Part, cases};
+use crate::reader::Part;
 use crate::room_cases::ROOM;
+use crate::sets::{Asker, ask_sets, passes};
 use crate::showing::put_names;
 use crate::sources_cases::SOURCES;
 use crate::trees::{extent, is_tree};
@@ -22,7 +23,7 @@ use op_inliner::{InlineFault, PartKind, expand, is_known, job_of};
 use std::alloc::{AllocError, Global};
 use std::test::Fail;
 use tla_meaning::{Expr, Flat, Job};
-use tla_modules::resolve;
+use tla_modules::ModuleRefusal;
 use tla_values::{List, Text};
 
 fn part_kind(word: &str) -> PartKind {
@@ -58,7 +59,8 @@ pub(crate) fn trimmed(text: &[u8]) -> &[u8] {
     text.strip_suffix(b"\n").unwrap_or(text)
 }
 
-// Whether the text tells this answer.
+// Whether the text tells this answer. Trees and jobs end by a call of `drop`, here and below, since their end at the end
+// of a function has many cases.
 fn is_answer(
     alloc: Global,
     text: &[u8],
@@ -66,7 +68,11 @@ fn is_answer(
     answer: Result<Expr, InlineFault>,
 ) -> Result<bool, AllocError> {
     match answer {
-        Ok(tree) => is_told(alloc, text, flat, &tree),
+        Ok(tree) => {
+            let told = is_told(alloc, text, flat, &tree);
+            drop(tree);
+            told
+        }
         Err(fault) => tells(alloc, text, flat, fault),
     }
 }
@@ -88,15 +94,20 @@ fn is_beginning(line: &[u8]) -> bool {
     words.iter().any(|word| line.starts_with(word))
 }
 
+fn add_line(alloc: Global, line: &[u8], parts: &mut Vec<Vec<u8>>) -> Result<(), AllocError> {
+    if is_beginning(line) {
+        parts.push(Vec::from_slice(alloc, line)?)?;
+    } else if let Some(part) = parts.last_mut() {
+        part.push(b' ')?;
+        part.extend_from_slice(line)?;
+    }
+    Ok(())
+}
+
 fn parts_of(alloc: Global, text: &[u8]) -> Result<Vec<Vec<u8>>, AllocError> {
     let mut parts: Vec<Vec<u8>> = Vec::new(alloc);
     for line in text.split(|byte| *byte == b'\n') {
-        if is_beginning(line) {
-            parts.push(Vec::from_slice(alloc, line)?)?;
-        } else if let Some(part) = parts.last_mut() {
-            part.push(b' ')?;
-            part.extend_from_slice(line)?;
-        }
+        add_line(alloc, line, &mut parts)?;
     }
     Ok(parts)
 }
@@ -118,29 +129,56 @@ fn is_part(
     }
 }
 
-fn is_job(alloc: Global, text: &[u8], flat: &Flat, job: &Job) -> Result<bool, AllocError> {
-    let parts = parts_of(alloc, text)?;
+fn inv_word(alloc: Global, name: &[u8]) -> Result<Vec<u8>, AllocError> {
+    let mut word = Vec::from_slice(alloc, b"inv ")?;
+    word.extend_from_slice(name)?;
+    word.push(b' ')?;
+    Ok(word)
+}
+
+fn is_inv(
+    alloc: Global,
+    part: Option<&Vec<u8>>,
+    flat: &Flat,
+    inv: &(Text, Expr),
+) -> Result<bool, AllocError> {
+    let word = inv_word(alloc, inv.0.bytes())?;
+    is_part(alloc, part, word.as_slice(), flat, &inv.1)
+}
+
+// Whether the parts from the fifth on are the invariants.
+fn are_invs(
+    alloc: Global,
+    parts: &[Vec<u8>],
+    flat: &Flat,
+    invs: &[(Text, Expr)],
+) -> Result<bool, AllocError> {
+    for (i, inv) in invs.iter().enumerate() {
+        if !is_inv(alloc, parts.get(i.saturating_add(4)), flat, inv)? {
+            return Ok(false);
+        }
+    }
+    Ok(parts.len() == invs.len().saturating_add(4))
+}
+
+fn are_parts(alloc: Global, parts: &[Vec<u8>], flat: &Flat, job: &Job) -> Result<bool, AllocError> {
     let trees: [(&[u8], &Expr); 4] = [
         (b"cinit ", &job.cinit),
         (b"assume ", &job.assume),
         (b"init ", &job.init),
         (b"next ", &job.next),
     ];
-    let mut parts = parts.iter();
-    for (word, tree) in trees {
-        if !is_part(alloc, parts.next(), word, flat, tree)? {
+    for (i, (word, tree)) in trees.iter().enumerate() {
+        if !is_part(alloc, parts.get(i), *word, flat, *tree)? {
             return Ok(false);
         }
     }
-    for (name, tree) in job.invs.as_slice() {
-        let mut word = Vec::from_slice(alloc, b"inv ")?;
-        word.extend_from_slice(name.bytes())?;
-        word.push(b' ')?;
-        if !is_part(alloc, parts.next(), &word, flat, tree)? {
-            return Ok(false);
-        }
-    }
-    Ok(parts.next().is_none())
+    are_invs(alloc, parts, flat, job.invs.as_slice())
+}
+
+fn is_job(alloc: Global, text: &[u8], flat: &Flat, job: &Job) -> Result<bool, AllocError> {
+    let parts = parts_of(alloc, text)?;
+    are_parts(alloc, parts.as_slice(), flat, job)
 }
 
 // Whether the text tells this answer.
@@ -151,7 +189,11 @@ fn is_made(
     answer: Result<Job, InlineFault>,
 ) -> Result<bool, AllocError> {
     match answer {
-        Ok(job) => is_job(alloc, text, flat, &job),
+        Ok(job) => {
+            let told = is_job(alloc, text, flat, &job);
+            drop(job);
+            told
+        }
         Err(fault) => tells(alloc, text, flat, fault),
     }
 }
@@ -171,73 +213,49 @@ fn makes_so(alloc: Global, part: &Part, flat: &Flat) -> Result<bool, AllocError>
         return Ok(false);
     };
     let cinit = if cinit == "-" { None } else { Some(cinit) };
-    let invariants = invariants_of(alloc, part.rest)?;
     if !is_known(alloc, flat)? {
         return Ok(false);
     }
+    let invariants = invariants_of(alloc, part.rest)?;
     let answer = job_of(alloc, flat, init, next, cinit, &invariants);
     is_made(alloc, trimmed(&part.body), flat, answer)
 }
 
 // ---- sets
 
-// The flat module of a set, where there is one.
-pub(crate) fn flat_of(alloc: Global, case: &Case) -> Result<Option<Flat>, Fail> {
-    let mut files = case.files(alloc)?;
-    let root = case.root(alloc)?;
-    Ok(resolve(alloc, root.as_str(), &mut files).ok())
-}
+// What expansion gives at the headings.
+struct Expanded;
 
-// Whether expansion meets the heading, where it is one of expansion.
-fn is_met(alloc: Global, part: &Part, flat: &Flat) -> Result<Option<bool>, AllocError> {
-    match part.word {
-        "expand" => Ok(Some(expands_so(alloc, part, flat)?)),
-        "job" => Ok(Some(makes_so(alloc, part, flat)?)),
-        _ => Ok(None),
+impl Asker for Expanded {
+    fn asks(&self, word: &str, is_flat: bool) -> bool {
+        is_flat && (word == "expand" || word == "job")
     }
-}
 
-// Adds the headings of a set that expansion does not meet, and says how many there are.
-fn differs_in(
-    alloc: Global,
-    case: &Case,
-    flat: &Flat,
-    report: &mut String,
-) -> Result<usize, AllocError> {
-    let mut count: usize = 0;
-    for part in &case.parts {
-        let Some(is_met) = is_met(alloc, part, flat)? else {
-            continue;
-        };
-        count = count.saturating_add(1);
-        if !is_met {
-            for text in [case.title, ": ", part.word, " ", part.rest, "\n"] {
-                report.push_str(text)?;
-            }
+    fn tell(
+        &self,
+        alloc: Global,
+        part: &Part,
+        answer: &Result<Flat, ModuleRefusal>,
+        _given: &mut Vec<u8>,
+    ) -> Result<bool, AllocError> {
+        match answer {
+            Ok(flat) if part.word == "expand" => expands_so(alloc, part, flat),
+            Ok(flat) => makes_so(alloc, part, flat),
+            Err(_) => Ok(false),
         }
     }
-    Ok(count)
 }
 
-fn differs(alloc: Global, case: &Case, report: &mut String) -> Result<usize, Fail> {
-    match flat_of(alloc, case)? {
-        Some(flat) => Ok(differs_in(alloc, case, &flat, report)?),
-        None => Ok(0),
-    }
-}
-
-fn differing(alloc: Global, text: &str) -> Result<(String, usize), Fail> {
-    let mut report = String::new(alloc);
-    let mut count: usize = 0;
-    for case in &cases(alloc, text)? {
-        count = count.saturating_add(differs(alloc, case, &mut report)?);
-    }
-    Ok((report, count))
+// What differs in the sets of a text, and how many headings there are.
+fn expand_all(alloc: Global, text: &str) -> Result<(Vec<u8>, usize), Fail> {
+    let mut report = Vec::new(alloc);
+    let found = ask_sets(alloc, &Expanded, text, &mut report)?;
+    Ok((report, found.headings))
 }
 
 #[test]
 fn operators_and_jobs_are_expanded(rt: HostRuntime) -> Result<(), Fail> {
-    for (text, wanted) in [
+    for (text, headings) in [
         (EXPANSIONS, 118),
         (EXTENDING, 12),
         (FURTHER, 7),
@@ -248,9 +266,7 @@ fn operators_and_jobs_are_expanded(rt: HostRuntime) -> Result<(), Fail> {
         (SOURCES, 2),
         (USERS, 14),
     ] {
-        let (report, count) = differing(rt.alloc(), text)?;
-        assert_eq!(rt; report.as_str(), "");
-        assert_eq!(rt; count, wanted);
+        passes(&rt, expand_all(rt.alloc(), text), headings)?;
     }
     Ok(())
 }

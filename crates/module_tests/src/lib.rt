@@ -26,6 +26,8 @@ mod reader;
 #[cfg(test)]
 mod room_cases;
 #[cfg(test)]
+mod sets;
+#[cfg(test)]
 mod showing;
 #[cfg(test)]
 mod sources_cases;

@@ -122,18 +122,17 @@ impl<'a> Case<'a> {
         Ok(file)
     }
 
-    /// The files of the set.
-    pub(crate) fn files(&self, alloc: Global) -> Result<MemoryFiles, Fail> {
-        let mut files = MemoryFiles::new(alloc, self.fails(alloc)?);
+    /// Puts the files of the set.
+    pub(crate) fn put_files(&self, alloc: Global, files: &mut MemoryFiles) -> Result<(), Fail> {
         for part in &self.parts {
             match part.word {
-                "file" => self.put(alloc, part.rest, &part.body, &mut files)?,
-                "empty" => self.put(alloc, part.rest, b"", &mut files)?,
-                "each" => self.put_each(alloc, part, &mut files)?,
+                "file" => self.put(alloc, part.rest, &part.body, files)?,
+                "empty" => self.put(alloc, part.rest, b"", files)?,
+                "each" => self.put_each(alloc, part, files)?,
                 _ => {}
             }
         }
-        Ok(files)
+        Ok(())
     }
 
     fn put(
@@ -159,21 +158,31 @@ impl<'a> Case<'a> {
         let first: u16 = first.parse()?;
         let last: u16 = last.parse()?;
         for number in u32::from(first)..u32::from(last) + 1 {
-            let name = format!(in alloc; "M{number}")?;
-            let text = numbered(alloc, &part.body, number)?;
-            self.put(alloc, name.as_str(), &text, files)?;
+            self.put_numbered(alloc, &part.body, number, files)?;
         }
         Ok(())
     }
 
-    // The calls that fail.
-    fn fails(&self, alloc: Global) -> Result<List<u64>, Fail> {
-        let mut fails = Vec::new(alloc);
+    fn put_numbered(
+        &self,
+        alloc: Global,
+        text: &[u8],
+        number: u32,
+        files: &mut MemoryFiles,
+    ) -> Result<(), AllocError> {
+        let name = format!(in alloc; "M{number}")?;
+        let text = numbered(alloc, text, number)?;
+        self.put(alloc, name.as_str(), text.as_slice(), files)
+    }
+
+    /// The calls that fail.
+    pub(crate) fn fails(&self, alloc: Global) -> Result<List<u64>, Fail> {
+        let mut fails = List::new(alloc);
         for word in self.rest("fails").split_whitespace() {
             let number: u64 = word.parse()?;
             fails.push(number)?;
         }
-        Ok(List::from_vec(fails))
+        Ok(fails)
     }
 }
 

@@ -42,14 +42,41 @@ pub(crate) fn tokens_of(alloc: Global, text: &[u8]) -> Result<Vec<Token>, AllocE
         word: Vec::new(alloc),
         within: Within::Blank,
     };
-    for byte in text {
-        pieces.add(*byte)?;
+    let tokens = pieces.read(text);
+    drop(pieces);
+    tokens
+}
+
+// A word, or the word of a node that was opened.
+fn placed_token(alloc: Global, word: &[u8], opened: bool) -> Result<Token, AllocError> {
+    let (word, place) = placed(alloc, word)?;
+    if opened {
+        Ok(Token::Open(word, place))
+    } else {
+        Ok(Token::Leaf(word, place))
     }
-    pieces.end_word()?;
-    Ok(pieces.tokens)
+}
+
+// The token of a word that ends.
+fn token_of(alloc: Global, within: Within, word: Vec<u8>) -> Result<Option<Token>, AllocError> {
+    match within {
+        Within::Blank => Ok(None),
+        Within::Details => Ok(Some(Token::Details(word))),
+        Within::Names => Ok(Some(Token::Names(word))),
+        Within::Opened => Ok(Some(placed_token(alloc, word.as_slice(), true)?)),
+        Within::Word | Within::Text => Ok(Some(placed_token(alloc, word.as_slice(), false)?)),
+    }
 }
 
 impl Pieces {
+    fn read(&mut self, text: &[u8]) -> Result<Vec<Token>, AllocError> {
+        for byte in text {
+            self.add(*byte)?;
+        }
+        self.end_word()?;
+        Ok(std::mem::replace(&mut self.tokens, Vec::new(self.alloc)))
+    }
+
     fn add(&mut self, byte: u8) -> Result<(), AllocError> {
         match self.within {
             Within::Blank | Within::Opened | Within::Word => self.add_outside(byte),
@@ -105,21 +132,11 @@ impl Pieces {
 
     fn end_word(&mut self) -> Result<(), AllocError> {
         let word = std::mem::replace(&mut self.word, Vec::new(self.alloc));
-        let token = match self.within {
-            Within::Blank => return Ok(()),
-            Within::Details => Token::Details(word),
-            Within::Names => Token::Names(word),
-            Within::Opened => {
-                let (word, place) = placed(self.alloc, &word)?;
-                Token::Open(word, place)
-            }
-            Within::Word | Within::Text => {
-                let (word, place) = placed(self.alloc, &word)?;
-                Token::Leaf(word, place)
-            }
-        };
-        self.within = Within::Blank;
-        Ok(self.tokens.push(token)?)
+        if let Some(token) = token_of(self.alloc, self.within, word)? {
+            self.within = Within::Blank;
+            self.tokens.push(token)?;
+        }
+        Ok(())
     }
 }
 

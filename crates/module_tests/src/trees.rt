@@ -33,8 +33,10 @@ pub(crate) fn is_tree(
         bound: Vec::new(alloc),
         names,
     };
-    let same = comparison.meets(tree)?;
-    Ok(same && comparison.met == comparison.tokens.len())
+    let same = comparison.meets(tree);
+    let is_all = comparison.met == comparison.tokens.len();
+    drop(comparison);
+    Ok(same? && is_all)
 }
 
 /// How many nodes and levels a tree has.

@@ -4,19 +4,22 @@
 //   >types I N C V ..  the types of the job that the operators make as Init, Next, CInit (`-` for none) and invariants:
 //                      `x: T` for each declared name in the order of their numbers, or the line that tells the refusal
 use crate::badly_typed_cases::BADLY_TYPED;
-use crate::expanding::{flat_of, invariants_of, trimmed};
+use crate::expanding::{invariants_of, trimmed};
 use crate::lines::line_of;
-use crate::reader::{Case, Part, cases};
+use crate::reader::Part;
+use crate::sets::{Asker, ask_sets, passes};
 use crate::showing::put_words;
 use crate::typed_cases::TYPED;
 use crate::users_cases::USERS;
 use front_end::FrontFault;
-use op_inliner::{is_known, job_of};
+use op_inliner::{InlineFault, is_known, job_of};
 use snowcat_rows::{Typed, show_type};
 use snowcat_types::{is_typable, typing};
 use std::alloc::{AllocError, Global};
 use std::test::Fail;
 use tla_meaning::{Decl, Flat, Job};
+use tla_modules::ModuleRefusal;
+use tla_values::{List, Text};
 
 // ---- answers
 
@@ -34,17 +37,45 @@ fn put_types(
     Ok(())
 }
 
-// What is answered of a job.
+fn put_fault(
+    alloc: Global,
+    files: &List<Text>,
+    fault: FrontFault,
+    out: &mut Vec<u8>,
+) -> Result<(), AllocError> {
+    let line = line_of(alloc, files, fault)?;
+    out.extend_from_slice(line.as_slice())
+}
+
+// What is answered of a job. Types and jobs end by a call of `drop`, since their end at the end of a function has many
+// cases.
 fn put_job(alloc: Global, job: &Job, out: &mut Vec<u8>) -> Result<(), AllocError> {
     if !is_typable(alloc, job)? {
         return out.extend_from_slice(b"not typable");
     }
     match typing(alloc, job) {
-        Ok(typed) => put_types(alloc, job.names.as_slice(), &typed, out),
-        Err(fault) => {
-            let line = line_of(alloc, &job.files, FrontFault::Type(fault))?;
-            out.extend_from_slice(&line)
+        Ok(typed) => {
+            let put = put_types(alloc, job.names.as_slice(), &typed, out);
+            drop(typed);
+            put
         }
+        Err(fault) => put_fault(alloc, &job.files, FrontFault::Type(fault), out),
+    }
+}
+
+fn put_made(
+    alloc: Global,
+    files: &List<Text>,
+    answer: Result<Job, InlineFault>,
+    out: &mut Vec<u8>,
+) -> Result<(), AllocError> {
+    match answer {
+        Ok(job) => {
+            let put = put_job(alloc, &job, out);
+            drop(job);
+            put
+        }
+        Err(fault) => put_fault(alloc, files, FrontFault::Inline(fault), out),
     }
 }
 
@@ -55,84 +86,54 @@ fn put_answer(
     flat: &Flat,
     out: &mut Vec<u8>,
 ) -> Result<(), AllocError> {
+    if !is_known(alloc, flat)? {
+        return out.extend_from_slice(b"not known");
+    }
     let invariants = invariants_of(alloc, words)?;
     let mut words = words.split_whitespace();
     let (Some(init), Some(next), Some(cinit)) = (words.next(), words.next(), words.next()) else {
         return out.extend_from_slice(b"no job");
     };
     let cinit = if cinit == "-" { None } else { Some(cinit) };
-    if !is_known(alloc, flat)? {
-        return out.extend_from_slice(b"not known");
-    }
-    match job_of(alloc, flat, init, next, cinit, &invariants) {
-        Ok(job) => put_job(alloc, &job, out),
-        Err(fault) => {
-            let line = line_of(alloc, &flat.files, FrontFault::Inline(fault))?;
-            out.extend_from_slice(&line)
-        }
-    }
+    let answer = job_of(alloc, flat, init, next, cinit, &invariants);
+    put_made(alloc, &flat.files, answer, out)
 }
 
 // ---- sets
 
-// Adds what is answered at a heading, where that is not what it says.
-fn differs_at(
-    alloc: Global,
-    title: &str,
-    part: &Part,
-    flat: &Flat,
-    report: &mut Vec<u8>,
-) -> Result<(), AllocError> {
-    let mut given = Vec::new(alloc);
-    put_answer(alloc, part.rest, flat, &mut given)?;
-    if trimmed(&given) == trimmed(&part.body) {
-        return Ok(());
-    }
-    let front: [&[u8]; 4] = [
-        title.as_bytes(),
-        b": types ",
-        part.rest.as_bytes(),
-        b" gives ",
-    ];
-    put_words(&front, report)?;
-    report.extend_from_slice(&given)?;
-    report.push(b'\n')?;
-    Ok(())
-}
+// The types at the headings.
+struct Types;
 
-// Adds what differs in a set, and says how many headings it has.
-fn differs(alloc: Global, case: &Case, report: &mut Vec<u8>) -> Result<usize, Fail> {
-    if case.part("types").is_none() {
-        return Ok(0);
+impl Asker for Types {
+    fn asks(&self, word: &str, is_flat: bool) -> bool {
+        is_flat && word == "types"
     }
-    let Some(flat) = flat_of(alloc, case)? else {
-        return Ok(0);
-    };
-    let mut count: usize = 0;
-    for part in &case.parts {
-        if part.word == "types" {
-            differs_at(alloc, case.title, part, &flat, report)?;
-            count = count.saturating_add(1);
+
+    fn tell(
+        &self,
+        alloc: Global,
+        part: &Part,
+        answer: &Result<Flat, ModuleRefusal>,
+        given: &mut Vec<u8>,
+    ) -> Result<bool, AllocError> {
+        match answer {
+            Ok(flat) => put_answer(alloc, part.rest, flat, given)?,
+            Err(_) => return Ok(false),
         }
+        Ok(trimmed(given.as_slice()) == trimmed(&part.body))
     }
-    Ok(count)
 }
 
-fn differing(alloc: Global, text: &str) -> Result<(String, usize), Fail> {
+// What differs in the sets of a text, and how many headings there are.
+fn type_all(alloc: Global, text: &str) -> Result<(Vec<u8>, usize), Fail> {
     let mut report = Vec::new(alloc);
-    let mut count: usize = 0;
-    for case in &cases(alloc, text)? {
-        count = count.saturating_add(differs(alloc, case, &mut report)?);
-    }
-    Ok((String::from_utf8(report)?, count))
+    let found = ask_sets(alloc, &Types, text, &mut report)?;
+    Ok((report, found.headings))
 }
 
 #[test]
 fn jobs_have_their_types(rt: HostRuntime) -> Result<(), Fail> {
-    for (text, wanted) in [(USERS, 2), (TYPED, 38), (BADLY_TYPED, 44)] {
-        let (report, count) = differing(rt.alloc(), text)?;
-        assert_eq!(rt; report.as_str(), "");
-        assert_eq!(rt; count, wanted);
-    }
-    Ok(())
+    passes(&rt, type_all(rt.alloc(), USERS), 2)?;
+    passes(&rt, type_all(rt.alloc(), TYPED), 38)?;
+    passes(&rt, type_all(rt.alloc(), BADLY_TYPED), 44)
 }

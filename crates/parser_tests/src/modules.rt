@@ -1,18 +1,7 @@
 // Whole modules.
-use crate::asking::{answer, put_fault};
-use crate::showing::put_module;
-use std::alloc::Global;
+use crate::asking::{Texts, Told, differing, put_many, same, shown};
+use std::alloc::{AllocError, Global};
 use std::test::Fail;
-
-// What the module's text is parsed to.
-pub(crate) fn shown(alloc: Global, text: &str) -> Result<Vec<u8>, Fail> {
-    let mut out = Vec::new(alloc);
-    match answer(alloc, text.as_bytes())? {
-        Ok(module) => put_module(alloc, &mut out, &module)?,
-        Err(fault) => put_fault(alloc, &mut out, fault)?,
-    }
-    Ok(out)
-}
 
 const UNITS: &str = r#"---- MODULE M ----
 EXTENDS Integers, TLC
@@ -59,134 +48,76 @@ define Init <> (eq x FALSE)"#;
 
 #[test]
 fn units_are_read(rt: HostRuntime) -> Result<(), Fail> {
-    let found = shown(rt.alloc(), UNITS)?;
-    assert_eq!(rt; found.as_slice(), UNITS_SHOWN.as_bytes());
-    Ok(())
+    same(
+        &rt,
+        shown(rt.alloc(), UNITS.as_bytes(), Told::Units),
+        UNITS_SHOWN,
+    )
 }
 
-// Modules with what is refused in them.
-const REFUSED: [(&str, &str); 16] = [
-    ("---- MODULE M ----\n", "grammar 1:15"),
-    ("---- MODULE M ----\n====", "M"),
-    ("---- MODULE M ----\nEXTENDS A, B\n====", "M A B"),
-    ("---- MODULE M\nx == 1\n====", "grammar 1:1"),
-    ("---- MODULE M ----\nVARIABLE x\n)\n====", "grammar 2:1"),
-    ("---- MODULE M ----\n)\n====", "grammar 2:1"),
-    (
-        "---- MODULE M ----\nx == 1\ny == 2 +\nz == 3\n====",
-        "grammar 3:1",
-    ),
-    ("---- MODULE M ----\nLOCAL x == (1\n====", "grammar 2:1"),
-    (
-        "---- MODULE M ----\nx == 1\n---- MODULE N ----\n====\n====",
-        "nested MODULE 3:1",
-    ),
-    (
-        "---- MODULE M ----\nI(x) == INSTANCE N WITH c <- x\n====",
-        "parametrized INSTANCE 2:9",
-    ),
-    ("---- MODULE M ----\na (+) b == 1\n====", "grammar 2:1"),
-    (
-        "---- MODULE M ----\na ^ b == 1\n====",
-        "operator definition by symbol 2:3",
-    ),
-    (
-        "---- MODULE M ----\nF(G(_), x) == 1\n====",
-        "operator parameter 2:5",
-    ),
-    (
-        "---- MODULE M ----\nCONSTANT C(_)\n====",
-        "operator parameter 2:12",
-    ),
-    ("---- MODULE M ----\nTHEOREM x\n<1> QED\n====", "proof 3:1"),
-    (
-        "---- MODULE M ----\nTHEOREM x BY y\nz == [a |-> 1, a |-> 2]\n====",
-        "proof 2:11",
-    ),
-];
+// Modules with what is refused in them, a line a case; `;` is a line feed.
+const REFUSED: &str = r#"---- MODULE M ----;  => grammar 1:15
+---- MODULE M ----;====  => M
+---- MODULE M ----;EXTENDS A, B;====  => M A B
+---- MODULE M;x == 1;====  => grammar 1:1
+---- MODULE M ----;VARIABLE x;);====  => grammar 2:1
+---- MODULE M ----;);====  => grammar 2:1
+---- MODULE M ----;x == 1;y == 2 +;z == 3;====  => grammar 3:1
+---- MODULE M ----;LOCAL x == (1;====  => grammar 2:1
+---- MODULE M ----;x == 1;---- MODULE N ----;====;====  => nested MODULE 3:1
+---- MODULE M ----;I(x) == INSTANCE N WITH c <- x;====  => parametrized INSTANCE 2:9
+---- MODULE M ----;a (+) b == 1;====  => grammar 2:1
+---- MODULE M ----;a ^ b == 1;====  => operator definition by symbol 2:3
+---- MODULE M ----;F(G(_), x) == 1;====  => operator parameter 2:5
+---- MODULE M ----;CONSTANT C(_);====  => operator parameter 2:12
+---- MODULE M ----;THEOREM x;<1> QED;====  => proof 3:1
+---- MODULE M ----;THEOREM x BY y;z == [a |-> 1, a |-> 2];====  => proof 2:11"#;
 
 #[test]
 fn refused_modules_name_their_causes(rt: HostRuntime) -> Result<(), Fail> {
-    let alloc = rt.alloc();
-    for (text, expected) in &REFUSED {
-        let found = shown(alloc, text)?;
-        assert_eq!(rt; found.as_slice(), expected.as_bytes());
-    }
-    Ok(())
+    assert!(rt; REFUSED.lines().count() == 16);
+    same(&rt, differing(rt.alloc(), REFUSED, Texts::Whole), "")
 }
 
-// A definition of as many `~` before TRUE.
-fn negated(alloc: Global, count: usize) -> Result<Vec<u8>, Fail> {
-    let mut text = Vec::from_slice(alloc, b"---- MODULE Row ----\nInv == ")?;
-    for _ in 0..count {
-        text.push(b'~')?;
-    }
-    text.extend_from_slice(b"TRUE\n====\n")?;
-    let mut out = Vec::new(alloc);
-    match answer(alloc, text.as_slice())? {
-        Ok(module) => out.push(module.units.len().min(9) as u8)?,
-        Err(fault) => put_fault(alloc, &mut out, fault)?,
-    }
-    Ok(out)
+// A definition of a text between as many of this byte and as many `)`.
+fn between(
+    alloc: Global,
+    byte: u8,
+    count: usize,
+    text: &[u8],
+    closed: usize,
+) -> Result<Vec<u8>, AllocError> {
+    let mut whole = Vec::from_slice(alloc, b"---- MODULE Row ----\nInv == ")?;
+    put_many(&mut whole, byte, count)?;
+    whole.extend_from_slice(text)?;
+    put_many(&mut whole, b')', closed)?;
+    whole.extend_from_slice(b"\n====\n")?;
+    Ok(whole)
+}
+
+// How many units there are in a module of as many `~` before TRUE.
+fn negated(alloc: Global, count: usize) -> Result<Vec<u8>, AllocError> {
+    let text = between(alloc, b'~', count, b"TRUE", 0)?;
+    shown(alloc, text.as_slice(), Told::Count)
 }
 
 #[test]
 fn levels_end_at_four_hundred(rt: HostRuntime) -> Result<(), Fail> {
-    let alloc = rt.alloc();
-    assert_eq!(rt; negated(alloc, 399)?.as_slice(), [1].as_slice());
-    assert_eq!(rt; negated(alloc, 400)?.as_slice(), b"deep 2:1".as_slice());
-    assert_eq!(rt; negated(alloc, 100_000)?.as_slice(), b"deep 2:1".as_slice());
-    Ok(())
+    same(&rt, negated(rt.alloc(), 399), "1")?;
+    same(&rt, negated(rt.alloc(), 400), "deep 2:1")?;
+    same(&rt, negated(rt.alloc(), 100_000), "deep 2:1")
 }
 
 // As many parentheses around a number.
-fn wrapped(alloc: Global, count: usize, closed: usize) -> Result<Vec<u8>, Fail> {
-    let mut text = Vec::from_slice(alloc, b"---- MODULE Row ----\nInv == ")?;
-    for _ in 0..count {
-        text.push(b'(')?;
-    }
-    text.push(b'1')?;
-    for _ in 0..closed {
-        text.push(b')')?;
-    }
-    text.extend_from_slice(b"\n====\n")?;
-    let mut out = Vec::new(alloc);
-    match answer(alloc, text.as_slice())? {
-        Ok(module) => put_module(alloc, &mut out, &module)?,
-        Err(fault) => put_fault(alloc, &mut out, fault)?,
-    }
-    Ok(out)
+fn wrapped(alloc: Global, count: usize, closed: usize) -> Result<Vec<u8>, AllocError> {
+    let text = between(alloc, b'(', count, b"1", closed)?;
+    shown(alloc, text.as_slice(), Told::Units)
 }
 
 #[test]
 fn parentheses_make_no_level(rt: HostRuntime) -> Result<(), Fail> {
-    let alloc = rt.alloc();
-    assert_eq!(rt;
-        wrapped(alloc, 5000, 5000)?.as_slice(),
-        b"Row\ndefine Inv <> 1".as_slice()
-    );
-    assert_eq!(rt;
-        wrapped(alloc, 5000, 4999)?.as_slice(),
-        b"grammar 2:1".as_slice()
-    );
-    Ok(())
-}
-
-// The aliases that the notes of the module's text give, each as its name, its type and a `;`.
-fn aliases(alloc: Global, text: &str) -> Result<Vec<u8>, Fail> {
-    let mut out = Vec::new(alloc);
-    match answer(alloc, text.as_bytes())? {
-        Ok(module) => {
-            for (name, kind) in module.aliases.as_slice() {
-                out.extend_from_slice(name.bytes())?;
-                out.push(b'=')?;
-                out.extend_from_slice(kind.bytes())?;
-                out.push(b';')?;
-            }
-        }
-        Err(fault) => put_fault(alloc, &mut out, fault)?,
-    }
-    Ok(out)
+    same(&rt, wrapped(rt.alloc(), 5000, 5000), "Row\ndefine Inv <> 1")?;
+    same(&rt, wrapped(rt.alloc(), 5000, 4999), "grammar 2:1")
 }
 
 const NOTED: &str = r#"---- MODULE M ----
@@ -201,10 +132,9 @@ Init == x = (* @typeAlias: inside = Int; *) <<0, 0>>
 
 #[test]
 fn aliases_of_types_are_read_in_any_notes(rt: HostRuntime) -> Result<(), Fail> {
-    let found = aliases(rt.alloc(), NOTED)?;
-    assert_eq!(rt;
-        found.as_slice(),
-        b"MSG= {kind: Str};pair=<<Int, Int>>;late= Set($MSG) ;inside= Int;".as_slice()
-    );
-    Ok(())
+    same(
+        &rt,
+        shown(rt.alloc(), NOTED.as_bytes(), Told::Aliases),
+        "MSG= {kind: Str};pair=<<Int, Int>>;late= Set($MSG) ;inside= Int;",
+    )
 }

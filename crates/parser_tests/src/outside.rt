@@ -1,5 +1,5 @@
 // Modules as engineers write them.
-use crate::asking::answer;
+use crate::asking::{Told, same, shown};
 use crate::pluscal::{CALLS, MUTEX};
 use std::test::Fail;
 
@@ -336,13 +336,9 @@ const GOOD: [&str; 16] = [
 
 #[test]
 fn modules_from_outside_are_read(rt: HostRuntime) -> Result<(), Fail> {
-    let alloc = rt.alloc();
-    let mut refused: usize = 0;
     for text in &GOOD {
-        if answer(alloc, text.as_bytes())?.is_err() {
-            refused = refused.saturating_add(1);
-        }
+        let found = shown(rt.alloc(), text.as_bytes(), Told::Presence);
+        same(&rt, found, "a module")?;
     }
-    assert_eq!(rt; refused, 0);
     Ok(())
 }

@@ -1,5 +1,5 @@
 // The modules of the tables, each with its tree as the rules of the language give it.
-use crate::modules::shown;
+use crate::asking::{Told, same, shown};
 use crate::outside::{DIE_HARD, INC, PLUS, RING, TOGGLE, TWO_PHASE};
 use std::test::Fail;
 
@@ -66,10 +66,9 @@ const MODULES: [(&str, &str); 6] = [
 
 #[test]
 fn the_modules_of_the_tables_have_their_trees(rt: HostRuntime) -> Result<(), Fail> {
-    let alloc = rt.alloc();
     for (text, expected) in &MODULES {
-        let found = shown(alloc, text)?;
-        assert_eq!(rt; found.as_slice(), expected.as_bytes());
+        let found = shown(rt.alloc(), text.as_bytes(), Told::Units);
+        same(&rt, found, *expected)?;
     }
     Ok(())
 }

@@ -43,29 +43,58 @@ impl Postfix {
         List::from_vec(mem::replace(&mut self.trees, Vec::new(self.alloc)))
     }
 
+    fn args(&mut self, byte: u8) -> Result<List<Ker>, AllocError> {
+        match byte {
+            b'~' | b'q' | b'P' | b'R' => self.last(1),
+            b'&' | b'|' | b'E' => self.last(2),
+            b'=' | b'e' | b'f' | b'p' => self.last(2),
+            b'?' | b'D' => self.last(3),
+            b'A' | b'O' => Ok(self.all()),
+            _ => Ok(List::new(self.alloc)),
+        }
+    }
+
     fn step(&mut self, byte: u8, col: u32) -> Result<(), AllocError> {
-        let binds = binds_of(self.alloc, byte)?;
-        let op = match form_of(self.alloc, byte)? {
-            Some(form) => form,
-            None => op_of(byte),
-        };
-        let args = match byte {
-            b'~' | b'q' | b'P' | b'R' => self.last(1)?,
-            b'&' | b'|' | b'E' => self.last(2)?,
-            b'=' | b'e' | b'f' | b'p' => self.last(2)?,
-            b'?' | b'D' => self.last(3)?,
-            b'A' | b'O' => self.all(),
-            _ => List::new(self.alloc),
-        };
-        self.trees.push(Ker {
-            place: at(col),
-            ty: Ty::Bool,
-            op,
-            args,
-            binds,
-        })?;
+        let args = self.args(byte)?;
+        let k = node(self.alloc, byte, col, args)?;
+        self.trees.push(k)?;
         Ok(())
     }
+
+    // The last tree, or no case where there is none.
+    fn read(&mut self, text: &[u8]) -> Result<Ker, AllocError> {
+        let mut col: u32 = 0;
+        for byte in text {
+            col = col.saturating_add(1);
+            self.step(*byte, col)?;
+        }
+        match self.trees.pop() {
+            Some(k) => Ok(k),
+            None => Ok(leaf(self.alloc)),
+        }
+    }
+}
+
+fn leaf(alloc: Global) -> Ker {
+    Ker {
+        place: at(0),
+        ty: Ty::Bool,
+        op: KerOp::NoCase,
+        args: List::new(alloc),
+        binds: List::new(alloc),
+    }
+}
+
+fn node(alloc: Global, byte: u8, col: u32, args: List<Ker>) -> Result<Ker, AllocError> {
+    let binds = binds_of(alloc, byte)?;
+    let op = op_of(alloc, byte)?;
+    Ok(Ker {
+        place: at(col),
+        ty: Ty::Bool,
+        op,
+        args,
+        binds,
+    })
 }
 
 fn binds_of(alloc: Global, byte: u8) -> Result<List<u32>, AllocError> {
@@ -79,25 +108,26 @@ fn binds_of(alloc: Global, byte: u8) -> Result<List<u32>, AllocError> {
     Ok(binds)
 }
 
-fn form_of(alloc: Global, byte: u8) -> Result<Option<KerOp>, AllocError> {
-    let form = match byte {
-        b'i' => Some(KerOp::IntForm),
-        b'n' => Some(KerOp::NatForm),
-        b'q' => Some(KerOp::SeqForm),
-        b'P' => Some(KerOp::Subsets),
-        b'f' => Some(KerOp::Functions),
-        b'p' => Some(KerOp::TupForm),
-        b'R' => {
-            let mut names = List::new(alloc);
-            names.push(Text::from_vec(Vec::from_slice(alloc, b"a")?))?;
-            Some(KerOp::RecForm(names))
-        }
-        _ => None,
-    };
-    Ok(form)
+fn record_form(alloc: Global) -> Result<KerOp, AllocError> {
+    let mut names = List::new(alloc);
+    names.push(Text::from_vec(Vec::from_slice(alloc, b"a")?))?;
+    Ok(KerOp::RecForm(names))
 }
 
-fn op_of(byte: u8) -> KerOp {
+fn op_of(alloc: Global, byte: u8) -> Result<KerOp, AllocError> {
+    match byte {
+        b'i' => Ok(KerOp::IntForm),
+        b'n' => Ok(KerOp::NatForm),
+        b'q' => Ok(KerOp::SeqForm),
+        b'P' => Ok(KerOp::Subsets),
+        b'f' => Ok(KerOp::Functions),
+        b'p' => Ok(KerOp::TupForm),
+        b'R' => record_form(alloc),
+        _ => Ok(value_op(byte)),
+    }
+}
+
+fn value_op(byte: u8) -> KerOp {
     match byte {
         b'F' => KerOp::Const(Value::Bool(false)),
         b'N' => KerOp::NoCase,
@@ -120,27 +150,14 @@ fn op_of(byte: u8) -> KerOp {
 }
 
 /// The action of a text.
-pub fn action(alloc: Global, text: &[u8]) -> Result<Ker, AllocError> {
+pub(crate) fn action(alloc: Global, text: &[u8]) -> Result<Ker, AllocError> {
     let mut p = Postfix {
         alloc,
         trees: Vec::new(alloc),
     };
-    let mut col: u32 = 0;
-    for byte in text {
-        col = col.saturating_add(1);
-        p.step(*byte, col)?;
-    }
-    let whole = p.trees.pop();
-    match whole {
-        Some(k) => Ok(k),
-        None => Ok(Ker {
-            place: at(0),
-            ty: Ty::Bool,
-            op: KerOp::NoCase,
-            args: List::new(alloc),
-            binds: List::new(alloc),
-        }),
-    }
+    let read = p.read(text);
+    drop(p);
+    read
 }
 
 fn declared(alloc: Global, constant: bool) -> Decl {
@@ -153,7 +170,7 @@ fn declared(alloc: Global, constant: bool) -> Decl {
 }
 
 /// A constant and two variables.
-pub fn names(alloc: Global) -> Result<List<Decl>, AllocError> {
+pub(crate) fn names(alloc: Global) -> Result<List<Decl>, AllocError> {
     let mut names = List::new(alloc);
     names.push(declared(alloc, true))?;
     names.push(declared(alloc, false))?;

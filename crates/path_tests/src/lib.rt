@@ -6,4 +6,6 @@ mod actions;
 #[cfg(test)]
 mod assigning;
 #[cfg(test)]
+mod passing;
+#[cfg(test)]
 mod splitting;

@@ -1,12 +1,11 @@
 // The reports of whole runs, byte for byte: two jugs, a counter that leaves eight bits, a sequence that is applied
 // outside its domain, a budget of one conflict, and checks of inductive invariants.
-use crate::making::{at, files, invariant, trace, variable};
+use crate::making::{
+    agrees, assumption_overflow, at, not_inductive, same, step_overflow, step_wrong, violated,
+};
 use std::alloc::{AllocError, Global};
-use std::process::Abort;
 use std::test::Fail;
-use tla_meaning::{Decl, State};
-use tla_values::{List, Value};
-use trace_text::{Fault, Part, Verdict, Where, report_text};
+use trace_text::{Verdict, Where};
 
 // What is printed, each beside the one of the same number below.
 const EXPECTED: [&str; 10] = [
@@ -22,132 +21,57 @@ const EXPECTED: [&str; 10] = [
     "unknown: integer out of range from a typed state: assumption at Row:8:10\nattempt\n/\\ x = 7\n",
 ];
 
-fn jugs(alloc: Global) -> Result<List<Decl>, AllocError> {
-    let mut names = List::new(alloc);
-    names.push(variable(alloc, "big")?)?;
-    names.push(variable(alloc, "small")?)?;
-    Ok(names)
-}
-
-fn counter(alloc: Global) -> Result<List<Decl>, AllocError> {
-    let mut names = List::new(alloc);
-    names.push(variable(alloc, "x")?)?;
-    Ok(names)
-}
-
 // The states of the jugs.
-const JUGS: [(i128, i128); 7] = [(0, 0), (5, 0), (2, 3), (2, 0), (0, 2), (5, 2), (4, 3)];
+static JUGS: [&[i128]; 7] = [
+    &[0, 0],
+    &[5, 0],
+    &[2, 3],
+    &[2, 0],
+    &[0, 2],
+    &[5, 2],
+    &[4, 3],
+];
 
-fn filled(alloc: Global) -> Result<List<State>, AllocError> {
-    let mut states = List::new(alloc);
-    for (big, small) in &JUGS {
-        let mut vals = List::new(alloc);
-        vals.push(Value::Int(*big))?;
-        vals.push(Value::Int(*small))?;
-        states.push(State { vals })?;
-    }
-    Ok(states)
-}
-
-fn value(alloc: Global, value: Value) -> Result<State, AllocError> {
-    let mut vals = List::new(alloc);
-    vals.push(value)?;
-    Ok(State { vals })
-}
-
-fn counted(alloc: Global, numbers: &[i128]) -> Result<List<State>, AllocError> {
-    let mut states = List::new(alloc);
-    for number in numbers {
-        states.push(value(alloc, Value::Int(*number))?)?;
-    }
-    Ok(states)
-}
-
-// The sequence 1, 2, 3.
-fn sequence(alloc: Global) -> Result<State, AllocError> {
-    let mut pairs = List::new(alloc);
-    pairs.push((Value::Int(1), Value::Int(1)))?;
-    pairs.push((Value::Int(2), Value::Int(2)))?;
-    pairs.push((Value::Int(3), Value::Int(3)))?;
-    value(alloc, Value::Fun(pairs))
-}
-
-fn sequences(alloc: Global) -> Result<List<State>, AllocError> {
-    let mut states = List::new(alloc);
-    states.push(sequence(alloc)?)?;
-    Ok(states)
-}
-
-fn faults(alloc: Global, number: usize) -> Result<Verdict, AllocError> {
-    match number {
-        1 => Ok(Verdict::Error(
-            6,
-            Fault::InvFalse(invariant(alloc)?),
-            trace(filled(alloc)?, None),
-        )),
-        4 => Ok(Verdict::Error(
-            1,
-            Fault::StepWrong(at(7, 10)),
-            trace(sequences(alloc)?, Some(sequence(alloc)?)),
-        )),
-        _ => Ok(Verdict::NotInductive(
-            Fault::InvFalse(invariant(alloc)?),
-            trace(counted(alloc, &[3, 5])?, None),
-        )),
-    }
-}
-
-fn overflows(alloc: Global, number: usize) -> Result<Verdict, AllocError> {
-    match number {
-        2 => Ok(Verdict::Overflow(
-            Where::Level(8),
-            Part::Step,
-            at(7, 16),
-            trace(
-                counted(alloc, &[120, 121, 122, 123, 124, 125, 126, 127])?,
-                Some(value(alloc, Value::Int(127))?),
-            ),
-        )),
-        _ => Ok(Verdict::Overflow(
-            Where::Typed,
-            Part::Assumption,
-            at(8, 10),
-            trace(List::new(alloc), Some(value(alloc, Value::Int(7))?)),
-        )),
-    }
-}
+// The states of the counter.
+static COUNTED: [&[i128]; 8] = [
+    &[120],
+    &[121],
+    &[122],
+    &[123],
+    &[124],
+    &[125],
+    &[126],
+    &[127],
+];
 
 fn verdict(alloc: Global, number: usize) -> Result<Verdict, AllocError> {
     match number {
         0 => Ok(Verdict::Clean(5)),
+        1 => violated(alloc, 6, &JUGS),
+        2 => step_overflow(alloc, 8, &COUNTED, &[127]),
         3 => Ok(Verdict::Clean(7)),
+        4 => step_wrong(alloc, at(7, 10), &[1, 2, 3]),
         5 => Ok(Verdict::Clean(0)),
         6 => Ok(Verdict::Spent(1, Where::Level(0))),
         7 => Ok(Verdict::Inductive),
-        1 | 4 | 8 => faults(alloc, number),
-        _ => overflows(alloc, number),
+        8 => not_inductive(alloc, &[&[3], &[5]]),
+        _ => assumption_overflow(alloc, &[7]),
     }
 }
 
-fn names(alloc: Global, number: usize) -> Result<List<Decl>, AllocError> {
-    if number == 1 {
-        jugs(alloc)
-    } else {
-        counter(alloc)
-    }
-}
-
-fn agrees(alloc: Global, number: usize, expected: &str) -> Result<bool, AllocError> {
+fn is_right(alloc: Global, number: usize, expected: &str) -> Result<bool, AllocError> {
     let verdict = verdict(alloc, number)?;
-    let names = names(alloc, number)?;
-    let report = report_text(alloc, &verdict, &names, &files(alloc)?)?;
-    Ok(report.as_slice() == expected.as_bytes())
+    if number == 1 {
+        agrees(alloc, verdict, &["big", "small"], expected)
+    } else {
+        agrees(alloc, verdict, &["x"], expected)
+    }
 }
 
 fn differing(alloc: Global) -> Result<u64, AllocError> {
     let mut count: u64 = 0;
     for number in 0..10 {
-        if !agrees(alloc, number, EXPECTED[number])? {
+        if !is_right(alloc, number, EXPECTED[number])? {
             count = count.saturating_add(1);
         }
     }
@@ -156,6 +80,5 @@ fn differing(alloc: Global) -> Result<u64, AllocError> {
 
 #[test]
 fn whole_runs_are_printed_byte_for_byte(rt: HostRuntime) -> Result<(), Fail> {
-    assert_eq!(rt; differing(rt.alloc())?, 0);
-    Ok(())
+    same(&rt, differing(rt.alloc()), 0)
 }

@@ -1,56 +1,71 @@
 //! What becomes of types that are open, and what bindings make of variables.
 
 use crate::cases::{CLOSED, LITERALS, ROOTS};
-use crate::postfix::type_of;
-use crate::unifying::five;
-use snowcat_rows::{
-    Aliases, Subst, Ty, closed, has_distinct_names, has_no_operator, is_within, literal_type,
-    show_type,
-};
+use crate::passing::{Teller, counts, first_wrong, passes};
+use crate::postfix::{type_of, types_of};
+use crate::showing::put_type;
+use crate::unifying::{bind, five};
+use snowcat_rows::{Aliases, Subst, Ty, closed, has_no_operator, literal_type, show_type};
 use std::alloc::{AllocError, Global};
 use std::test::Fail;
 use tla_values::List;
 
-fn shown(alloc: Global, t: &Ty) -> Result<Vec<u8>, AllocError> {
-    let mut out = Vec::new(alloc);
-    show_type(alloc, t, &mut out)?;
-    Ok(out)
-}
-
-// A type, what it is closed, and `plain` where no operator type stands in it.
-fn is_closed(alloc: Global, line: &str) -> Result<bool, AllocError> {
-    let (word, want) = line.split_once(" => ").unwrap_or((line, ""));
-    let t = type_of(alloc, word)?;
-    let mut out = shown(alloc, &closed(alloc, &t)?)?;
-    if has_no_operator(&t) {
+fn put_closed(alloc: Global, t: &Ty, out: &mut Vec<u8>) -> Result<(), AllocError> {
+    put_type(alloc, closed(alloc, t)?, out)?;
+    if has_no_operator(t) {
         out.extend_from_slice(b" plain")?;
     }
-    Ok(out.as_slice() == want.as_bytes())
+    Ok(())
 }
 
-fn is_literal(alloc: Global, line: &str) -> Result<bool, AllocError> {
-    let (text, want) = line.split_once(" => ").unwrap_or((line, ""));
-    let out = shown(alloc, &literal_type(alloc, text.as_bytes())?)?;
-    Ok(out.as_slice() == want.as_bytes())
+// What a type is closed, and `plain` where no operator type stands in it.
+struct Closed;
+
+impl Teller for Closed {
+    fn tell(
+        &self,
+        alloc: Global,
+        asked: &str,
+        _wanted: &str,
+        out: &mut Vec<u8>,
+    ) -> Result<(), AllocError> {
+        let t = type_of(alloc, asked)?;
+        let put = put_closed(alloc, &t, out);
+        drop(t);
+        put
+    }
+}
+
+struct Literals;
+
+impl Teller for Literals {
+    fn tell(
+        &self,
+        alloc: Global,
+        asked: &str,
+        _wanted: &str,
+        out: &mut Vec<u8>,
+    ) -> Result<(), AllocError> {
+        put_type(alloc, literal_type(alloc, asked.as_bytes())?, out)
+    }
 }
 
 fn equate(alloc: Global, s: &mut Subst, pair: &str) -> Result<(), AllocError> {
-    let (left, right) = pair.split_once(" ").unwrap_or((pair, ""));
-    let a = type_of(alloc, left)?;
-    let b = type_of(alloc, right)?;
-    if is_within(&a, s.issued())
-        && is_within(&b, s.issued())
-        && has_distinct_names(&a)
-        && has_distinct_names(&b)
-    {
-        let _ = s.unify(&a, &b);
+    let types = types_of(alloc, pair)?;
+    let bound = bind(s, &types.0, &types.1);
+    drop(types);
+    bound
+}
+
+fn equate_all(alloc: Global, s: &mut Subst, pairs: &str) -> Result<(), AllocError> {
+    for pair in pairs.split(", ") {
+        equate(alloc, s, pair)?;
     }
     Ok(())
 }
 
 // The type variables in the order in which they were bound, `r` for a row variable.
-fn bound_in(alloc: Global, s: &Subst) -> Result<Vec<u8>, AllocError> {
-    let mut out = Vec::new(alloc);
+fn put_bound(alloc: Global, s: &Subst, out: &mut Vec<u8>) -> Result<(), AllocError> {
     for i in 0..s.bound() {
         match s.bound_type(i) {
             Some(v) => {
@@ -60,58 +75,93 @@ fn bound_in(alloc: Global, s: &Subst) -> Result<Vec<u8>, AllocError> {
             None => out.extend_from_slice(b"r")?,
         }
     }
-    Ok(out)
+    Ok(())
+}
+
+fn put_root(alloc: Global, s: &Subst, word: &str, out: &mut Vec<u8>) -> Result<(), AllocError> {
+    let t = type_of(alloc, word)?;
+    let put = show_type(alloc, s.root(&t), out);
+    drop(t);
+    put
+}
+
+fn put_roots(
+    alloc: Global,
+    s: &mut Subst,
+    asked: &str,
+    out: &mut Vec<u8>,
+) -> Result<(), AllocError> {
+    let (pairs, word) = asked.split_once(" | ").unwrap_or((asked, ""));
+    equate_all(alloc, s, pairs)?;
+    put_bound(alloc, s, out)?;
+    out.extend_from_slice(b" ")?;
+    put_root(alloc, s, word, out)
 }
 
 // Pairs that are made equal; what is bound, and the root of a type.
-fn is_rooted(alloc: Global, line: &str) -> Result<bool, AllocError> {
-    let (steps, rest) = line.split_once(" | ").unwrap_or((line, ""));
-    let (word, want) = rest.split_once(" => ").unwrap_or((rest, ""));
-    let mut s = five(alloc);
-    for pair in steps.split(", ") {
-        equate(alloc, &mut s, pair)?;
+struct Roots;
+
+impl Teller for Roots {
+    fn tell(
+        &self,
+        alloc: Global,
+        asked: &str,
+        _wanted: &str,
+        out: &mut Vec<u8>,
+    ) -> Result<(), AllocError> {
+        let mut s = five(alloc);
+        let put = put_roots(alloc, &mut s, asked, out);
+        drop(s);
+        put
     }
-    let t = type_of(alloc, word)?;
-    let mut out = bound_in(alloc, &s)?;
-    out.push(b' ')?;
-    show_type(alloc, s.root(&t), &mut out)?;
-    Ok(out.as_slice() == want.as_bytes())
 }
 
 #[test]
 fn types_are_closed(rt: HostRuntime) -> Result<(), Fail> {
-    for line in CLOSED.lines() {
-        assert!(rt; is_closed(rt.alloc(), line)?, "{line}");
-    }
-    Ok(())
+    passes(&rt, first_wrong(rt.alloc(), &Closed, CLOSED, " => "))
 }
 
 #[test]
 fn text_literals_have_these_types(rt: HostRuntime) -> Result<(), Fail> {
-    for line in LITERALS.lines() {
-        assert!(rt; is_literal(rt.alloc(), line)?, "{line}");
-    }
-    Ok(())
+    passes(&rt, first_wrong(rt.alloc(), &Literals, LITERALS, " => "))
 }
 
 #[test]
 fn roots_and_bindings_are_told(rt: HostRuntime) -> Result<(), Fail> {
-    for line in ROOTS.lines() {
-        assert!(rt; is_rooted(rt.alloc(), line)?, "{line}");
+    passes(&rt, first_wrong(rt.alloc(), &Roots, ROOTS, " => "))
+}
+
+// A text and how many variables it has, 9 where it is no type's.
+static COUNTS: [(&str, u32); 3] = [("Int", 0), ("<<a, {f: b, r}, a>>", 3), ("Set(", 9)];
+
+fn count_of(alloc: Global, known: &Aliases, text: &str) -> u32 {
+    let answer = known.read(alloc, text.as_bytes());
+    let count = match &answer {
+        Ok(read) => read.1,
+        Err(_) => 9,
+    };
+    drop(answer);
+    count
+}
+
+fn count_right(alloc: Global, known: &Aliases) -> usize {
+    for (i, (text, wanted)) in COUNTS.iter().enumerate() {
+        if count_of(alloc, known, *text) != *wanted {
+            return i;
+        }
     }
-    Ok(())
+    COUNTS.len()
+}
+
+fn count_without_aliases(alloc: Global) -> Result<usize, AllocError> {
+    let none = List::new(alloc);
+    let known = Aliases::of(alloc, &none)?;
+    let right = count_right(alloc, &known);
+    drop(known);
+    Ok(right)
 }
 
 #[test]
 fn variables_of_a_text_are_counted(rt: HostRuntime) -> Result<(), Fail> {
-    let none = List::from_vec(Vec::new(rt.alloc()));
-    let known = Aliases::of(rt.alloc(), &none)?;
-    for (text, want) in [("Int", 0), ("<<a, {f: b, r}, a>>", 3), ("Set(", 9)] {
-        let count = match known.read(rt.alloc(), text.as_bytes()) {
-            Ok(read) => read.1,
-            Err(_) => 9,
-        };
-        assert!(rt; count == want, "{text}");
-    }
-    Ok(())
+    counts(&rt, count_without_aliases(rt.alloc()), 3)
 }

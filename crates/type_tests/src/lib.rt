@@ -8,6 +8,8 @@ mod forms;
 #[cfg(test)]
 mod kernels;
 #[cfg(test)]
+mod passing;
+#[cfg(test)]
 mod postfix;
 #[cfg(test)]
 mod reading;

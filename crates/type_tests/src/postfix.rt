@@ -23,6 +23,27 @@ fn text(alloc: Global, byte: u8) -> Result<Text, AllocError> {
     Ok(Text::from_vec(bytes))
 }
 
+fn named(alloc: Global, byte: u8) -> Result<Ty, AllocError> {
+    Ok(Ty::Named(text(alloc, byte)?))
+}
+
+fn set_of(alloc: Global, item: Ty) -> Result<Ty, AllocError> {
+    Ok(Ty::Set(Boxed::new(alloc, item)?))
+}
+
+fn sequence_of(alloc: Global, item: Ty) -> Result<Ty, AllocError> {
+    Ok(Ty::Seq(Boxed::new(alloc, item)?))
+}
+
+fn function_of(alloc: Global, argument: Ty, value: Ty) -> Result<Ty, AllocError> {
+    let argument = Boxed::new(alloc, argument)?;
+    Ok(Ty::Fun(argument, Boxed::new(alloc, value)?))
+}
+
+fn operator_of(alloc: Global, arguments: List<Ty>, value: Ty) -> Result<Ty, AllocError> {
+    Ok(Ty::Oper(arguments, Boxed::new(alloc, value)?))
+}
+
 impl Postfix {
     fn last(&mut self) -> Ty {
         match self.types.pop() {
@@ -45,63 +66,85 @@ impl Postfix {
     fn function(&mut self) -> Result<Ty, AllocError> {
         let value = self.last();
         let argument = self.last();
-        Ok(Ty::Fun(
-            Boxed::new(self.alloc, argument)?,
-            Boxed::new(self.alloc, value)?,
-        ))
+        function_of(self.alloc, argument, value)
     }
 
     fn operator(&mut self) -> Result<Ty, AllocError> {
         let value = self.last();
         let arguments = self.all();
-        Ok(Ty::Oper(arguments, Boxed::new(self.alloc, value)?))
+        operator_of(self.alloc, arguments, value)
+    }
+
+    // A type of no others.
+    fn leaf(&mut self, byte: u8) -> Result<Ty, AllocError> {
+        match byte {
+            b'i' => Ok(Ty::Int),
+            b's' => Ok(Ty::Str),
+            b'u' => named(self.alloc, b'U'),
+            b'w' => named(self.alloc, b'W'),
+            b'0'..=b'9' => Ok(Ty::Var((byte - b'0') as u32)),
+            _ => Ok(Ty::Bool),
+        }
     }
 
     fn made(&mut self, byte: u8) -> Result<Ty, AllocError> {
         match byte {
-            b'i' => Ok(Ty::Int),
-            b's' => Ok(Ty::Str),
-            b'u' => Ok(Ty::Named(text(self.alloc, b'U')?)),
-            b'w' => Ok(Ty::Named(text(self.alloc, b'W')?)),
-            b'0'..=b'9' => Ok(Ty::Var((byte - b'0') as u32)),
-            b'S' => {
-                let item = self.last();
-                Ok(Ty::Set(Boxed::new(self.alloc, item)?))
-            }
-            b'Q' => {
-                let item = self.last();
-                Ok(Ty::Seq(Boxed::new(self.alloc, item)?))
-            }
+            b'S' => set_of(self.alloc, self.last()),
+            b'Q' => sequence_of(self.alloc, self.last()),
             b'>' => self.function(),
             b'O' => self.operator(),
             b'T' => Ok(Ty::Tup(self.all())),
             b'R' => Ok(self.record(None)),
             b'A'..=b'E' => Ok(self.record(Some((byte - b'A') as u32))),
-            _ => Ok(Ty::Bool),
+            _ => self.leaf(byte),
         }
+    }
+
+    fn add_field(&mut self, byte: u8) -> Result<(), AllocError> {
+        let name = text(self.alloc, byte)?;
+        let t = self.last();
+        self.fields.push((name, t))?;
+        Ok(())
+    }
+
+    fn add_type(&mut self, byte: u8) -> Result<(), AllocError> {
+        let t = self.made(byte)?;
+        self.types.push(t)?;
+        Ok(())
     }
 
     fn step(&mut self, byte: u8) -> Result<(), AllocError> {
         if byte == b'f' || byte == b'g' || byte == b'h' {
-            let t = self.last();
-            let name = text(self.alloc, byte)?;
-            self.fields.push((name, t))?;
+            self.add_field(byte)
         } else {
-            let t = self.made(byte)?;
-            self.types.push(t)?;
+            self.add_type(byte)
         }
-        Ok(())
+    }
+
+    fn read(&mut self, word: &str) -> Result<Ty, AllocError> {
+        for byte in word.as_bytes() {
+            self.step(*byte)?;
+        }
+        Ok(self.last())
     }
 }
 
-pub fn type_of(alloc: Global, word: &str) -> Result<Ty, AllocError> {
+/// The type that a word says.
+pub(crate) fn type_of(alloc: Global, word: &str) -> Result<Ty, AllocError> {
     let mut p = Postfix {
         alloc,
         types: Vec::new(alloc),
         fields: Vec::new(alloc),
     };
-    for byte in word.as_bytes() {
-        p.step(*byte)?;
-    }
-    Ok(p.last())
+    let read = p.read(word);
+    drop(p);
+    read
+}
+
+/// The types of two words with a blank between them.
+pub(crate) fn types_of(alloc: Global, words: &str) -> Result<(Ty, Ty), AllocError> {
+    let (left, right) = words.split_once(" ").unwrap_or((words, ""));
+    let a = type_of(alloc, left)?;
+    let b = type_of(alloc, right)?;
+    Ok((a, b))
 }

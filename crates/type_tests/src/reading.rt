@@ -6,6 +6,7 @@ ghost use Rattle.snowcat_rows.specs.Readings.{IsReadAs};
 ghost use Rattle.snowcat_rows.specs.Renamings.{Variants};
 
 use crate::cases::READINGS;
+use crate::passing::{Teller, first_wrong, passes};
 use snowcat_rows::{
     Ty, TypeTextFault, read_type, said_types_are_spellable, show_type, shown_types_are_read_back,
 };
@@ -18,54 +19,73 @@ fn text_of(alloc: Global, word: &str) -> Result<Text, AllocError> {
     Ok(Text::from_vec(bytes))
 }
 
+fn alias_of(alloc: Global, word: &str) -> Result<(Text, Text), AllocError> {
+    let (name, text) = word.split_once("=").unwrap_or(("", ""));
+    let name = text_of(alloc, name)?;
+    let text = text_of(alloc, text)?;
+    Ok((name, text))
+}
+
 fn aliases_of(alloc: Global, words: &str) -> Result<List<(Text, Text)>, AllocError> {
-    let mut aliases = Vec::new(alloc);
+    let mut aliases = List::new(alloc);
     for word in words.split(";") {
-        let (name, text) = word.split_once("=").unwrap_or(("", ""));
-        let name = text_of(alloc, name)?;
-        let text = text_of(alloc, text)?;
-        aliases.push((name, text))?;
+        aliases.push(alias_of(alloc, word)?)?;
     }
-    Ok(List::from_vec(aliases))
+    Ok(aliases)
 }
 
-fn show_fault(alloc: Global, fault: &TypeTextFault) -> Result<Vec<u8>, AllocError> {
-    match fault {
-        TypeTextFault::BadType(at) => {
-            let text = format!(in alloc; "bad {at}")?;
-            Vec::from_slice(alloc, text.as_bytes())
-        }
-        TypeTextFault::UnknownAlias(name) => {
-            let mut out = Vec::from_slice(alloc, b"unknown ")?;
-            out.extend_from_slice(name.bytes())?;
-            Ok(out)
-        }
-        TypeTextFault::Memory(_) => Vec::from_slice(alloc, b"memory"),
-    }
+fn put_bad(alloc: Global, at: usize, out: &mut Vec<u8>) -> Result<(), AllocError> {
+    let text = format!(in alloc; "bad {at}")?;
+    out.extend_from_slice(text.as_bytes())
 }
 
-fn show_answer(alloc: Global, answer: &Result<Ty, TypeTextFault>) -> Result<Vec<u8>, AllocError> {
+fn put_unknown(name: &Text, out: &mut Vec<u8>) -> Result<(), AllocError> {
+    out.extend_from_slice(b"unknown ")?;
+    out.extend_from_slice(name.bytes())
+}
+
+fn put_answer(
+    alloc: Global,
+    answer: &Result<Ty, TypeTextFault>,
+    out: &mut Vec<u8>,
+) -> Result<(), AllocError> {
     match answer {
-        Ok(t) => {
-            let mut out = Vec::new(alloc);
-            show_type(alloc, t, &mut out)?;
-            Ok(out)
-        }
-        Err(fault) => show_fault(alloc, fault),
+        Ok(t) => show_type(alloc, t, out),
+        Err(TypeTextFault::BadType(at)) => put_bad(alloc, *at, out),
+        Err(TypeTextFault::UnknownAlias(name)) => put_unknown(name, out),
+        Err(TypeTextFault::Memory(_)) => out.extend_from_slice(b"memory"),
     }
 }
 
-fn answered(alloc: Global, words: &str, text: &[u8]) -> Result<Vec<u8>, AllocError> {
-    let aliases = aliases_of(alloc, words)?;
-    let answer = read_type(alloc, text, &aliases);
-    show_answer(alloc, &answer)
+fn put_told(
+    alloc: Global,
+    answer: Result<Ty, TypeTextFault>,
+    out: &mut Vec<u8>,
+) -> Result<(), AllocError> {
+    let put = put_answer(alloc, &answer, out);
+    drop(answer);
+    put
 }
 
-fn is_read(alloc: Global, line: &str) -> Result<bool, AllocError> {
-    let (words, rest) = line.split_once(" | ").unwrap_or(("", line));
-    let (text, want) = rest.split_once(" ;; ").unwrap_or((rest, ""));
-    let out = answered(alloc, words, text.as_bytes())?;
-    Ok(out.as_slice() == want.as_bytes())
+// What the text says where these aliases are known.
+fn put_read(alloc: Global, words: &str, text: &str, out: &mut Vec<u8>) -> Result<(), AllocError> {
+    let aliases = aliases_of(alloc, words)?;
+    put_told(alloc, read_type(alloc, text.as_bytes(), &aliases), out)
+}
+
+struct Readings;
+
+impl Teller for Readings {
+    fn tell(
+        &self,
+        alloc: Global,
+        asked: &str,
+        _wanted: &str,
+        out: &mut Vec<u8>,
+    ) -> Result<(), AllocError> {
+        let (words, text) = asked.split_once(" | ").unwrap_or(("", asked));
+        put_read(alloc, words, text, out)
+    }
 }
 
 // The type of a text, read again from what is shown of it: the same but for the numbers of its variables.
@@ -83,38 +103,54 @@ fn read_again(alloc: Global, text: &[u8], aliases: &List<(Text, Text)>) -> Resul
 }
 
 // What is shown of a type is read back as the same type.
-fn is_read_back(alloc: Global, line: &str) -> Result<bool, AllocError> {
-    let (_, want) = line.split_once(" ;; ").unwrap_or(("", ""));
-    if want.starts_with("bad ") || want.starts_with("unknown ") {
-        return Ok(true);
+struct ReadBack;
+
+impl Teller for ReadBack {
+    fn tell(
+        &self,
+        alloc: Global,
+        _asked: &str,
+        wanted: &str,
+        out: &mut Vec<u8>,
+    ) -> Result<(), AllocError> {
+        if wanted.starts_with("bad ") || wanted.starts_with("unknown ") {
+            return out.extend_from_slice(wanted.as_bytes());
+        }
+        put_read(alloc, "", wanted, out)
     }
-    let out = answered(alloc, "", want.as_bytes())?;
-    Ok(out.as_slice() == want.as_bytes())
 }
 
 #[test]
 fn texts_say_these_types(rt: HostRuntime) -> Result<(), Fail> {
-    for line in READINGS.lines() {
-        assert!(rt; is_read(rt.alloc(), line)?, "{line}");
-    }
-    Ok(())
-}
-
-#[test]
-fn a_text_with_aliases_is_shown_and_read_again(rt: HostRuntime) -> Result<(), Fail> {
-    let aliases = aliases_of(rt.alloc(), "pair=<<a, b>>;open={f: a, r}")?;
-    let text = "<<b, $pair, {f: b, r}, $open>>";
-    let answer = read_again(rt.alloc(), text.as_bytes(), &aliases);
-    let out = show_answer(rt.alloc(), &answer)?;
-    let want = "<<a, <<b, c>>, {f: a, d}, {f: e, f}>>";
-    assert!(rt; out.as_slice() == want.as_bytes());
-    Ok(())
+    passes(&rt, first_wrong(rt.alloc(), &Readings, READINGS, " ;; "))
 }
 
 #[test]
 fn what_is_shown_is_read_back(rt: HostRuntime) -> Result<(), Fail> {
-    for line in READINGS.lines() {
-        assert!(rt; is_read_back(rt.alloc(), line)?, "{line}");
+    passes(&rt, first_wrong(rt.alloc(), &ReadBack, READINGS, " ;; "))
+}
+
+// A text with these aliases, and what is read again.
+const AGAIN: &str =
+    "pair=<<a, b>>;open={f: a, r} | <<b, $pair, {f: b, r}, $open>> ;; <<a, <<b, c>>, {f: a, d}, {f: e, f}>>";
+
+struct Again;
+
+impl Teller for Again {
+    fn tell(
+        &self,
+        alloc: Global,
+        asked: &str,
+        _wanted: &str,
+        out: &mut Vec<u8>,
+    ) -> Result<(), AllocError> {
+        let (words, text) = asked.split_once(" | ").unwrap_or(("", asked));
+        let aliases = aliases_of(alloc, words)?;
+        put_told(alloc, read_again(alloc, text.as_bytes(), &aliases), out)
     }
-    Ok(())
+}
+
+#[test]
+fn a_text_with_aliases_is_shown_and_read_again(rt: HostRuntime) -> Result<(), Fail> {
+    passes(&rt, first_wrong(rt.alloc(), &Again, AGAIN, " ;; "))
 }

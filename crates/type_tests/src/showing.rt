@@ -1,49 +1,84 @@
 //! The text of types.
 
 use crate::cases::{TEXTS, TOGETHER};
-use crate::postfix::type_of;
+use crate::passing::{Teller, first_wrong, passes};
+use crate::postfix::{type_of, types_of};
 use snowcat_rows::{Ty, renumbered, show_type};
 use std::alloc::{AllocError, Global};
 use std::test::Fail;
 
-fn is_shown(alloc: Global, line: &str) -> Result<bool, AllocError> {
-    let (word, want) = line.split_once(" => ").unwrap_or((line, ""));
-    let t = type_of(alloc, word)?;
-    let mut out = Vec::new(alloc);
-    show_type(alloc, &t, &mut out)?;
-    Ok(out.as_slice() == want.as_bytes())
+/// Shows a type. It ends by a call of `drop`, here and below, since its end at the end of a function has many cases.
+pub(crate) fn put_type(alloc: Global, t: Ty, out: &mut Vec<u8>) -> Result<(), AllocError> {
+    let shown = show_type(alloc, &t, out);
+    drop(t);
+    shown
 }
 
-fn show_both(alloc: Global, types: &(Ty, Ty)) -> Result<Vec<u8>, AllocError> {
-    let mut out = Vec::new(alloc);
-    show_type(alloc, &types.0, &mut out)?;
-    out.extend_from_slice(b", ")?;
-    show_type(alloc, &types.1, &mut out)?;
-    Ok(out)
+fn show_both(
+    alloc: Global,
+    types: &(Ty, Ty),
+    between: &str,
+    out: &mut Vec<u8>,
+) -> Result<(), AllocError> {
+    show_type(alloc, &types.0, out)?;
+    out.extend_from_slice(between.as_bytes())?;
+    show_type(alloc, &types.1, out)
+}
+
+/// Shows two types with this text between them.
+pub(crate) fn put_both(
+    alloc: Global,
+    types: (Ty, Ty),
+    between: &str,
+    out: &mut Vec<u8>,
+) -> Result<(), AllocError> {
+    let shown = show_both(alloc, &types, between, out);
+    drop(types);
+    shown
+}
+
+struct Texts;
+
+impl Teller for Texts {
+    fn tell(
+        &self,
+        alloc: Global,
+        asked: &str,
+        _wanted: &str,
+        out: &mut Vec<u8>,
+    ) -> Result<(), AllocError> {
+        put_type(alloc, type_of(alloc, asked)?, out)
+    }
+}
+
+fn numbered(alloc: Global, words: &str) -> Result<(Ty, Ty), AllocError> {
+    let types = types_of(alloc, words)?;
+    let numbered = renumbered(alloc, &types.0, &types.1);
+    drop(types);
+    numbered
 }
 
 // Two types with their variables numbered together.
-fn is_numbered(alloc: Global, line: &str) -> Result<bool, AllocError> {
-    let (words, want) = line.split_once(" => ").unwrap_or((line, ""));
-    let (left, right) = words.split_once(" ").unwrap_or((words, ""));
-    let a = type_of(alloc, left)?;
-    let b = type_of(alloc, right)?;
-    let out = show_both(alloc, &renumbered(alloc, &a, &b)?)?;
-    Ok(out.as_slice() == want.as_bytes())
+struct Together;
+
+impl Teller for Together {
+    fn tell(
+        &self,
+        alloc: Global,
+        asked: &str,
+        _wanted: &str,
+        out: &mut Vec<u8>,
+    ) -> Result<(), AllocError> {
+        put_both(alloc, numbered(alloc, asked)?, ", ", out)
+    }
 }
 
 #[test]
 fn two_types_have_their_letters_together(rt: HostRuntime) -> Result<(), Fail> {
-    for line in TOGETHER.lines() {
-        assert!(rt; is_numbered(rt.alloc(), line)?, "{line}");
-    }
-    Ok(())
+    passes(&rt, first_wrong(rt.alloc(), &Together, TOGETHER, " => "))
 }
 
 #[test]
 fn types_are_shown_as_users_write_them(rt: HostRuntime) -> Result<(), Fail> {
-    for line in TEXTS.lines() {
-        assert!(rt; is_shown(rt.alloc(), line)?, "{line}");
-    }
-    Ok(())
+    passes(&rt, first_wrong(rt.alloc(), &Texts, TEXTS, " => "))
 }
