@@ -1,7 +1,8 @@
 #!/usr/bin/env python3
-"""sections.py [--share] CERTIFICATE..: gives the formula of each section of a certificate to minisat, and prints how many sections,
-steps of logs and conflicts there are, and minisat's seconds. With --share the formula of the last question on an invariant
-alone, as it is and with equal gates made one: its clauses, conflicts and seconds."""
+"""sections.py [--share | --write FOLDER] CERTIFICATE..: gives the formula of each section of a certificate to minisat, and prints how
+many sections, steps of logs and conflicts there are, and minisat's seconds. With --share the formula of the last question on an
+invariant alone, as it is and with equal gates made one: its clauses, conflicts and seconds. With --write it writes the formula
+of each section into the folder instead, for measure.py and other solvers."""
 import os
 import resource
 import subprocess
@@ -51,9 +52,26 @@ def shared(clauses):
         else: table[key(gate, out, 1)] = out; kept += gate
     return kept + [tuple(map(now, it)) for it in rest]
 
-share = "--share" in sys.argv
-for path in [it for it in sys.argv[1:] if it != "--share"]:
+def write(folder, path):
+    """Writes a file NAME-LEVEL-QUESTION.cnf for each section."""
+    name = os.path.splitext(os.path.basename(path))[0]
+    for question, clauses, _ in sections(path):
+        count = max(abs(lit) for clause in clauses for lit in clause)
+        with open(os.path.join(folder, f"{name}-{question.replace(' ', '-')}.cnf"), "w") as file:
+            file.write(f"p cnf {count} {len(clauses)}\n")
+            file.writelines(" ".join(map(str, clause)) + " 0\n" for clause in clauses)
+
+arguments, folder = sys.argv[1:], None
+if "--write" in arguments:
+    at = arguments.index("--write")
+    folder = arguments[at + 1]
+    del arguments[at:at + 2]
+share = "--share" in arguments
+for path in [it for it in arguments if it != "--share"]:
     name = os.path.basename(path)
+    if folder is not None:
+        write(folder, path)
+        continue
     if share:
         clauses = [it for question, it, _ in sections(path) if question.endswith("inv-false")][-1]
         for what, them in (("as it is", clauses), ("shared", shared(clauses))):
