@@ -4,17 +4,27 @@ use std::alloc::{AllocError, Global};
 
 /// A score for each variable, which gains at each conflict that the variable was seen in, and falls
 /// with those that it was not seen in. (Moskewicz and others, "Chaff: Engineering an Efficient SAT
-/// Solver", 2001; Eén and Sörensson, "An Extensible SAT-solver", 2003.)
+/// Solver", 2001; Eén and Sörensson, "An Extensible SAT-solver", 2003; Audemard and Simon, "Glucose
+/// 2.1", 2012, on scores that fall slower in time.)
 #[derive(Drop)]
 pub struct Scores {
     scores: Vec<u64>,
     // What a score gains at a conflict. It grows, in place of every score's falling.
     gain: u64,
+    conflicts: u64,
 }
 
 const LEAST_GAIN: u64 = 1 << 16;
 
 const GREATEST_GAIN: u64 = 1 << 48;
+
+// The part of itself by which the gain grows, at first and at the end, and the number of conflicts
+// that make it less by one step.
+const FIRST_PART: u64 = 16;
+
+const LAST_PART: u64 = 64;
+
+const SLOWER_EVERY: u64 = 256;
 
 impl Scores {
     /// No variable below `vars` has been seen.
@@ -23,6 +33,7 @@ impl Scores {
         Ok(Scores {
             scores,
             gain: LEAST_GAIN,
+            conflicts: 0,
         })
     }
 
@@ -39,8 +50,11 @@ impl Scores {
     }
 
     /// Goes on to the next conflict. The order of the scores stays, but that some become the same.
+    /// Scores fall fast at first and slower with each conflict, since no clause is forgotten.
     pub fn age(&mut self) {
-        self.gain = self.gain.saturating_add(self.gain / 16);
+        self.conflicts = self.conflicts.saturating_add(1);
+        let part = LAST_PART.min(FIRST_PART + self.conflicts / SLOWER_EVERY);
+        self.gain = self.gain.saturating_add(self.gain / part);
         if self.gain > GREATEST_GAIN {
             self.gain = LEAST_GAIN;
             for score in self.scores.iter_mut() {

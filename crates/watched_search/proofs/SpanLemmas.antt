@@ -1,14 +1,19 @@
-use Rattle.std.proofs.Common.{◌≡◌, ℕ, ◌+◌, ◌-◌, ◌*◌, ◌/◌, ◌%◌, ◌<◌, ◌≤◌, inl, inr, Bool, true, false, Option, None, set, append_assoc, List, [], ◌∷◌, ◌++◌, length, map, take, drop, get_or, All, refl, ◌∙◌, ap, arith, length-drop}
-use Rattle.std.specs.Prelude.{nat_eq, if◌then◌else◌}
+use Rattle.std.proofs.Common.{◌≡◌, ℕ, ◌+◌, ◌-◌, ◌*◌, ◌/◌, ◌%◌, ◌<◌, ◌≤◌, inl, inr, Bool, true, false, not, Option, None, set, append_assoc, List, [], ◌∷◌, ◌++◌, length, map, take, drop, get_or, All, refl, ◌∙◌, ap, arith, length-drop}
+use Rattle.std.specs.Prelude.{nat_eq, if◌then◌else◌, bit_and, bit_xor}
+use Rattle.std.specs.Int.Bits.{xor_add_and}
 use Rattle.std.proofs.lemmas.Bool.{eq-eqb}
 use Rattle.std.proofs.lemmas.Bool.Decides.{eqb_tells}
+use Rattle.std.proofs.lemmas.Nat.{and_mask}
 use Rattle.std.proofs.Math.Seq.{drop-append_seam}
+use Rattle.refutation_checker.specs.Follows.{negation}
 use Rattle.refutation_checker.proofs.TrailLemmas.{Lit-same}
 use Rattle.std.proofs.lemmas.List.{length-map, get_or-map, take_all, take-append-le, drop-append-le, map-append, map-set}
 use Rattle.std.proofs.lemmas.List.Elements.{All-head, All-tail}
 use Rattle.sat_formula.specs.declared.lit.Lit.{Lit}
 use Rattle.watched_search.specs.declared.clauses.Span.{Span}
+use Rattle.sat_formula.specs.Lit.{top_lit}
 use Rattle.watched_search.specs.Codes.{code}
+use Rattle.watched_search.specs.Searching.{lit_at}
 use Rattle.watched_search.specs.inner.Spans.{literal, literals_in, IsWithin, watching, watching_in}
 
 -- codes and literals
@@ -28,6 +33,23 @@ rest_of r lt = elim (eqb_tells r 1) [
 
 pub code-literal : (n : ℕ) → code (literal n) ≡ n
 code-literal n = let r = rest_of (n % 2) (omega arith) in omega arith
+
+rest_not : (r : ℕ) → r < 2 → (if not (nat_eq r 1) then 1 else 0) + r ≡ 1
+rest_not r lt = elim (eqb_tells r 1) [
+  | inl p ↦ rw p.0 (let at = p.1 in omega arith)
+  | inr p ↦ rw p.0 (let at = p.1 in omega arith)
+]
+
+-- a literal's code and its negation's differ in the last bit
+pub code-negation : (n : ℕ) → code (negation (literal n)) ≡ bit_xor n 1
+code-negation n =
+    let both = xor_add_and n 1 in
+    let last : bit_and n 1 ≡ n % 2 = and_mask n 1 in
+    let r = rest_not (n % 2) (omega arith) in
+    omega arith
+
+pub literal_at : (codes : List ℕ) (k d : ℕ) → k < length codes → lit_at (map (λ n. literal n) codes) k ≡ literal (get_or codes k d)
+literal_at codes k d lt = get_or-map (λ n. literal n) codes k d top_lit lt
 
 literals_of-codes : (c : List Lit) → map (λ n. literal n) (map code c) ≡ c
 literals_of-codes [] = refl

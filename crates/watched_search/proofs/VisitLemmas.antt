@@ -1,6 +1,6 @@
-use Rattle.std.proofs.Common.{◌≡◌, ℕ, ◌+◌, ◌-◌, ◌<◌, ◌≤◌, ◌⊎◌, inl, inr, Bool, true, false, All, List, [], ◌∷◌, ◌++◌, length, Some, None, refl, sym, ◌∙◌, ap, subst, arith}
-use Rattle.std.specs.Prelude.{Contains, nat_lt}
-use Rattle.std.proofs.lemmas.Bool.{cases_lt, lt-ltb, ltb-true}
+use Rattle.std.proofs.Common.{◌≡◌, ℕ, ◌≤◌, ◌⊎◌, inl, inr, Option, List, [], ◌∷◌, ◌++◌, length, Some, None, refl, sym, ◌∙◌, ap, subst, arith}
+use Rattle.std.specs.Prelude.{Contains}
+use Rattle.std.proofs.lemmas.Bool.{cases_lt}
 use Rattle.std.proofs.lemmas.List.{get_or_default}
 use Rattle.std.proofs.lemmas.List.Elements.{All-weaker, Contains-push}
 use Rattle.sat_formula.specs.declared.lit.Lit.{Lit}
@@ -10,10 +10,10 @@ use Rattle.watch_chains.specs.declared.link.Link.{Link}
 use Rattle.watch_chains.specs.Watches.{IsSlot}
 use Rattle.watched_search.specs.declared.entry.Entry.{Entry}
 use Rattle.watched_search.specs.Trail.{TrailView, lits_of, IsFree}
-use Rattle.watched_search.specs.Searching.{clause_at, lit_at, HasTrue, IsForced}
+use Rattle.watched_search.specs.Searching.{clause_at, HasTrue, IsForced}
 use Rattle.watched_search.specs.inner.Keeping.{Watched, other_of, watch_at, IsPaired, IsKept}
 use Rattle.watched_search.specs.inner.Moving.{IsAt, IsMoved}
-use Rattle.watched_search.specs.inner.Visiting.{IsReplacement, turned_by, Advances}
+use Rattle.watched_search.specs.inner.Visiting.{IsReplacement, IsReplacementIn, Advances}
 use Rattle.watched_search.proofs.TrailLemmas.{lits-append}
 use Rattle.watched_search.proofs.PairLemmas.{pair_of, some_same}
 use Rattle.watched_search.proofs.MoveLemmas.{at_slot}
@@ -62,25 +62,12 @@ Advances-move w new t l v i k h paired s moved free =
       kept = λ p kept. subst (λ (x : Watched). IsKept x t p) (sym moved.same) (IsKept-move w t p k v new.chains (omega arith) free kept);
     }
 
-not_ltb : (b : Bool) → (b ≡ true → ⊥) → b ≡ false
-not_ltb true h = absurd (h refl)
-not_ltb false h = refl
-
--- going round from a mark on, each place is come to
-turned_before : (mark i size : ℕ) → i < size - mark → turned_by mark i size ≡ mark + i
-turned_before mark i size lt = rw (lt-ltb i (size - mark) lt) refl
-
-turned_behind : (mark i size : ℕ) → (i < size - mark → ⊥) → turned_by mark i size ≡ i - (size - mark)
-turned_behind mark i size ge = rw (not_ltb (nat_lt i (size - mark)) (λ e. ge (ltb-true i (size - mark) e))) refl
-
-pub turned_all : (P : Lit → Type 0) (lits : List Lit) (mark size : ℕ) → mark ≤ size → size ≡ length lits → ((i : ℕ) → i < size → P (lit_at lits (turned_by mark i size))) → All P lits
-turned_all P lits mark size le long each = λ k d lt. subst P (get_or_default lits k top_lit d lt) (elim (cases_lt k mark) [
-  | inl before ↦
-      (let i = size - mark + k in
-      let at : turned_by mark i size ≡ k = turned_behind mark i size (λ bad. omega arith) ∙ omega arith in
-      subst (λ (n : ℕ). P (lit_at lits n)) at (each i (omega arith)))
-  | inr behind ↦
-      (let i = k - mark in
-      let at : turned_by mark i size ≡ k = turned_before mark i size (omega arith) ∙ omega arith in
-      subst (λ (n : ℕ). P (lit_at lits n)) at (each i (omega arith)))
-])
+-- from a mark on, and then up to it, each place is come to
+pub looked_round : (T c : List Lit) (other : Lit) (mark : ℕ) (found : Option ℕ) → mark ≤ length c
+    → IsReplacementIn T c other mark (length c) None → IsReplacementIn T c other 0 mark found → IsReplacement T c other found
+looked_round T c other mark (Some k) le behind before = (let lt = before.0 in omega arith, before.1, before.2)
+looked_round T c other mark None le behind before = λ k d lt.
+    subst (λ (l : Lit). (l ≡ other) ⊎ Contains T (negation l)) (get_or_default c k top_lit d lt) (elim (cases_lt k mark) [
+      | inl front ↦ before k (omega arith) front
+      | inr back ↦ behind k (omega arith) lt
+    ])

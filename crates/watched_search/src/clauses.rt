@@ -5,6 +5,7 @@ ghost use Rattle.std.specs.Vec.{vec_capacity};
 ghost use Rattle.sat_formula.specs.Lit.{IsBelow};
 ghost use Rattle.watched_search.specs.Codes.{code};
 ghost use Rattle.watched_search.specs.Searching.{clause_at, lit_at};
+ghost use Rattle.watched_search.specs.inner.Spans.{literal};
 
 use crate::codes::{code_of, literal_of};
 use sat_formula::Lit;
@@ -77,6 +78,15 @@ impl Store {
         let span = self.spans[c];
         let number = self.codes[span.start as usize + k];
         literal_of(number as usize)
+    }
+
+    /// The codes of the clause's literals.
+    pub fn codes(&self, c: usize) -> &[u32]
+        requires { c < length self.now }
+        ensures { map (λ n. literal n) result.now ≡ clause_at self.now c }
+    {
+        let span = self.spans[c];
+        &self.codes[span.start as usize..span.end as usize]
     }
 
     /// A place of the clause, or its end: the one that was marked last, or the first.

@@ -1,6 +1,6 @@
 //! Clauses with two literals that watch each.
 
-ghost use Rattle.std.specs.Prelude.{◌≡◌, ◌≢◌, ◌+◌, ◌*◌, ◌^◌, ◌<◌, ◌≤◌, ◌++◌, ◌∷◌, [], length, replicate, IfOk, OnOk, OnErr, All, Contains, slice_index_or, Some};
+ghost use Rattle.std.specs.Prelude.{◌≡◌, ◌≢◌, ◌+◌, ◌*◌, ◌^◌, ◌<◌, ◌≤◌, ◌++◌, ◌∷◌, [], length, map, replicate, IfOk, OnOk, OnErr, All, Contains, slice_index_or, Some};
 ghost use Rattle.sat_formula.specs.declared.lit.Lit.{Lit as Literal};
 ghost use Rattle.sat_formula.specs.Lit.{IsBelow};
 ghost use Rattle.watch_chains.specs.declared.link.Link.{Link as Place};
@@ -9,7 +9,7 @@ ghost use Rattle.watch_chains.specs.Watches.{list_at, IsSlot};
 ghost use Rattle.watched_search.specs.Codes.{code};
 ghost use Rattle.watched_search.specs.Searching.{clause_at, lit_at};
 ghost use Rattle.watched_search.specs.inner.Keeping.{slot_of, other_of, watch_at, IsPaired};
-ghost use Rattle.watched_search.specs.inner.Spans.{watching, IsSmall};
+ghost use Rattle.watched_search.specs.inner.Spans.{literal, watching, IsSmall};
 ghost use Rattle.watched_search.specs.inner.Lists.{link_of as link_in, no_list, IsRoomier, MakesRoom};
 ghost use Rattle.watched_search.specs.inner.Moving.{IsAt, IsMoved, IsPair, IsAdded};
 
@@ -118,6 +118,15 @@ impl WatchedClauses {
         ensures below { result.var < self.now.vars }
     {
         self.store.lit(c, k)
+    }
+
+    /// The codes of the clause's literals, which are read faster than the literals.
+    pub fn codes(&self, c: usize) -> &[u32]
+        requires { c < length self.now.clauses }
+        ensures same { map (λ n. literal n) result.now ≡ clause_at self.now.clauses c }
+        ensures below { All (IsBelow self.now.vars) (clause_at self.now.clauses c) }
+    {
+        self.store.codes(c)
     }
 
     /// A place of the clause, or its end: the one that was marked last, or the first.

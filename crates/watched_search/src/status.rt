@@ -1,10 +1,13 @@
 //! What a clause is under a trail.
 
-ghost use Rattle.std.specs.Prelude.{◌≡◌, ◌<◌, ◌≤◌, length};
+ghost use Rattle.std.specs.Prelude.{◌≡◌, ◌<◌, ◌≤◌, length, map, All};
+ghost use Rattle.sat_formula.specs.Lit.{IsBelow};
 ghost use Rattle.watched_search.specs.Trail.{lits_of};
 ghost use Rattle.watched_search.specs.Searching.{clause_at};
-ghost use Rattle.watched_search.specs.inner.Visiting.{IsStatus, IsReplacement, turned_by};
+ghost use Rattle.watched_search.specs.inner.Spans.{literal};
+ghost use Rattle.watched_search.specs.inner.Visiting.{IsStatus, IsReplacement, IsReplacementIn};
 
+use crate::codes::literal_of;
 use crate::pairing::WatchedClauses;
 use crate::trail::Trail;
 use sat_formula::Lit;
@@ -53,30 +56,27 @@ pub fn replacement(watched: &WatchedClauses, trail: &Trail, c: usize, other: Lit
     requires room { watched.now.vars ≡ trail.now.room }
     ensures { IsReplacement (lits_of trail.now.entries) (clause_at watched.now.clauses c) other result }
 {
-    let size = watched.size(c);
+    let codes = watched.codes(c);
     let mark = watched.mark(c);
-    for i in 0..size {
-        let k = turned(mark, i, size);
-        let l = watched.lit(c, k);
-        if !trail.is_true(l.negated()) {
-            if l != other {
+    match replacement_in(codes, trail, mark, codes.len(), other) {
+        Some(k) => Some(k),
+        None => replacement_in(codes, trail, 0, mark, other),
+    }
+}
+
+// The first place from `from` on and before `to` whose literal is not false and another one.
+fn replacement_in(codes: &[u32], trail: &Trail, from: usize, to: usize, other: Lit) -> Option<usize>
+    requires within { to ≤ length codes.now }
+    requires below { All (IsBelow trail.now.room) (map (λ n. literal n) codes.now) }
+    ensures { IsReplacementIn (lits_of trail.now.entries) (map (λ n. literal n) codes.now) other from to result }
+{
+    for k in from..to {
+        let code = codes[k];
+        if !trail.is_false(code) {
+            if literal_of(code as usize) != other {
                 return Some(k);
             }
         }
     }
     None
-}
-
-// The place that is `i` places behind the mark, where the first place follows the last.
-fn turned(mark: usize, i: usize, size: usize) -> usize
-    requires mark { mark ≤ size }
-    requires place { i < size }
-    ensures same { result ≡ turned_by mark i size }
-    ensures within { result < size }
-{
-    if i < size - mark {
-        mark + i
-    } else {
-        i - (size - mark)
-    }
 }

@@ -2,8 +2,10 @@
 
 ghost use Rattle.std.specs.Prelude.{◌≡◌, ◌+◌, ◌-◌, ◌<◌, ◌↔◌, ◌++◌, ◌∷◌, [], length, IfOk, IsTrue, All, AllPairs, Contains, slice_get, take};
 ghost use Rattle.std.specs.Vec.{vec_capacity};
+ghost use Rattle.refutation_checker.specs.Follows.{negation};
 ghost use Rattle.refutation_checker.specs.Marks.{TellsValue};
 ghost use Rattle.watched_search.specs.Trail.{lits_of, IsFree, IsPlaceOf, IsTrail, starts_below, starts_from};
+ghost use Rattle.watched_search.specs.inner.Spans.{literal};
 ghost use Rattle.watched_search.specs.inner.Tables.{Marked, Truths};
 
 use crate::Entry;
@@ -107,6 +109,15 @@ impl Trail {
     {
         let _ = &self.entries;
         self.truths[code_of(l)]
+    }
+
+    /// Whether the literal of this code is false.
+    pub fn is_false(&self, code: u32) -> bool
+        requires { (literal code).var < self.now.room }
+        ensures { IsTrue result ↔ Contains (lits_of self.now.entries) (negation (literal code)) }
+    {
+        let _ = &self.entries;
+        self.truths[(code ^ 1) as usize]
     }
 
     /// Where the entry of this variable stands; `None` where it has no value.

@@ -1,5 +1,5 @@
 -- What looking at clauses finds and changes.
-use Rattle.std.specs.Prelude.{◌≡◌, ◌≢◌, ℕ, ◌+◌, ◌-◌, ◌<◌, ◌⊎◌, ◌++◌, List, length, All, Contains, MatchOption, Bool, true, nat_lt, if◌then◌else◌, Option, Some, None}
+use Rattle.std.specs.Prelude.{◌≡◌, ◌≢◌, ℕ, ◌<◌, ◌≤◌, ◌⊎◌, ◌++◌, List, length, All, Contains, MatchOption, Bool, true, Option, Some, None}
 use Rattle.sat_formula.specs.declared.lit.Lit.{Lit}
 use Rattle.refutation_checker.specs.Follows.{negation, IsFalse, IsUnit}
 use Rattle.watch_chains.specs.declared.link.Link.{Link}
@@ -29,9 +29,10 @@ abbrev pub IsReplacement : List Lit → List Lit → Lit → Option ℕ → Type
 IsReplacement T c other None = All (λ m. (m ≡ other) ⊎ Contains T (negation m)) c
 IsReplacement T c other (Some k) = (k < length c) × (lit_at c k ≢ other) × (Contains T (negation (lit_at c k)) → ⊥)
 
--- the place that is i places behind the mark, where the first of so many follows the last
-abbrev pub turned_by : ℕ → ℕ → ℕ → ℕ
-turned_by mark i size = if nat_lt i (size - mark) then mark + i else i - (size - mark)
+-- the same among the places from `from` on and before `to`
+abbrev pub IsReplacementIn : List Lit → List Lit → Lit → ℕ → ℕ → Option ℕ → Type 0
+IsReplacementIn T c other from to None = (k : ℕ) → from ≤ k → k < to → (lit_at c k ≡ other) ⊎ Contains T (negation (lit_at c k))
+IsReplacementIn T c other from to (Some k) = (k < to) × (lit_at c k ≢ other) × (Contains T (negation (lit_at c k)) → ⊥)
 
 -- forced entries were added, over the same variables
 pub record IsDriven (clauses : List (List Lit)) (old new : TrailView) : Type 0 where
