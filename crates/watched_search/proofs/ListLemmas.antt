@@ -11,12 +11,11 @@ use Rattle.watch_chains.specs.declared.link.Link.{Link}
 use Rattle.watch_chains.specs.Chains.{place_of}
 use Rattle.watch_chains.specs.Watches.{list_at}
 use Rattle.watched_search.specs.declared.lists.Watch.{Watch}
-use Rattle.watched_search.specs.Codes.{code}
+use Rattle.watched_search.specs.Codes.{code, literal}
 use Rattle.watched_search.specs.Searching.{clause_at}
 use Rattle.watched_search.specs.inner.Keeping.{Watched, slot_of, other_of, watch_at, IsPaired}
 use Rattle.watched_search.specs.inner.Lists.{ListView, no_list, row_at, link_of, links_of, links_in, IsBlocked, AreBlocked, HasRoom}
 use Rattle.watched_search.specs.inner.Moving.{IsAt}
-use Rattle.watched_search.specs.inner.Spans.{literal}
 use Rattle.watched_search.proofs.CodeLemmas.{code-below}
 use Rattle.watched_search.proofs.SpanLemmas.{literal-code}
 use Rattle.watched_search.proofs.PairLemmas.{pair_of, linked_at, clause_apart}
@@ -56,13 +55,6 @@ module _ (rows : List ListView) (z i : ℕ) (k : Link) (w : Watch) (lt : i < len
   blocked_at clauses within all =
       let long = links_long rows z in
       rw read at (all z no_list within i w (omega arith))
-
-  pub blocker_in : (clauses : List (List Lit)) (b : Lit) → z < length rows → All (AreBlocked clauses) rows → code b ≡ w.blocker → Contains (clause_at clauses k.clause) b
-  blocker_in clauses b within all e =
-      let blocked = blocked_at clauses within all in
-      let is : literal w.blocker ≡ b = ap (λ (n : ℕ). literal n) (sym e) ∙ literal-code b in
-      let c : w.link / 2 ≡ k.clause = ap (λ (x : Link). x.clause) link_is in
-      subst (λ (n : ℕ). Contains (clause_at clauses n) b) c (rw is at blocked.member)
 
 -- another literal is at hand
 module _ (rows : List ListView) (z i : ℕ) (w new : Watch) (r : ListView) (within : z < length rows) (lt : i < length (row_at rows z).watches) (read : get_or (row_at rows z).watches i w ≡ w)

@@ -12,9 +12,9 @@ use Rattle.std.proofs.lemmas.List.Elements.{All-head, All-tail}
 use Rattle.sat_formula.specs.declared.lit.Lit.{Lit}
 use Rattle.watched_search.specs.declared.clauses.Span.{Span}
 use Rattle.sat_formula.specs.Lit.{top_lit}
-use Rattle.watched_search.specs.Codes.{code}
+use Rattle.watched_search.specs.Codes.{code, literal}
 use Rattle.watched_search.specs.Searching.{lit_at}
-use Rattle.watched_search.specs.inner.Spans.{literal, literals_in, IsWithin, watching, watching_in}
+use Rattle.watched_search.specs.inner.Spans.{literals_in, IsWithin, watching, watching_in}
 
 -- codes and literals
 

@@ -65,7 +65,7 @@ Advances-move w new t l v i k h paired s moved free =
 -- from a mark on, and then up to it, each place is come to
 pub looked_round : (T c : List Lit) (other : Lit) (mark : ℕ) (found : Option ℕ) → mark ≤ length c
     → IsReplacementIn T c other mark (length c) None → IsReplacementIn T c other 0 mark found → IsReplacement T c other found
-looked_round T c other mark (Some k) le behind before = (let lt = before.0 in omega arith, before.1, before.2)
+looked_round T c other mark (Some k) le behind before = (let lt = before.1 in omega arith, before.2, before.3)
 looked_round T c other mark None le behind before = λ k d lt.
     subst (λ (l : Lit). (l ≡ other) ⊎ Contains T (negation l)) (get_or_default c k top_lit d lt) (elim (cases_lt k mark) [
       | inl front ↦ before k (omega arith) front

@@ -1,17 +1,23 @@
-use Rattle.std.proofs.Common.{◌≡◌, ℕ, ◌+◌, ◌<◌, ◌≤◌, List, [], ◌∷◌, ◌++◌, length, take, get_or, All, None, refl, sym, ◌∙◌, ap, subst, arith, append_assoc}
+use Rattle.std.proofs.Common.{◌≡◌, ℕ, ◌+◌, ◌/◌, ◌<◌, ◌≤◌, inl, inr, Bool, true, false, List, [], ◌∷◌, ◌++◌, length, take, get_or, All, None, refl, sym, ◌∙◌, ap, subst, arith, append_assoc}
 use Rattle.std.specs.Prelude.{Contains}
-use Rattle.std.proofs.lemmas.List.{append-nil, take_all, take_more}
-use Rattle.std.proofs.lemmas.List.Elements.{All-push, All-weaker, Contains-append_left}
+use Rattle.std.proofs.lemmas.Bool.{cases_lt}
+use Rattle.std.proofs.lemmas.List.{append-nil, get_or-map, get_or-take, length-map, length-take, take_all, take_more}
+use Rattle.std.proofs.lemmas.List.Elements.{All-contains, All-push, All-weaker, Contains-append_left}
 use Rattle.sat_formula.specs.declared.lit.Lit.{Lit}
+use Rattle.sat_formula.specs.Lit.{IsBelow}
 use Rattle.watch_chains.specs.declared.link.Link.{Link}
 use Rattle.watch_chains.specs.Watches.{list_at}
 use Rattle.watched_search.specs.declared.entry.Entry.{Entry}
-use Rattle.watched_search.specs.Codes.{code}
+use Rattle.watched_search.specs.declared.lists.Watch.{Watch}
+use Rattle.watched_search.specs.Codes.{code, literal}
 use Rattle.watched_search.specs.Trail.{TrailView, lits_of}
 use Rattle.watched_search.specs.Searching.{clause_at, HasTrue, IsForced, Forced}
 use Rattle.watched_search.specs.inner.Keeping.{Watched, IsPaired}
+use Rattle.watched_search.specs.inner.Lists.{link_of, links_of, IsBlocked}
 use Rattle.watched_search.specs.inner.Moving.{IsAt, IsMoved}
-use Rattle.watched_search.specs.inner.Visiting.{IsDriven, Advances, IsWalked}
+use Rattle.watched_search.specs.inner.Tables.{Truths}
+use Rattle.watched_search.specs.inner.Visiting.{IsDriven, IsFirstOpen, Advances, IsWalked}
+use Rattle.watched_search.proofs.SpanLemmas.{code-literal}
 use Rattle.watched_search.proofs.TrailLemmas.{lits-append}
 
 -- forced entries behind forced ones
@@ -68,9 +74,52 @@ later_looked w x t u front a h =
     rw a.clauses (All-weaker (λ k. HasTrue (lits_of t.entries) (clause_at w.clauses k.clause)) (λ k. HasTrue (lits_of u.entries) (clause_at w.clauses k.clause))
     (λ k p. HasTrue-later w.clauses t u (clause_at w.clauses k.clause) a.driven p) front h)
 
+-- a watch ends a visit where the literal that it has at hand is true
+ends_visit : (w : Watched) (t : TrailView) (x : Watch) (truths : List Bool) → IsPaired w → w.vars ≡ t.room → IsBlocked w.clauses x → Truths t.room truths (lits_of t.entries)
+    → get_or truths x.blocker false ≡ true → HasTrue (lits_of t.entries) (clause_at w.clauses (link_of x).clause)
+ends_visit w t x truths paired room blocked table marked =
+    let b = literal x.blocker in
+    let below : b.var < w.vars = All-contains (IsBelow w.vars) (clause_at w.clauses (x.link / 2)) b (paired.names (x.link / 2) [] blocked.clause) blocked.member in
+    (b, blocked.member, (table.told b (rw (← room) below)).0 (rw (code-literal x.blocker) marked))
+
+-- watches with a true literal at hand are passed over
+pub Walks-skip : (w0 w : Watched) (t0 t : TrailView) (l : Lit) (from place : ℕ) (watches : List Watch) (truths : List Bool) → Walks w0 w t0 t l from → w0.vars ≡ t0.room
+    → links_of watches ≡ list_at w.chains (code l) → All (IsBlocked w.clauses) watches → Truths t.room truths (lits_of t.entries) → IsFirstOpen watches truths from place → Walks w0 w t0 t l place
+Walks-skip w0 w t0 t l from place watches truths h same links blocked table first =
+    let list = list_at w.chains (code l) in
+    let room : w.vars ≡ t.room = h.advances.vars ∙ same ∙ sym h.advances.driven.room in
+    let long : length watches ≡ length list = sym (length-map watches (λ (x : Watch). link_of x)) ∙ ap length links in
+    let within = first.within in
+    let front = h.within in
+    record {
+      advances = h.advances;
+      within = omega arith;
+      looked = λ k d lt.
+          let size = length-take place list in
+          let before : k < place = omega arith in
+          rw (get_or-take place list k d before) (elim (cases_lt k from) [
+            | inl old ↦ rw (get_or-take from list k d old) at (h.looked k d (let part = length-take from list in omega arith))
+            | inr new ↦
+                (let x = get_or watches k no_watch in
+                let link : link_of x ≡ get_or list k d = sym (get_or-map (λ (x : Watch). link_of x) watches k no_watch d (omega arith)) ∙ ap (λ (ks : List Link). get_or ks k d) links in
+                rw (← link) (ends_visit w t x truths h.advances.paired room (blocked k no_watch (omega arith)) table (first.passed k no_watch new before)))
+          ]);
+    }
+  where
+    no_watch : Watch
+    no_watch = record { link = 0; blocker = 0 }
+
 -- where the walk has come to
-pub walk_at : (w0 w : Watched) (t0 t : TrailView) (l : Lit) (i : ℕ) (k : Link) → Walks w0 w t0 t l i → l.var < w0.vars → i < length (list_at w.chains (code l)) → get_or (list_at w.chains (code l)) i k ≡ k → IsAt w l i k
-walk_at w0 w t0 t l i k h below within at = record { below = rw h.advances.vars below; within = within; link = at }
+pub walk_at : (w0 w : Watched) (t0 t : TrailView) (l : Lit) (from i : ℕ) (k : Link) (watches : List Watch) (d : Watch) → Walks w0 w t0 t l from → l.var < w0.vars
+    → links_of watches ≡ list_at w.chains (code l) → i < length watches → k ≡ link_of (get_or watches i d) → IsAt w l i k
+walk_at w0 w t0 t l from i k watches d h below links within is =
+    let long = length-map watches (λ (x : Watch). link_of x) in
+    let same = ap length links in
+    record {
+      below = rw h.advances.vars below;
+      within = omega arith;
+      link = ap (λ (ks : List Link). get_or ks i k) (sym links) ∙ get_or-map (λ (x : Watch). link_of x) watches i d k within ∙ sym is;
+    }
 
 -- the link stays
 pub Walks-stay : (w0 w x : Watched) (t0 t u : TrailView) (l : Lit) (i : ℕ) (k : Link) → Walks w0 w t0 t l i → IsAt w l i k

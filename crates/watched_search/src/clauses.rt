@@ -3,9 +3,8 @@
 ghost use Rattle.std.specs.Prelude.{◌≡◌, ◌+◌, ◌^◌, ◌<◌, ◌≤◌, ◌++◌, ◌∷◌, [], length, map, OnOk, OnErr, IfOk, All};
 ghost use Rattle.std.specs.Vec.{vec_capacity};
 ghost use Rattle.sat_formula.specs.Lit.{IsBelow};
-ghost use Rattle.watched_search.specs.Codes.{code};
+ghost use Rattle.watched_search.specs.Codes.{code, literal};
 ghost use Rattle.watched_search.specs.Searching.{clause_at, lit_at};
-ghost use Rattle.watched_search.specs.inner.Spans.{literal};
 
 use crate::codes::{code_of, literal_of};
 use sat_formula::Lit;

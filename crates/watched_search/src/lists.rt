@@ -2,9 +2,11 @@
 
 ghost use Rattle.std.specs.Prelude.{◌≡◌, ◌+◌, ◌<◌, ◌++◌, ◌∷◌, [], length, slice_index_or, slice_set, OnOk, OnErr};
 ghost use Rattle.std.specs.List.{swap_remove};
+ghost use Rattle.watched_search.specs.inner.Lists.{link_of as link_in};
 
 use std::alloc::{AllocError, Global};
 use std::marker::Model;
+use watch_chains::Link;
 
 /// A clause that a literal watches: its link, as twice the clause's number with the slot added, and
 /// the code of a literal of the clause, which needs no look where that one is true.
@@ -44,12 +46,12 @@ impl WatchList {
         }
     }
 
-    /// How many watches there are.
-    pub fn len(&self) -> usize
-        ensures { result ≡ length self.now.watches }
+    /// The watches.
+    pub fn watches(&self) -> &[Watch]
+        ensures { result.now ≡ self.now.watches }
     {
         let _ = &self.room;
-        self.watches.len()
+        self.watches.as_slice()
     }
 
     /// The watch at this place.
@@ -98,5 +100,15 @@ impl WatchList {
         self.watches.reserve(missing)?;
         self.room = room;
         Ok(())
+    }
+}
+
+/// The link of a watch.
+pub fn link_of(watch: Watch) -> Link
+    ensures { result ≡ link_in watch }
+{
+    Link {
+        clause: (watch.link / 2) as usize,
+        slot: (watch.link % 2) as u8,
     }
 }

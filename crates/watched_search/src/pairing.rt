@@ -6,11 +6,11 @@ ghost use Rattle.sat_formula.specs.Lit.{IsBelow};
 ghost use Rattle.watch_chains.specs.declared.link.Link.{Link as Place};
 ghost use Rattle.watch_chains.specs.Chains.{place_of};
 ghost use Rattle.watch_chains.specs.Watches.{list_at, IsSlot};
-ghost use Rattle.watched_search.specs.Codes.{code};
+ghost use Rattle.watched_search.specs.Codes.{code, literal};
 ghost use Rattle.watched_search.specs.Searching.{clause_at, lit_at};
 ghost use Rattle.watched_search.specs.inner.Keeping.{slot_of, other_of, watch_at, IsPaired};
-ghost use Rattle.watched_search.specs.inner.Spans.{literal, watching, IsSmall};
-ghost use Rattle.watched_search.specs.inner.Lists.{link_of as link_in, no_list, IsRoomier, MakesRoom};
+ghost use Rattle.watched_search.specs.inner.Spans.{watching, IsSmall};
+ghost use Rattle.watched_search.specs.inner.Lists.{links_of, no_list, IsBlocked, IsRoomier, MakesRoom};
 ghost use Rattle.watched_search.specs.inner.Moving.{IsAt, IsMoved, IsPair, IsAdded};
 
 use crate::clauses::Store;
@@ -172,33 +172,14 @@ impl WatchedClauses {
         watch_of(self.slots[place(other)]).unwrap()
     }
 
-    /// How many clauses the literal watches.
-    pub fn len(&self, l: Lit) -> usize
+    /// What the literal watches: its links, each with a literal of its clause at hand.
+    pub fn watches(&self, l: Lit) -> &[Watch]
         requires { l.var < self.now.vars }
-        ensures { result ≡ length (list_at self.now.chains (code l)) }
+        ensures links { links_of result.now ≡ list_at self.now.chains (code l) }
+        ensures blocked { All (IsBlocked self.now.clauses) result.now }
     {
         let _ = &self.store;
-        self.lists[code_of(l)].len()
-    }
-
-    /// The link at this place of the literal's list.
-    pub fn link(&self, l: Lit, i: usize) -> Link
-        requires below { l.var < self.now.vars }
-        requires place { i < length (list_at self.now.chains (code l)) }
-        ensures { slice_index_or (list_at self.now.chains (code l)) i result ≡ result }
-    {
-        let _ = &self.store;
-        link_of(self.lists[code_of(l)].get(i))
-    }
-
-    /// A literal of the clause, which its watch has at hand.
-    pub fn blocker(&self, at: Standing) -> Lit
-        requires { IsAt self.now at.lit at.place at.link }
-        ensures member { Contains (clause_at self.now.clauses at.link.clause) result }
-        ensures below { result.var < self.now.vars }
-    {
-        let _ = &self.store;
-        literal_of(self.lists[code_of(at.lit)].get(at.place).blocker as usize)
+        self.lists[code_of(l)].watches()
     }
 
     /// Lets the watch have another literal of the clause at hand.
@@ -294,16 +275,6 @@ fn make_room(lists: &mut Vec<WatchList>, clause: &[Lit]) -> Result<(), AllocErro
         lists[code_of(*l)].make_room()?;
     }
     Ok(())
-}
-
-// The link of a watch.
-fn link_of(watch: Watch) -> Link
-    ensures { result ≡ link_in watch }
-{
-    Link {
-        clause: (watch.link / 2) as usize,
-        slot: (watch.link % 2) as u8,
-    }
 }
 
 // Where a slot stands among the slots of all clauses.

@@ -1,16 +1,17 @@
 //! Unit propagation over watched clauses.
 
-ghost use Rattle.std.specs.Prelude.{◌≡◌, ℕ, ◌+◌, ◌^◌, ◌<◌, ◌≤◌, ◌++◌, ◌∷◌, List, length, Contains, MatchBool, MatchOption, true, Some, None};
+ghost use Rattle.std.specs.Prelude.{◌≡◌, ℕ, ◌+◌, ◌^◌, ◌<◌, ◌≤◌, ◌++◌, ◌∷◌, List, length, All, Contains, MatchBool, MatchOption, true, Some, None};
 ghost use Rattle.refutation_checker.specs.Follows.{negation};
 ghost use Rattle.watch_chains.specs.declared.link.Link.{Link as Place};
 ghost use Rattle.watched_search.specs.Trail.{lits_of};
 ghost use Rattle.watched_search.specs.Searching.{clause_at, HasTrue, IsFalseAt};
 ghost use Rattle.watched_search.specs.inner.Keeping.{IsPaired, IsKept, IsLowered, Held};
 ghost use Rattle.watched_search.specs.inner.Moving.{IsAt, IsStanding, IsMoved};
-ghost use Rattle.watched_search.specs.inner.Visiting.{Advances, IsVisited, IsWalked, IsDriving, IsDrivenTo, IsSettled, IsPropagated, IsReplacement};
+ghost use Rattle.watched_search.specs.inner.Visiting.{Advances, IsFirstOpen, IsVisited, IsWalked, IsDriving, IsDrivenTo, IsSettled, IsPropagated, IsReplacement};
 ghost use Rattle.sat_formula.specs.declared.lit.Lit.{Lit as Literal};
 
 use crate::entry::Entry;
+use crate::lists::{Watch, link_of};
 use crate::pairing::{Standing, WatchedClauses};
 use crate::status::{Status, replacement, status_of};
 use crate::trail::Trail;
@@ -83,21 +84,19 @@ fn visit_clause(watched: &mut WatchedClauses, trail: &mut Trail, at: Standing) -
     Visit::Stays
 }
 
-// Looks at the clause of a link in the list of a false literal, unless the literal that is at hand
-// makes it true.
-fn visit_link(watched: &mut WatchedClauses, trail: &mut Trail, at: Standing) -> Visit
-    requires room { watched.old.vars ≡ trail.old.room }
-    requires is_false { Contains (lits_of trail.old.entries) (negation at.lit) }
-    requires paired { IsPaired watched.old }
-    requires at { IsAt watched.old at.lit at.place at.link }
-    ensures advances { Advances watched.old watched.new trail.old trail.new }
-    ensures visited { IsVisited watched.old watched.new trail.new at.lit at.place at.link result }
+// The first place from `from` on whose watch has no true literal at hand, or the end. Most visits
+// end at such a literal, so the loop goes over two tables and nothing else.
+fn first_open(watches: &[Watch], truths: &[bool], from: usize) -> usize
+    requires from { from ≤ length watches.now }
+    requires below { All (λ w. w.blocker < length truths.now) watches.now }
+    ensures { IsFirstOpen watches.now truths.now from result }
 {
-    let blocker = watched.blocker(at);
-    if trail.is_true(blocker) {
-        return Visit::Stays;
+    for i in from..watches.len() {
+        if !truths[watches[i].blocker as usize] {
+            return i;
+        }
     }
-    visit_clause(watched, trail, at)
+    watches.len()
 }
 
 // Looks at the clauses that a false literal watches, and makes true what they force. Answers the
@@ -110,21 +109,26 @@ fn visit_list(watched: &mut WatchedClauses, trail: &mut Trail, l: Lit) -> Option
     ensures advances { Advances watched.old watched.new trail.old trail.new }
     ensures walked { IsWalked watched.new trail.new l result }
 {
-    let mut place = 0;
-    while place < watched.len(l) {
-        let link = watched.link(l, place);
+    let mut from = 0;
+    loop {
+        let watches = watched.watches(l);
+        let place = first_open(watches, trail.truths(), from);
+        if place >= watches.len() {
+            return None;
+        }
+        let link = link_of(watches[place]);
         let at = Standing {
             lit: l,
             place,
             link,
         };
-        match visit_link(watched, trail, at) {
-            Visit::Stays => place += 1,
-            Visit::Moves => {}
+        match visit_clause(watched, trail, at) {
+            Visit::Stays => from = place + 1,
+            // The last watch of the list takes its place.
+            Visit::Moves => from = place,
             Visit::Fails => return Some(link.clause),
         }
     }
-    None
 }
 
 // Makes the clause true where it is a unit. Answers whether it is true now, and `None` where it is

@@ -1,9 +1,10 @@
 //! The search: clauses, what is true, and unit propagation.
 
-ghost use Rattle.std.specs.Prelude.{◌≡◌, ◌<◌, ◌≤◌, ◌++◌, ◌∷◌, [], length, take, All, IfOk, OnOk, OnErr, None};
+ghost use Rattle.std.specs.Prelude.{◌≡◌, ◌<◌, ◌≤◌, ◌++◌, ◌∷◌, [], length, map, take, All, IfOk, OnOk, OnErr, None};
 ghost use Rattle.sat_formula.specs.Lit.{IsBelow};
 ghost use Rattle.sat_formula.specs.Clause.{NamesBelow};
 ghost use Rattle.refutation_checker.specs.Marks.{TellsValue};
+ghost use Rattle.watched_search.specs.Codes.{literal};
 ghost use Rattle.watched_search.specs.Trail.{lits_of, IsFree, IsPlaceOf, AreEntries};
 ghost use Rattle.watched_search.specs.Searching.{clause_at, lit_at, Propagates, IsBegun};
 ghost use Rattle.watched_search.specs.Watching.{IsWatched};
@@ -97,6 +98,16 @@ impl Search {
     {
         let _ = &self.trail;
         self.watched.lit(c, k)
+    }
+
+    /// The codes of the clause's literals, which are read faster than the literals.
+    pub fn codes(&self, c: usize) -> &[u32]
+        requires { c < length self.now.clauses }
+        ensures same { map (λ n. literal n) result.now ≡ clause_at self.now.clauses c }
+        ensures below { All (IsBelow self.now.vars) (clause_at self.now.clauses c) }
+    {
+        let _ = &self.trail;
+        self.watched.codes(c)
     }
 
     /// What is true and why, the oldest first.

@@ -4,7 +4,7 @@ ghost use Rattle.std.specs.Prelude.{◌≡◌, ◌<◌, ◌≤◌, length, map, 
 ghost use Rattle.sat_formula.specs.Lit.{IsBelow};
 ghost use Rattle.watched_search.specs.Trail.{lits_of};
 ghost use Rattle.watched_search.specs.Searching.{clause_at};
-ghost use Rattle.watched_search.specs.inner.Spans.{literal};
+ghost use Rattle.watched_search.specs.Codes.{literal};
 ghost use Rattle.watched_search.specs.inner.Visiting.{IsStatus, IsReplacement, IsReplacementIn};
 
 use crate::codes::literal_of;
@@ -49,7 +49,7 @@ pub fn status_of(watched: &WatchedClauses, trail: &Trail, c: usize) -> Status
     }
 }
 
-/// The place of a literal of the clause other than `other` that is not false, looked for from the
+/// A place of a literal of the clause other than `other` that is not false, looked for from the
 /// clause's mark on and round.
 pub fn replacement(watched: &WatchedClauses, trail: &Trail, c: usize, other: Lit) -> Option<usize>
     requires clause { c < length watched.now.clauses }
@@ -64,7 +64,7 @@ pub fn replacement(watched: &WatchedClauses, trail: &Trail, c: usize, other: Lit
     }
 }
 
-// The first place from `from` on and before `to` whose literal is not false and another one.
+// A place from `from` on and before `to` whose literal is not false and another one.
 fn replacement_in(codes: &[u32], trail: &Trail, from: usize, to: usize, other: Lit) -> Option<usize>
     requires within { to ≤ length codes.now }
     requires below { All (IsBelow trail.now.room) (map (λ n. literal n) codes.now) }

@@ -5,7 +5,7 @@ ghost use Rattle.std.specs.Vec.{vec_capacity};
 ghost use Rattle.refutation_checker.specs.Follows.{negation};
 ghost use Rattle.refutation_checker.specs.Marks.{TellsValue};
 ghost use Rattle.watched_search.specs.Trail.{lits_of, IsFree, IsPlaceOf, IsTrail, starts_below, starts_from};
-ghost use Rattle.watched_search.specs.inner.Spans.{literal};
+ghost use Rattle.watched_search.specs.Codes.{literal};
 ghost use Rattle.watched_search.specs.inner.Tables.{Marked, Truths};
 
 use crate::Entry;
@@ -109,6 +109,14 @@ impl Trail {
     {
         let _ = &self.entries;
         self.truths[code_of(l)]
+    }
+
+    /// Whether each literal is true, by its code.
+    pub fn truths(&self) -> &[bool]
+        ensures { Truths self.now.room result.now (lits_of self.now.entries) }
+    {
+        let _ = &self.entries;
+        self.truths.as_slice()
     }
 
     /// Whether the literal of this code is false.

@@ -3,9 +3,8 @@ use Rattle.std.specs.Prelude.{◌≡◌, ◌≢◌, ℕ, ◌/◌, ◌%◌, ◌<�
 use Rattle.sat_formula.specs.declared.lit.Lit.{Lit}
 use Rattle.watch_chains.specs.declared.link.Link.{Link}
 use Rattle.watched_search.specs.declared.lists.Watch.{Watch}
-use Rattle.watched_search.specs.Codes.{code}
+use Rattle.watched_search.specs.Codes.{code, literal}
 use Rattle.watched_search.specs.Searching.{clause_at}
-use Rattle.watched_search.specs.inner.Spans.{literal}
 
 -- what a literal watches, and how much there is room for
 pub record ListView : Type 0 where

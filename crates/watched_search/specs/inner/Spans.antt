@@ -1,11 +1,8 @@
 -- Clauses as parts of one list of codes, and what watches as a number.
-use Rattle.std.specs.Prelude.{ℕ, ◌-◌, ◌/◌, ◌%◌, ◌<◌, ◌≤◌, List, map, take, drop, nat_eq, if◌then◌else◌, Option, Some, None}
+use Rattle.std.specs.Prelude.{ℕ, ◌-◌, ◌<◌, ◌≤◌, List, map, take, drop, nat_eq, if◌then◌else◌, Option, Some, None}
 use Rattle.sat_formula.specs.declared.lit.Lit.{Lit}
 use Rattle.watched_search.specs.declared.clauses.Span.{Span}
-
--- the literal of a code
-abbrev pub literal : ℕ → Lit
-literal n = record { var = n / 2; neg = nat_eq (n % 2) 1 }
+use Rattle.watched_search.specs.Codes.{literal}
 
 -- the literals of a part
 abbrev pub literals_in : List ℕ → Span → List Lit

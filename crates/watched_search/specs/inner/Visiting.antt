@@ -1,10 +1,11 @@
 -- What looking at clauses finds and changes.
-use Rattle.std.specs.Prelude.{◌≡◌, ◌≢◌, ℕ, ◌<◌, ◌≤◌, ◌⊎◌, ◌++◌, List, length, All, Contains, MatchOption, Bool, true, Option, Some, None}
+use Rattle.std.specs.Prelude.{◌≡◌, ◌≢◌, ℕ, ◌<◌, ◌≤◌, ◌⊎◌, ◌++◌, List, length, All, Contains, slice_index_or, MatchOption, Bool, true, false, Option, Some, None}
 use Rattle.sat_formula.specs.declared.lit.Lit.{Lit}
 use Rattle.refutation_checker.specs.Follows.{negation, IsFalse, IsUnit}
 use Rattle.watch_chains.specs.declared.link.Link.{Link}
 use Rattle.watch_chains.specs.Watches.{list_at, IsSlot}
 use Rattle.watched_search.specs.declared.entry.Entry.{Entry}
+use Rattle.watched_search.specs.declared.lists.Watch.{Watch}
 use Rattle.watched_search.specs.declared.status.Status.{Status}
 use Rattle.watched_search.specs.declared.status.Status.TheVariants.{Satisfied, Falsified, Unit as OneLeft, Open}
 use Rattle.watched_search.specs.declared.propagation.Progress.{Progress}
@@ -24,15 +25,15 @@ IsStatus T c Falsified = IsFalse T c
 IsStatus T c (OneLeft u) = IsUnit T c u
 IsStatus T c Open = HasTwo c
 
--- the place of a literal other than this one that is not false, if there is one
+-- a place of a literal other than this one that is not false, if there is one
 abbrev pub IsReplacement : List Lit → List Lit → Lit → Option ℕ → Type 0
 IsReplacement T c other None = All (λ m. (m ≡ other) ⊎ Contains T (negation m)) c
 IsReplacement T c other (Some k) = (k < length c) × (lit_at c k ≢ other) × (Contains T (negation (lit_at c k)) → ⊥)
 
--- the same among the places from `from` on and before `to`
+-- a place of such a literal from `from` on and before `to`, if there is one
 abbrev pub IsReplacementIn : List Lit → List Lit → Lit → ℕ → ℕ → Option ℕ → Type 0
 IsReplacementIn T c other from to None = (k : ℕ) → from ≤ k → k < to → (lit_at c k ≡ other) ⊎ Contains T (negation (lit_at c k))
-IsReplacementIn T c other from to (Some k) = (k < to) × (lit_at c k ≢ other) × (Contains T (negation (lit_at c k)) → ⊥)
+IsReplacementIn T c other from to (Some k) = (from ≤ k) × (k < to) × (lit_at c k ≢ other) × (Contains T (negation (lit_at c k)) → ⊥)
 
 -- forced entries were added, over the same variables
 pub record IsDriven (clauses : List (List Lit)) (old new : TrailView) : Type 0 where
@@ -48,6 +49,13 @@ pub record Advances (w new : Watched) (t after : TrailView) : Type 0 where
   pub paired : IsPaired new
   pub driven : IsDriven w.clauses t after
   pub kept : (p : Progress) → IsKept w t p → IsKept new after p
+
+-- this is the first place from `from` on whose watch has no true literal at hand, or the end
+pub record IsFirstOpen (watches : List Watch) (truths : List Bool) (from place : ℕ) : Type 0 where
+  pub later : from ≤ place
+  pub within : place ≤ length watches
+  pub passed : (i : ℕ) (d : Watch) → from ≤ i → i < place → slice_index_or truths (slice_index_or watches i d).blocker false ≡ true
+  pub reached : (d : Watch) → place < length watches → slice_index_or truths (slice_index_or watches place d).blocker false ≡ false
 
 -- what became of a link: its clause is true, it left the list, or its clause is false
 abbrev pub IsVisited : Watched → Watched → TrailView → Lit → ℕ → Link → Visit → Type 0

@@ -1,7 +1,7 @@
 use Rattle.std.proofs.Common.{map, arith}
 use Rattle.std.proofs.lemmas.List.{length-map}
 use Rattle.watched_search.specs.Trail.{lits_of}
-use Rattle.watched_search.specs.inner.Spans.{literal}
+use Rattle.watched_search.specs.Codes.{literal}
 use Rattle.watched_search.proofs.VisitLemmas.{looked_round}
 use Rattle.watched_search.proofs.status.replacement.Goals as goal
 

@@ -8,7 +8,7 @@ use Rattle.refutation_checker.specs.Follows.{negation}
 use Rattle.refutation_checker.proofs.StatusLemmas.{same_lem}
 use Rattle.watched_search.specs.Trail.{lits_of}
 use Rattle.watched_search.specs.Searching.{lit_at}
-use Rattle.watched_search.specs.inner.Spans.{literal}
+use Rattle.watched_search.specs.Codes.{literal}
 use Rattle.watched_search.proofs.SpanLemmas.{literal-code, literal_at}
 use Rattle.watched_search.proofs.status.replacement_in.Goals as goal
 use Rattle.watched_search.proofs.status.replacement_in.Goals.{then-not-is_false+else-ne, else-not-is_false}

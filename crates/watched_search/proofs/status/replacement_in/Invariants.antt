@@ -1,7 +1,7 @@
 use Rattle.std.proofs.Common.{None}
 use Rattle.std.specs.Prelude.{map}
 use Rattle.watched_search.specs.Trail.{lits_of}
-use Rattle.watched_search.specs.inner.Spans.{literal}
+use Rattle.watched_search.specs.Codes.{literal}
 use Rattle.watched_search.specs.inner.Visiting.{IsReplacementIn}
 use Rattle.watched_search.proofs.status.replacement_in.Given as goal
 

@@ -3,7 +3,7 @@ use Rattle.std.specs.Prelude.{Contains}
 use Rattle.std.proofs.lemmas.List.{get_or_read}
 use Rattle.refutation_checker.specs.Follows.{negation}
 use Rattle.watched_search.specs.Trail.{TrailView, lits_of}
-use Rattle.watched_search.specs.inner.Spans.{literal}
+use Rattle.watched_search.specs.Codes.{literal}
 use Rattle.watched_search.proofs.CodeLemmas.{code-below}
 use Rattle.watched_search.proofs.SpanLemmas.{code-negation}
 use Rattle.watched_search.proofs.trail.Trail.is_false.Goals as goal
