@@ -6,5 +6,6 @@ pub mod WeightLemmas
 pub mod RoundsLemmas
 pub mod DecidingLemmas
 pub mod AcceptanceLemmas
+pub mod CheckingLemmas
 pub mod SolvingLemmas
 pub mod SatisfyLemmas

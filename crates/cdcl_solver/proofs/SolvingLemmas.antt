@@ -20,6 +20,7 @@ use Rattle.cdcl_solver.specs.declared.solver.Solver.{Solver}
 use Rattle.cdcl_solver.specs.Answers.{IsSpent}
 use Rattle.cdcl_solver.specs.inner.Acceptance.{IsJump, start_of}
 use Rattle.cdcl_solver.specs.inner.Chain.{Quiet, Chain, IsExplained, decisions}
+use Rattle.cdcl_solver.specs.inner.Checking.{empty_trail}
 use Rattle.cdcl_solver.specs.inner.Deciding.{AreDecided, IsUndecided}
 use Rattle.cdcl_solver.specs.inner.Levels.{levels_from}
 use Rattle.cdcl_solver.specs.inner.Solving.{IsSearch, IsSolving, IsSettled, IsDecided, IsLearned, IsAdded, IsFound, IsRefuted, IsComplete, IsUnspent, Advances, Keeps}
@@ -48,7 +49,7 @@ again old new rest solving vars clauses chain levels = record {
   });
   same = rw (rest.clauses, rest.steps) (clauses ∙ solving.same);
   levels = levels;
-  checking = rest.checking ∙ solving.checking;
+  checking = rest.checking ∙ solving.checking ∙ ap empty_trail (sym vars);
 }
 
 -- the clauses say nothing where each is open
@@ -131,7 +132,7 @@ learned old new step level back u le solving added follows jump =
         log = rw (added.clauses, added.steps, vars, entries) log;
         same = rw (added.clauses, added.steps) (clauses ∙ sym longer);
         levels = added.levels ∙ ap (take back) solving.levels ∙ sym begun.levels ∙ ap (levels_from 0) (sym entries);
-        checking = added.checking ∙ solving.checking;
+        checking = added.checking ∙ solving.checking ∙ ap empty_trail (sym vars);
       };
       keeps = record { clauses = added.clauses; vars = vars };
       longer = ap length added.steps ∙ length_push old.steps step;
@@ -139,10 +140,10 @@ learned old new step level back u le solving added follows jump =
 
 -- marks play no part
 jumped_at : (s mid new : Solver) (marks : Marks) → mid ≡ record s { marks = marks; checking = mid.checking; pace = mid.pace } → (step : Step) (level back : ℕ) (u : Lit) → back ≤ level
-    → IsSolving s → mid.checking ≡ [] → Follows (known s.clauses s.steps) step → IsJump s.search.vars s.search.entries step.lits u level → IsAdded mid step back new → IsLearned s new
-jumped_at s mid new marks is step level back u le solving empty follows jump added =
-    let same : IsSolving mid = rw is (record { log = solving.log; same = solving.same; levels = solving.levels; checking = empty }) in
-    let all = learned mid new step level back u le same added (rw is follows) (rw is jump) in
+    → IsSolving s → mid.checking ≡ s.checking → Follows (known s.clauses s.steps) step → IsJump s.search.vars s.search.entries step.lits u level → IsAdded mid step back new → IsLearned s new
+jumped_at s mid new marks is step level back u le solving same follows jump added =
+    let middle : IsSolving mid = rw is (record { log = solving.log; same = solving.same; levels = solving.levels; checking = same ∙ solving.checking }) in
+    let all = learned mid new step level back u le middle added (rw is follows) (rw is jump) in
     record {
       solving = all.solving;
       keeps = record { clauses = all.keeps.clauses ∙ ap (λ (t : Solver). t.clauses) is; vars = all.keeps.vars ∙ ap (λ (t : Solver). t.search.vars) is };
@@ -150,10 +151,10 @@ jumped_at s mid new marks is step level back u le solving empty follows jump add
     }
 
 pub jumped : (s p mid new : Solver) (step : Step) (level back : ℕ) (u : Lit) → back ≤ level → IsSolving s → p ≡ record s { marks = p.marks }
-    → mid ≡ record p { checking = mid.checking; pace = mid.pace } → mid.checking ≡ [] → Follows (known p.clauses p.steps) step
+    → mid ≡ record p { checking = mid.checking; pace = mid.pace } → mid.checking ≡ p.checking → Follows p.search.clauses step
     → IsJump p.search.vars p.search.entries step.lits u level → IsAdded mid step back new → IsLearned s new
-jumped s p mid new step level back u le solving same is empty follows jump added =
-    jumped_at s mid new p.marks (rw same at is) step level back u le solving empty (rw same at follows) (rw same at jump) added
+jumped s p mid new step level back u le solving same is kept follows jump added =
+    jumped_at s mid new p.marks (rw same at is) step level back u le solving (rw same at kept) (rw solving.same at (rw same at follows)) (rw same at jump) added
 
 learned_at : (s new : Solver) (marks : Marks) → IsLearned (record s { marks = marks }) new → IsLearned s new
 learned_at s new marks all = record { solving = all.solving; keeps = record { clauses = all.keeps.clauses; vars = all.keeps.vars }; longer = all.longer }

@@ -1,5 +1,6 @@
 pub mod Acceptance
 pub mod Chain
+pub mod Checking
 pub mod Deciding
 pub mod Levels
 pub mod Rounds

@@ -1,4 +1,4 @@
-//! Proposes a clause to learn. Nothing is promised of it: `acceptance` and the checker test it.
+//! Proposes a clause to learn. Nothing is promised of it: `acceptance` and `checking` test it.
 
 ghost use Rattle.std.specs.Prelude.{◌≡◌, ℕ, ◌+◌, ◌<◌, ◌≤◌, length};
 
@@ -24,6 +24,7 @@ pub struct Candidate {
 // the conflict first.
 #[derive(Drop)]
 struct Causes {
+    alloc: Global,
     last: usize,
     open: usize,
     earlier: Vec<usize>,
@@ -48,11 +49,12 @@ pub fn first_unique_point(
         return Ok(None);
     };
     let mut causes = Causes {
+        alloc,
         last: *last,
         open: 0,
-        earlier: Vec::new(alloc),
-        hints: Vec::new(alloc),
-        lits: Vec::new(alloc),
+        earlier: Vec::with_capacity(alloc, ROOM_FOR_CAUSES)?,
+        hints: Vec::with_capacity(alloc, ROOM_FOR_CAUSES)?,
+        lits: Vec::with_capacity(alloc, ROOM_FOR_LITERALS)?,
     };
     causes.resolve(search, marks, conflict)?;
     let Some(point) = unique_point(search, marks, &mut causes)? else {
@@ -66,6 +68,12 @@ pub fn first_unique_point(
 
 // How many literals are followed to find that one is not wanted.
 const FEW: usize = 100;
+
+// Room for what most conflicts come from, so that these lists are not grown step by step.
+const ROOM_FOR_CAUSES: usize = 64;
+
+// Room for the literals of most clauses that are learned.
+const ROOM_FOR_LITERALS: usize = 32;
 
 impl Causes {
     // Notes the clause, and marks its variables.
@@ -82,8 +90,8 @@ impl Causes {
         if c >= search.count() {
             return Ok(());
         }
-        for k in 0..search.size(c) {
-            self.see(search, marks, search.lit(c, k).var)?;
+        for code in search.codes(c) {
+            self.see(search, marks, (*code / 2) as usize)?;
         }
         Ok(())
     }
@@ -231,6 +239,7 @@ fn candidate_of(
     point: Lit,
 ) -> Result<Candidate, AllocError> {
     let Causes {
+        alloc,
         mut earlier,
         mut hints,
         mut lits,
@@ -254,9 +263,10 @@ fn candidate_of(
     }
     hints.reverse();
     let spread = spread_of(search, levels, &lits);
+    // The log keeps both, so they are to have no room to spare.
     Ok(Candidate {
-        lits,
-        hints,
+        lits: Vec::from_slice(alloc, lits.as_slice())?,
+        hints: Vec::from_slice(alloc, hints.as_slice())?,
         forced: point.negated(),
         level,
         spread,
@@ -295,8 +305,8 @@ fn needless(search: &Search, marks: &Marks, place: usize) -> Option<u64> {
     if c >= search.count() {
         return None;
     }
-    for k in 0..search.size(c) {
-        if !marks.has(search.lit(c, k).var) {
+    for code in search.codes(c) {
+        if !marks.has((*code / 2) as usize) {
             return None;
         }
     }

@@ -5,21 +5,31 @@ ghost use Rattle.cdcl_solver.specs.inner.Deciding.{AreDecided, IsUndecided};
 
 use crate::heap::Heap;
 use crate::scores::Scores;
-use sat_formula::Lit;
+use crate::walking::Walk;
+use sat_formula::{Clauses, Lit};
 use std::alloc::{AllocError, Global};
 use watched_search::{Entry, Search};
 
 /// The variables that may be without a value, those that conflicts came from of late first. Each
-/// variable keeps its last value. (Eén and Sörensson, "An Extensible SAT-solver", 2003, on the order;
+/// variable keeps its last value, until a walk beside the search has found one for all of them. (Eén and Sörensson, "An Extensible SAT-solver", 2003, on the order;
 /// Pipatsrisawat and Darwiche, "A Lightweight Component Caching Scheme for Satisfiability Solvers",
-/// 2007, on values.)
+/// 2007, on values; Selman, Kautz and Cohen, "Noise Strategies for Improving Local Search", 1994, on
+/// walks.)
 #[derive(Drop)]
 pub struct Deciding {
     heap: Heap,
     scores: Scores,
     // Whether each variable was false when it had a value last.
     phases: Vec<bool>,
+    // Looks for values beside the search, once it had some conflicts.
+    walk: Option<Walk>,
+    conflicts: u64,
 }
+
+// The walk begins behind so many conflicts, and then goes on behind each so many.
+const WALK_FROM: u64 = 256;
+
+const WALK_EVERY: u64 = 64;
 
 impl Deciding {
     /// All variables below `vars` wait for a decision.
@@ -31,10 +41,12 @@ impl Deciding {
             heap,
             scores,
             phases,
+            walk: None,
+            conflicts: 0,
         })
     }
 
-    /// The literal to decide: a variable without a value, with its last one.
+    /// The literal to decide: a variable without a value, with its last one or that of the walk.
     pub fn next(&mut self, search: &Search) -> Option<Lit>
         ensures { MatchOption result (AreDecided search.now.entries search.now.vars)
             (λ l. IsUndecided search.now.vars search.now.entries l.var) }
@@ -68,6 +80,32 @@ impl Deciding {
         self.scores.age();
     }
 
+    /// Notes a conflict, behind which the walk goes on for a little, by the clauses that the search began
+    /// with.
+    pub fn walk(&mut self, alloc: Global, clauses: &Clauses) -> Result<(), AllocError> {
+        self.conflicts = self.conflicts.saturating_add(1);
+        if self.conflicts < WALK_FROM || self.conflicts % WALK_EVERY != 0 {
+            return Ok(());
+        }
+        if self.walk.is_none() {
+            self.walk = Some(Walk::new(alloc, clauses.clauses(), self.phases.len())?);
+        }
+        if let Some(walk) = &mut self.walk {
+            walk.go_on(visits_behind(self.conflicts));
+        }
+        Ok(())
+    }
+
+    /// Whether the walk has come to values by which all these clauses are true. They are decided from
+    /// then on.
+    pub fn has_arrived(&self) -> bool {
+        let _ = &self.heap;
+        match &self.walk {
+            Some(walk) => walk.is_done(),
+            None => false,
+        }
+    }
+
     // The first variable without a value that the heap gives, which it then has no more.
     fn proposed(&mut self, search: &Search) -> Option<usize>
         ensures { IfSome result (λ v. IsUndecided search.now.vars search.now.entries v) }
@@ -81,9 +119,19 @@ impl Deciding {
         None
     }
 
+    // Whether the variable is to be false.
     fn phase(&self, v: usize) -> bool {
-        v < self.phases.len() && self.phases[v]
+        match &self.walk {
+            Some(walk) if walk.is_done() => walk.is_false(v),
+            _ => v < self.phases.len() && self.phases[v],
+        }
     }
+}
+
+// How many clauses the walk visits behind so many conflicts. Each costs more than the one before it, so
+// that the walk's part of the time stays about the same, a twentieth.
+fn visits_behind(conflicts: u64) -> usize {
+    WALK_EVERY.saturating_mul(50 + conflicts / 128) as usize
 }
 
 // The first variable without a value. The search asks it once the heap is empty, mostly at its end.

@@ -11,15 +11,20 @@
 mod acceptance;
 mod analysis;
 mod answer;
+mod chance;
+mod checking;
 mod deciding;
 mod heap;
 mod learning;
 mod marks;
 mod model;
 mod pace;
+mod rows;
 mod scores;
 mod solver;
 mod solving;
+mod tally;
+mod walking;
 
 pub use answer::Answer;
 pub use solving::solve;

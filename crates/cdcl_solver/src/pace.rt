@@ -36,20 +36,20 @@ impl Pace {
     }
 
     /// Notes a clause whose literals are of so many levels, after which the search would go back
-    /// before this one. Answers the level to go back before: that one, or the first where such clauses
-    /// have come to be of more levels than before.
-    pub fn level_after(&mut self, levels: u64, level: usize) -> usize
+    /// before this one. Answers the level to go back before: that one, or the first where all is to be
+    /// decided anew or where such clauses have come to be of more levels than before.
+    pub fn level_after(&mut self, levels: u64, level: usize, anew: bool) -> usize
         ensures { result ≤ level }
     {
         self.clauses = self.clauses.saturating_add(1);
         self.since = self.since.saturating_add(1);
         self.recent = moved(self.recent, levels, FEW);
         self.whole = moved(self.whole, levels, self.clauses.clamp(1, MANY));
-        if self.since < LEAST || self.recent / 5 * 4 <= self.whole {
-            return level;
+        if anew || (self.since >= LEAST && self.recent / 5 * 4 > self.whole) {
+            self.since = 0;
+            return 0;
         }
-        self.since = 0;
-        0
+        level
     }
 }
 

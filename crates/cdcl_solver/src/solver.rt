@@ -15,19 +15,20 @@ ghost use Rattle.cdcl_solver.specs.inner.Solving.{IsSolving, IsBegun, IsFound, I
 
 use crate::acceptance::is_jump;
 use crate::analysis::{Candidate, first_unique_point};
+use crate::checking::follows;
 use crate::deciding::Deciding;
 use crate::learning::explained;
 use crate::marks::Marks;
 use crate::pace::Pace;
-use refutation_checker::{Log, Step, Trail as Checking, follows};
+use refutation_checker::{Log, Step};
 use sat_formula::{Clause, Clauses, Formula, Lit};
 use std::alloc::{AllocError, Global};
 use tla_values::List;
-use watched_search::Search;
+use watched_search::{Search, Trail};
 
 /// The clauses and the steps that were derived from them, the search that holds them all, what is
-/// decided next, where the decisions stand, the checker's own trail, by which a proposed step is
-/// tested, what analyses keep, and when the search begins anew.
+/// decided next, where the decisions stand, an empty trail, on which a proposed step is tested, what
+/// analyses keep, and when the search begins anew.
 #[derive(Drop)]
 pub struct Solver {
     pub clauses: Clauses,
@@ -35,7 +36,7 @@ pub struct Solver {
     pub search: Search,
     pub deciding: Deciding,
     pub levels: Vec<usize>,
-    pub checking: Checking,
+    pub checking: Trail,
     pub marks: Marks,
     pub pace: Pace,
 }
@@ -68,7 +69,7 @@ impl Solver {
         let mut search = Search::new(alloc, formula)?;
         search.learn(unit.as_slice())?;
         let deciding = Deciding::new(alloc, vars)?;
-        let checking = Checking::new(alloc, vars)?;
+        let checking = Trail::new(alloc, vars)?;
         let marks = Marks::new(alloc, vars)?;
         Ok(Solver {
             clauses: cnf.clauses,
@@ -253,17 +254,12 @@ fn jump(alloc: Global, solver: &mut Solver, conflict: usize) -> Result<bool, All
         lits: Clause::from_vec(lits),
         hints: List::from_vec(hints),
     };
-    let works = follows(
-        solver.clauses.clauses(),
-        solver.steps.as_slice(),
-        &step,
-        &mut solver.checking,
-    )?;
-    if !works {
+    if !follows(&solver.search, &step, &mut solver.checking) {
         return Ok(false);
     }
-    let back = solver.pace.level_after(spread, level);
-    add_step(solver, step, back)?;
+    let arrived = solver.deciding.has_arrived();
+    let back = solver.pace.level_after(spread, level, arrived);
+    add_step(alloc, solver, step, back)?;
     Ok(true)
 }
 
@@ -295,12 +291,12 @@ fn learn_decisions(alloc: Global, solver: &mut Solver, conflict: usize) -> Resul
 {
     let level = solver.levels.len() - 1;
     let step = explained(alloc, solver.count(), solver.search.entries(), conflict)?;
-    add_step(solver, step, level)?;
+    add_step(alloc, solver, step, level)?;
     Ok(())
 }
 
 // Adds the step, and goes back before the decision of the level.
-fn add_step(solver: &mut Solver, step: Step, level: usize) -> Result<(), AllocError>
+fn add_step(alloc: Global, solver: &mut Solver, step: Step, level: usize) -> Result<(), AllocError>
     requires solving { IsSolving solver.old }
     requires names { All (IsBelow solver.old.search.vars) step.lits }
     requires level { level < length solver.old.levels.items }
@@ -308,6 +304,7 @@ fn add_step(solver: &mut Solver, step: Step, level: usize) -> Result<(), AllocEr
 {
     retreat(solver, level);
     solver.deciding.raise(solver.marks.causes());
+    solver.deciding.walk(alloc, &solver.clauses)?;
     solver.search.learn(step.lits.lits())?;
     solver.steps.push(step)?;
     Ok(())

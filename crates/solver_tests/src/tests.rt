@@ -260,6 +260,39 @@ fn larger_formulas_have_the_answers_of_another_solver(rt: HostRuntime) -> Result
     Ok(())
 }
 
+// What the solver says of a random formula of 1000 clauses over 250 variables within a budget.
+fn large(alloc: Global, random: &mut Random, budget: u64) -> Result<Told, AllocError> {
+    let mut f = formula_over(alloc, 249)?;
+    for _ in 0..1000 {
+        let a = random_literal(random, 250);
+        let b = random_literal(random, 250);
+        let c = random_literal(random, 250);
+        add(&mut f, &[a, b, c])?;
+    }
+    let top = f.top();
+    answer_to(alloc, &f, top, Some(budget))
+}
+
+// How many of ten such formulas are satisfied within a budget.
+fn satisfied(alloc: Global, budget: u64) -> Result<u32, AllocError> {
+    let mut random = Random { state: 200 };
+    let mut count: u32 = 0;
+    for _ in 0..10 {
+        if large(alloc, &mut random, budget)? == Told::Sat(true) {
+            count = count.saturating_add(1);
+        }
+    }
+    Ok(count)
+}
+
+// Without the walk the search satisfies two of them within this budget, and with it seven.
+#[test]
+fn a_walk_beside_the_search_finds_assignments_sooner(rt: HostRuntime) -> Result<(), Fail> {
+    let found = satisfied(rt.alloc(), 2000)?;
+    assert!(rt; found >= 5, "{found}");
+    Ok(())
+}
+
 #[test]
 fn the_solver_agrees_with_the_plain_ones(rt: HostRuntime) -> Result<(), Fail> {
     let (agreed, satisfiable) = agreements(rt.alloc(), 4000)?;

@@ -16,6 +16,7 @@ use Rattle.cdcl_solver.specs.declared.solver.Next.TheVariants.{Ends, Goes}
 use Rattle.cdcl_solver.specs.Answers.{EachNew, IsDerivation, IsRefutation, IsSpent}
 use Rattle.cdcl_solver.specs.inner.Acceptance.{start_of}
 use Rattle.cdcl_solver.specs.inner.Chain.{Chain}
+use Rattle.cdcl_solver.specs.inner.Checking.{empty_trail}
 use Rattle.cdcl_solver.specs.inner.Levels.{levels_from}
 use Rattle.cdcl_solver.specs.inner.Rounds.{rounds_left}
 
@@ -27,13 +28,13 @@ pub record IsSearch (clauses : List (List Lit)) (steps : List Step) (vars : ℕ)
   pub new : EachNew clauses steps
   pub some : All (λ s. 0 < length s.lits) steps
 
--- the search holds the formula's clauses and then those of the steps, the levels go with its entries, and the checker's
--- trail is empty between two tests
+-- the search holds the formula's clauses and then those of the steps, the levels go with its entries, and the trail on
+-- which steps are tested is empty between two tests
 pub record IsSolving (s : Solver) : Type 0 where
   pub log : IsSearch s.clauses s.steps s.search.vars s.search.entries
   pub same : s.search.clauses ≡ known s.clauses s.steps
   pub levels : s.levels.items ≡ levels_from 0 s.search.entries
-  pub checking : s.checking ≡ []
+  pub checking : s.checking ≡ empty_trail s.search.vars
 
 -- nothing is true yet
 pub record IsBegun (formula : Cnf) (s : Solver) : Type 0 where

@@ -5,5 +5,5 @@ use Rattle.cdcl_solver.proofs.solver.jump.Goals as goal
 pub returns : goal.returns
 returns c =
     let jump = rw (sym c.from_vec.ensures) at (c.if-not-is_jump.ensures refl) in
-    let follows = rw (c.clauses.ensures, c.as_slice.ensures) at (c.in_ok-works.ensures.exact.0 c.if-not-works.false) in
-    jumped c.args.solver.now c.propose.new.solver _ c.add_step.new.solver _ _ _ _ c.level_after-back.ensures c.requires c.in_ok-candidate.ensures refl c.in_ok-works.ensures.trail follows jump c.in_ok-add_step.ensures
+    jumped c.args.solver.now c.propose.new.solver _ c.add_step.new.solver _ _ _ _ c.level_after-back.ensures c.requires c.in_ok-candidate.ensures refl c.follows.ensures.trail
+    (c.follows.ensures.follows c.if-not-follows.false) jump c.in_ok-add_step.ensures
