@@ -4,6 +4,7 @@
 pigeons N: N pigeons in N - 1 holes. random N SEED: 3-clauses over N variables at a ratio of 4.26.
 product N: two words of N bits whose products in the two orders differ, from full adders.
 parity N: a chain of N exclusive ors that is asked to have both values.
+With a seed the variables, clauses and literals of a family that is not random are shuffled.
 """
 import random
 import sys
@@ -38,6 +39,15 @@ class Formula:
 
     def disjunction(self, a, b):
         return -self.conjunction(-a, -b)
+
+    def shuffle(self, seed):
+        source = random.Random(seed)
+        number = list(range(1, self.count + 1))
+        source.shuffle(number)
+        self.clauses = [
+            [number[abs(l) - 1] * (1 if l > 0 else -1) for l in source.sample(clause, len(clause))]
+            for clause in source.sample(self.clauses, len(self.clauses))
+        ]
 
     def write(self):
         print("p cnf", self.count, len(self.clauses))
@@ -114,6 +124,8 @@ def main():
         random_clauses(f, size, int(sys.argv[3]))
     else:
         {"pigeons": pigeons, "product": product, "parity": parity}[family](f, size)
+        if len(sys.argv) > 3:
+            f.shuffle(int(sys.argv[3]))
     f.write()
 
 

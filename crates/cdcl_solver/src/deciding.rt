@@ -4,6 +4,7 @@ ghost use Rattle.std.specs.Prelude.{◌<◌, IfSome, MatchOption};
 ghost use Rattle.cdcl_solver.specs.inner.Deciding.{AreDecided, IsUndecided};
 
 use crate::heap::Heap;
+use crate::phases::first_phases;
 use crate::scores::Scores;
 use crate::walking::Walk;
 use sat_formula::{Clauses, Lit};
@@ -19,7 +20,7 @@ use watched_search::{Entry, Search};
 pub struct Deciding {
     heap: Heap,
     scores: Scores,
-    // Whether each variable was false when it had a value last.
+    // Whether each variable was false when it had a value last, or is to be false at first.
     phases: Vec<bool>,
     // Looks for values beside the search, once it had some conflicts.
     walk: Option<Walk>,
@@ -27,16 +28,16 @@ pub struct Deciding {
 }
 
 // The walk begins behind so many conflicts, and then goes on behind each so many.
-const WALK_FROM: u64 = 256;
+const WALK_FROM: u64 = 128;
 
 const WALK_EVERY: u64 = 64;
 
 impl Deciding {
     /// All variables below `vars` wait for a decision.
-    pub fn new(alloc: Global, vars: usize) -> Result<Deciding, AllocError> {
+    pub fn new(alloc: Global, clauses: &Clauses, vars: usize) -> Result<Deciding, AllocError> {
         let heap = Heap::new(alloc, vars)?;
         let scores = Scores::new(alloc, vars)?;
-        let phases = vec![in alloc; true; vars]?;
+        let phases = first_phases(alloc, clauses.clauses(), vars)?;
         Ok(Deciding {
             heap,
             scores,
@@ -131,7 +132,7 @@ impl Deciding {
 // How many clauses the walk visits behind so many conflicts. Each costs more than the one before it, so
 // that the walk's part of the time stays about the same, a twentieth.
 fn visits_behind(conflicts: u64) -> usize {
-    WALK_EVERY.saturating_mul(50 + conflicts / 128) as usize
+    WALK_EVERY.saturating_mul(80 + conflicts / 256) as usize
 }
 
 // The first variable without a value. The search asks it once the heap is empty, mostly at its end.

@@ -19,6 +19,7 @@ mod learning;
 mod marks;
 mod model;
 mod pace;
+mod phases;
 mod rows;
 mod scores;
 mod solver;

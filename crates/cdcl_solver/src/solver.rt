@@ -68,7 +68,7 @@ impl Solver {
         let unit = Vec::from_slice(alloc, &[assume])?;
         let mut search = Search::new(alloc, formula)?;
         search.learn(unit.as_slice())?;
-        let deciding = Deciding::new(alloc, vars)?;
+        let deciding = Deciding::new(alloc, &cnf.clauses, vars)?;
         let checking = Trail::new(alloc, vars)?;
         let marks = Marks::new(alloc, vars)?;
         Ok(Solver {
