@@ -8,8 +8,8 @@ use std::alloc::{AllocError, Global};
 use watched_search::{Entry, Search};
 
 /// A clause, the clauses that make it follow, the literal that it forces, the level whose decision
-/// gives way, and how many levels its literals are of. The forced literal stands first and the one that became false last second,
-/// since these two watch the clause at first.
+/// gives way, and how many levels its literals are of. The forced literal stands first and the one
+/// that became false last stands second, since these two watch the clause at first.
 #[derive(Drop)]
 pub struct Candidate {
     pub lits: Vec<Lit>,

@@ -12,10 +12,10 @@ use std::alloc::{AllocError, Global};
 use watched_search::{Entry, Search};
 
 /// The variables that may be without a value, those that conflicts came from of late first. Each
-/// variable keeps its last value, until a walk beside the search has found one for all of them. (Eén and Sörensson, "An Extensible SAT-solver", 2003, on the order;
-/// Pipatsrisawat and Darwiche, "A Lightweight Component Caching Scheme for Satisfiability Solvers",
-/// 2007, on values; Selman, Kautz and Cohen, "Noise Strategies for Improving Local Search", 1994, on
-/// walks.)
+/// variable keeps its last value, until a walk beside the search has found one for all of them. (Eén
+/// and Sörensson, "An Extensible SAT-solver", 2003, on the order; Pipatsrisawat and Darwiche, "A
+/// Lightweight Component Caching Scheme for Satisfiability Solvers", 2007, on values; Selman, Kautz
+/// and Cohen, "Noise Strategies for Improving Local Search", 1994, on walks.)
 #[derive(Drop)]
 pub struct Deciding {
     heap: Heap,
@@ -81,8 +81,8 @@ impl Deciding {
         self.scores.age();
     }
 
-    /// Notes a conflict, behind which the walk goes on for a little, by the clauses that the search began
-    /// with.
+    /// Notes a conflict, behind which the walk goes on for a little, by the clauses that the search
+    /// began with.
     pub fn walk(&mut self, alloc: Global, clauses: &Clauses) -> Result<(), AllocError> {
         self.conflicts = self.conflicts.saturating_add(1);
         if self.conflicts < WALK_FROM || self.conflicts % WALK_EVERY != 0 {
