@@ -26,12 +26,13 @@ use trace_text::Verdict;
 
 /// The most bytes that a certificate may have.
 const CERTIFICATE_LIMIT: u64 = 268_435_456;
+
 /// Does all that the program does: takes the words after its name, reads the modules or the certificate that they name,
 /// checks it, writes the certificate of a verdict to its file and the report to the sink, and answers the status of
 /// the program: 0 where no level errs or the certificate is accepted, 12 where a level errs, 14 where the certificate
-/// is refused, 20 where an integer is outside the width, 21 where the conflicts are spent, 30 where the module is refused, 31 where the words are no command, 40
-/// where a read failed or a file is too long, 41 where a write failed, and 50 for want of memory. No file is changed
-/// but the certificate's.
+/// is refused, 20 where an integer is outside the width, 21 where the conflicts are spent, 30 where the module is
+/// refused, 31 where the words are no command, 40 where a read failed or a file is too long, 41 where a write failed,
+/// and 50 for want of memory. No file is changed but the certificate's.
 pub fn run<F: Files, K: Sink>(alloc: Global, words: &[String], files: &mut F, out: &mut K) -> u8
     ensures error { result ≡ 12 → WritesError (command_of words.now) (F.held files.old) (F.held files.new) (K.written out.old) (K.written out.new) }
     ensures clean { result ≡ 0 → WritesClean (command_of words.now) (F.held files.old) (F.held files.new) (K.written out.old) (K.written out.new)
